@@ -1,0 +1,8 @@
+//! The power of a port: its configured supplies, what is asked of the shared budget, and the answers.
+#![tactic(auto)]
+
+mod query;
+mod supply;
+
+pub use query::{Answer, Query};
+pub use supply::Supply;

@@ -1,0 +1,22 @@
+//! Packets as codes, and their check.
+#![tactic(auto)]
+
+mod check;
+mod fate;
+mod fault;
+pub mod laws;
+mod packet;
+mod reading;
+mod timing;
+mod writing;
+
+pub use check::check_of;
+pub use fate::{Damage, Fate};
+pub use fault::PacketFault;
+pub use packet::Packet;
+pub use reading::read;
+pub use timing::duration;
+pub use writing::write;
+
+#[cfg(test)]
+mod tests;

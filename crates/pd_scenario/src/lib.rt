@@ -1,0 +1,2 @@
+//! Scenarios.
+#![tactic(auto)]
