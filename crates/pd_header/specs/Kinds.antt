@@ -1,5 +1,5 @@
 -- The kinds of messages, by their types (USB Power Delivery 3.0, sections 6.3 and 6.4), and their names.
-use Rattle.std.specs.Prelude.{ℕ, ◌==◌, List, [], ◌∷◌, ◌++◌, find, unwrap_or, if◌then◌else◌, codes, decimal}
+use Rattle.std.specs.Prelude.{ℕ, Bool, true, false, ◌==◌, List, [], ◌∷◌, ◌++◌, find, unwrap_or, if◌then◌else◌, codes, decimal}
 use Rattle.std.specs.Option.{option_map}
 use Rattle.pd_header.specs.declared.kind.Kind.{Kind}
 use Rattle.pd_header.specs.declared.kind.Kind.TheVariants.{GoodCrc, Accept, Reject, PsRdy, GetSourceCap, GetSinkCap, Wait, SoftReset, NotSupported, SourceCapabilities, Request, SinkCapabilities, VendorDefined, Other}
@@ -21,6 +21,10 @@ kind_of kind count =
 
 abbrev pub kind_of_header : ℕ → Kind
 kind_of_header header = kind_of (type_of header) (count_of header)
+
+abbrev pub is_soft_reset : Kind → Bool
+is_soft_reset SoftReset = true
+is_soft_reset _ = false
 
 -- the name that is shown
 abbrev pub name_of : Kind → List ℕ

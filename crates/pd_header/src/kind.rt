@@ -2,7 +2,7 @@
 
 ghost use Rattle.std.specs.Prelude.{◌≡◌, ◌<◌, ◌^◌, ◌≤◌, ◌+◌, [], ◌∷◌, ◌++◌, length, decimal};
 ghost use Rattle.arrayvec.specs.ArrayString.{array_string_len};
-ghost use Rattle.pd_header.specs.Kinds.{kind_of, name_of};
+ghost use Rattle.pd_header.specs.Kinds.{is_soft_reset, kind_of, name_of};
 
 use arrayvec::ArrayString;
 
@@ -75,6 +75,13 @@ fn push_decimal(text: &mut ArrayString<20>, number: u8)
 }
 
 impl Kind {
+    /// Whether it is a Soft_Reset.
+    pub fn is_soft_reset(&self) -> bool
+        ensures { result ≡ is_soft_reset self.now }
+    {
+        matches!(self, Kind::SoftReset)
+    }
+
     /// The name that is shown: the standard's, and for another type `Type` and the type in decimal.
     #[tactic(auto, using(crate::proofs::Decimals::length_byte))]
     pub fn name(&self) -> ArrayString<20>
