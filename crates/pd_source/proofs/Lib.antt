@@ -1,0 +1,4 @@
+pub mod Powers
+pub mod Later
+pub mod Answered
+pub mod Holds
