@@ -1,10 +1,9 @@
 -- An undisturbed packet arrives, and a disturbed one reaches nobody.
-use Rattle.std.proofs.Common.{◌≡◌, ◌≢◌, ◌↔◌, ℕ, zero, suc, ◌+◌, ◌-◌, ◌*◌, ◌%◌, ◌<◌, ◌≤◌, Bool, true, false, List, [], ◌∷◌, ◌++◌, length, take, map, get_or, Option, Some, None, if◌then◌else◌, refl, sym, ap, subst, ◌∙◌, arith, length-append}
+use Rattle.std.proofs.Common.{◌≡◌, ℕ, ◌<◌, ◌≤◌, Bool, true, false, List, length, take, get_or, Option, Some, None, if◌then◌else◌, refl, sym, ap, subst, ◌∙◌, arith}
 use Rattle.std.specs.Prelude.{bit_xor}
 use Rattle.std.specs.Str.{bytes_eq}
 use Rattle.std.specs.Int.Bits.{xor_assoc, xor_self, xor_zero_l}
 use Rattle.std.proofs.lemmas.Slice.Eq.{bytes_eq-Decides}
-use Rattle.std.proofs.lemmas.List.{length-map}
 use Rattle.pd_symbols.specs.declared.channel.Channel.{Channel}
 use Rattle.pd_symbols.specs.declared.channel.Channel.TheVariants as channels
 use Rattle.pd_symbols.specs.Sets.{set_codes, channel_set}
@@ -12,11 +11,10 @@ use Rattle.pd_symbols.specs.Codes.{code_of}
 use Rattle.pd_packet.specs.declared.fate.Fate.TheVariants.{Undisturbed, Lost, Damaged}
 use Rattle.pd_packet.specs.Contents.{Contents, IsPacket}
 use Rattle.pd_packet.specs.Damage.{DamageData, IsDamage}
-use Rattle.pd_packet.specs.Hearing.{channel_in, contents_in, received, ReceivedIsSpelled, place_hit, damaged, heard}
-use Rattle.pd_packet.specs.Reading.{header_of, objects_of}
+use Rattle.pd_packet.specs.Hearing.{contents_in, received, ReceivedIsSpelled, place_hit, damaged, heard}
 use Rattle.pd_packet.specs.Spelling.{Spells, spelling}
 use Rattle.pd_packet.proofs.OneCode.{one_code}
-use Rattle.pd_packet.proofs.Spelled.{body, body_is, counted, digits, header_fits, header_is, length-body, length-digits, objects_are, objects_of_fit, same_contents, set_is, length_spelling}
+use Rattle.pd_packet.proofs.Spelled.{counted, header_fits, header_is, objects_are, objects_of_fit, same_contents, set_is, length_spelling}
 
 channel_found : (front : List ℕ) (c : Channel) → front ≡ set_codes (channel_set c)
     → ◌≡◌ {A = Channel} (if bytes_eq front (set_codes (channel_set channels.Sop)) then channels.Sop else channels.SopPrime) c
