@@ -5,3 +5,4 @@ pub mod Laws
 pub mod Reading
 pub mod Spelling
 pub mod Damage
+pub mod Hearing

@@ -4,6 +4,7 @@
 mod check;
 mod fate;
 mod fault;
+mod hearing;
 pub mod laws;
 mod packet;
 mod reading;
@@ -13,6 +14,7 @@ mod writing;
 pub use check::check_of;
 pub use fate::{Damage, Fate};
 pub use fault::PacketFault;
+pub use hearing::reaches;
 pub use packet::Packet;
 pub use reading::read;
 pub use timing::duration;

@@ -1,0 +1,24 @@
+//! Who gets a packet that was on the line.
+
+ghost use Rattle.std.specs.Prelude.{◌≡◌};
+ghost use Rattle.pd_packet.specs.Hearing.{heard, kept};
+
+use crate::fate::Fate;
+use crate::packet::Packet;
+
+/// Whether a side that hears gets the packet: where it is undisturbed. Of a lost or damaged one it gets nothing.
+#[tactic(auto, using(crate::proofs::Heard::undisturbed, crate::proofs::Heard::lost, crate::proofs::Heard::disturbed))]
+pub fn reaches(packet: &Packet, fate: Fate) -> bool
+    ensures { heard packet.now fate ≡ kept result packet.now }
+{
+    // Reading shows that the packet fits its type, and the place that the damage is in its range.
+    let _objects = packet.objects();
+    match fate {
+        Fate::Undisturbed => true,
+        Fate::Lost => false,
+        Fate::Damaged(damage) => {
+            let _place = damage.place();
+            false
+        }
+    }
+}
