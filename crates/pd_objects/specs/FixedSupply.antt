@@ -1,4 +1,4 @@
--- A fixed supply of a Source_Capabilities message (USB Power Delivery 3.0, section 6.4.1.2.2).
+-- A fixed supply of a Source_Capabilities message (USB Power Delivery 3.0, section 6.4.1.2).
 use Rattle.std.specs.Prelude.{◌≡◌, ℕ, ◌+◌, ◌*◌, ◌^◌, ◌<◌, Option, Some, None, ◌==◌, if◌then◌else◌}
 use Rattle.pd_symbols.specs.Words.{field}
 

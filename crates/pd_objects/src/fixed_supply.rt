@@ -46,7 +46,7 @@ impl SupplyFlags {
     }
 }
 
-/// A fixed supply as its object has it (USB Power Delivery 3.0, section 6.4.1.2.2): its flags, its peak current, 0 to 3,
+/// A fixed supply as its object has it (USB Power Delivery 3.0, section 6.4.1.2): its flags, its peak current, 0 to 3,
 /// its voltage in 50 mV and its greatest current in 10 mA, each below 1,024.
 #[derive(Clone, Copy, Debug)]
 pub struct FixedSupply {
