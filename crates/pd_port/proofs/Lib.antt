@@ -1,0 +1,5 @@
+pub mod Earliest
+pub mod Later
+pub mod Pending
+pub mod PortLaws
+pub mod Steps

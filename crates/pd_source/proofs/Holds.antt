@@ -14,7 +14,7 @@ use Rattle.pd_source.specs.Step.{before_row, row_at, stepped, query_of, offer_qu
 use Rattle.pd_source.proofs.Powers.{least-fold_max, fold_max-powers}
 
 -- what an offer of these currents holds
-abbrev held : SourceSettings → ℕ → List ℕ → ℕ
+abbrev pub held : SourceSettings → ℕ → List ℕ → ℕ
 held s floor offer = fold max floor (powers s.supplies offer)
 
 pub hold_of-floor : (s : SourceSettings) (floor : ℕ) (r : SourceRecord) → floor ≤ hold_of s floor r
@@ -29,7 +29,7 @@ unfolding hold_of
 hold_of-off s floor = no-powers s floor
 
 -- an answer leaves each offer within the free power
-abbrev IsSafe : SourceSettings → ℕ → ℕ → Option Answer → Type 0
+abbrev pub IsSafe : SourceSettings → ℕ → ℕ → Option Answer → Type 0
 IsSafe s floor free a = (offer : List ℕ) → held s floor offer ≤ free → held s floor (draft_from a offer) ≤ free
 
 safe : (s : SourceSettings) (r : SourceRecord) (floor free : ℕ) (a : Option Answer) (b : Bool) → floor ≤ free → IsAllowed free (if b then Some (offer_query s r) else None) a → IsSafe s floor free a
@@ -60,3 +60,18 @@ hold_of-stepped s floor free now x a r h q =
     held-all_after s floor free (deeds_of_row (row_at s x a (before_row x r))) now a (before_row x r)
     (safe s r floor free a (asks_offer (row_at s x None (before_row x r)).next) (omega arith) q)
     (held-before s floor free x r h)
+
+-- no answer changes no offer
+pub safe-None : (s : SourceSettings) (floor free : ℕ) → IsSafe s floor free None
+safe-None s floor free offer k = k
+
+-- an answer that is allowed leaves each offer within the free power
+pub safe-query : (s : SourceSettings) (floor free : ℕ) (x : Stimulus) (a : Option Answer) (r : SourceRecord) → floor ≤ free → IsAllowed free (query_of s x r) a → IsSafe s floor free a
+unfolding query_of
+safe-query s floor free x a r least q = safe s r floor free a (asks_offer (row_at s x None (before_row x r)).next) least q
+
+-- with such an answer a step leaves the hold within the free power
+pub hold_of-safe : (s : SourceSettings) (floor free now : ℕ) (x : Stimulus) (a : Option Answer) (r : SourceRecord) → hold_of s floor r ≤ free → IsSafe s floor free a → hold_of s floor (stepped s now x a r) ≤ free
+unfolding hold_of stepped
+hold_of-safe s floor free now x a r h g =
+    held-all_after s floor free (deeds_of_row (row_at s x a (before_row x r))) now a (before_row x r) g (held-before s floor free x r h)
