@@ -45,6 +45,12 @@ left Undisturbed s = Some s
 left Lost s = None
 left (Damaged d) s = Some (damaged d s)
 
+-- the codes of a packet as a listing shows them: changed where it is damaged, and all of them where it is lost
+abbrev pub shown : Contents → Fate → List ℕ
+shown p Undisturbed = spelling p
+shown p Lost = spelling p
+shown p (Damaged d) = damaged d (spelling p)
+
 -- the packet that a side that hears gets of one that was sent
 unfoldable pub heard : Contents → Fate → Option Contents
 heard p fate = option_and_then received (left fate (spelling p))
