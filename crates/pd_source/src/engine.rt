@@ -309,3 +309,6 @@ fn same_supplies(supplies: &[Supply], others: &[Supply]) -> bool
         _ => false,
     }
 }
+
+#[cfg(test)]
+mod tests;
