@@ -1,5 +1,5 @@
 -- The fields of an object that was put together from them.
-use Rattle.std.proofs.Common.{◌≡◌, ℕ, ◌+◌, ◌*◌, ◌<◌, ◌^◌, ◌/◌, ◌%◌, arith}
+use Rattle.std.proofs.Common.{◌≡◌, ℕ, arith}
 use Rattle.pd_objects.specs.FixedSupply.{FixedSupplyData, IsFixedSupply, HasFields, word_of, fixed_supply_of}
 
 pub HasFields-word_of : (v : FixedSupplyData) → IsFixedSupply v → HasFields (word_of v) v

@@ -1,5 +1,5 @@
 -- The objects of Source_Capabilities.
-use Rattle.std.proofs.Common.{◌≡◌, ℕ, ◌≤◌, ◌*◌, ◌/◌, ◌%◌, Bool, true, false, min, arith}
+use Rattle.std.proofs.Common.{◌≡◌, ℕ, ◌≤◌, ◌/◌, ◌%◌, Bool, true, false, min, arith}
 use Rattle.pd_objects.specs.Supply.{SupplyData, IsSupply}
 use Rattle.pd_objects.specs.FixedSupply.{word_of}
 use Rattle.pd_source.specs.Acts.{object_of}
