@@ -1,5 +1,5 @@
 -- A fixed supply of a Source_Capabilities message (USB Power Delivery 3.0, section 6.4.1.2).
-use Rattle.std.specs.Prelude.{◌≡◌, ℕ, ◌+◌, ◌*◌, ◌^◌, ◌<◌, Option, Some, None, ◌==◌, if◌then◌else◌}
+use Rattle.std.specs.Prelude.{◌≡◌, ℕ, ◌+◌, ◌*◌, ◌^◌, ◌<◌}
 use Rattle.pd_symbols.specs.Words.{field}
 
 -- the flags (bits 29 to 24 of the object), the peak current, the voltage in 50 mV and the greatest current in 10 mA

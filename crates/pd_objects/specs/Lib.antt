@@ -1,3 +1,4 @@
 pub mod Answers
-pub mod Supply
 pub mod FixedSupply
+pub mod Laws
+pub mod Supply

@@ -1,7 +1,6 @@
 -- What each act of a row does to the engine, and what it wants of the port.
-use Rattle.std.specs.Prelude.{ℕ, false, List, [], ◌∷◌, ◌++◌}
+use Rattle.std.specs.Prelude.{false, List, [], ◌∷◌, ◌++◌}
 use Rattle.pd_timers.specs.Deadlines.{idle}
-use Rattle.pd_plug.specs.declared.kinds.State.{State}
 use Rattle.pd_plug.specs.declared.kinds.Act.{Act}
 use Rattle.pd_plug.specs.declared.kinds.Act.TheVariants as act
 use Rattle.pd_plug.specs.declared.kinds.Deed.{Deed}

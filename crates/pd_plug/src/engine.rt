@@ -149,3 +149,6 @@ impl Plug {
         }
     }
 }
+
+#[cfg(test)]
+mod tests;

@@ -1,7 +1,6 @@
 -- What each act of a row does to the engine, and what it wants of the port.
 use Rattle.std.specs.Prelude.{ℕ, false, List, [], ◌∷◌, ◌++◌}
 use Rattle.pd_timers.specs.Deadlines.{idle, started}
-use Rattle.pd_sink.specs.declared.kinds.State.{State}
 use Rattle.pd_sink.specs.declared.kinds.Stimulus.{Stimulus}
 use Rattle.pd_sink.specs.declared.kinds.Stimulus.TheVariants as stimulus
 use Rattle.pd_sink.specs.declared.kinds.Act.{Act}

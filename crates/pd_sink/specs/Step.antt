@@ -1,5 +1,5 @@
 -- One step of the sink's policy engine, and what is read of it.
-use Rattle.std.specs.Prelude.{ℕ, Bool, true, false, List, Option, Some}
+use Rattle.std.specs.Prelude.{ℕ, Bool, true, false, List, Some}
 use Rattle.pd_timers.specs.Deadlines.{stopped}
 use Rattle.pd_sink.specs.declared.kinds.State.{State}
 use Rattle.pd_sink.specs.declared.kinds.State.TheVariants as state

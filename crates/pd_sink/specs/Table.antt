@@ -1,8 +1,6 @@
 -- The sink's state table (the states of USB Power Delivery 3.0, section 8.3.3.3; the rows are this product's profile).
 use Rattle.std.specs.Prelude.{ℕ, Bool, true, false, ◌==◌, ◌&&◌, ◌||◌, if◌then◌else◌, List, [], ◌∷◌, Option, Some, None}
-use Rattle.pd_timers.specs.declared.Timer.{Timer}
 use Rattle.pd_timers.specs.declared.Timer.TheVariants as timer
-use Rattle.pd_timers.specs.Timers.{place}
 use Rattle.pd_sink.specs.declared.settings.SinkMode.{SinkMode}
 use Rattle.pd_sink.specs.declared.settings.SinkMode.TheVariants as mode
 use Rattle.pd_sink.specs.declared.kinds.State.{State}

@@ -180,3 +180,6 @@ fn same_sinks(sink: &Option<SinkSettings>, other: &Option<SinkSettings>) -> bool
         _ => false,
     }
 }
+
+#[cfg(test)]
+mod tests;

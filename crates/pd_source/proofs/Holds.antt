@@ -2,7 +2,6 @@
 use Rattle.std.proofs.Common.{◌≡◌, ℕ, ◌≤◌, Bool, true, false, if◌then◌else◌, List, [], ◌∷◌, Option, Some, None, fold, max, refl, sym, subst, ap, arith}
 use Rattle.pd_objects.specs.Answers.{IsAllowed}
 use Rattle.pd_objects.specs.declared.query.Answer.{Answer}
-use Rattle.pd_objects.specs.declared.query.Answer.TheVariants as answer
 use Rattle.pd_source.specs.declared.kinds.Stimulus.{Stimulus}
 use Rattle.pd_source.specs.declared.kinds.Stimulus.TheVariants as stimulus
 use Rattle.pd_source.specs.declared.kinds.Deed.{Deed}

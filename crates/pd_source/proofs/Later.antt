@@ -1,5 +1,5 @@
 -- Each deadline that a step sets is later than the step.
-use Rattle.std.proofs.Common.{◌≡◌, ℕ, ◌⊎◌, inl, inr, List, [], ◌∷◌, Option, Some, None}
+use Rattle.std.proofs.Common.{ℕ, List, [], ◌∷◌, Option}
 use Rattle.pd_timers.specs.Deadlines.{SetsLater}
 use Rattle.pd_timers.proofs.LaterLemmas.{SetsLater-started, SetsLater-idle, SetsLater-same, SetsLater-then}
 use Rattle.pd_objects.specs.declared.query.Answer.{Answer}

@@ -2,3 +2,4 @@ pub mod Powers
 pub mod Later
 pub mod Answered
 pub mod Holds
+pub mod Objects

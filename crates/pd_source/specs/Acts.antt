@@ -5,7 +5,6 @@ use Rattle.pd_objects.specs.Supply.{SupplyData}
 use Rattle.pd_objects.specs.FixedSupply.{word_of}
 use Rattle.pd_objects.specs.declared.query.Answer.{Answer}
 use Rattle.pd_objects.specs.declared.query.Answer.TheVariants as answer
-use Rattle.pd_source.specs.declared.kinds.State.{State}
 use Rattle.pd_source.specs.declared.kinds.Message.{Message}
 use Rattle.pd_source.specs.declared.kinds.Message.TheVariants as message
 use Rattle.pd_source.specs.declared.kinds.Sending.{Sending}

@@ -10,7 +10,6 @@ use Rattle.pd_source.specs.declared.kinds.State.TheVariants as state
 use Rattle.pd_source.specs.declared.kinds.Stimulus.{Stimulus}
 use Rattle.pd_source.specs.declared.kinds.Stimulus.TheVariants as stimulus
 use Rattle.pd_source.specs.declared.kinds.Act.{Act}
-use Rattle.pd_source.specs.declared.kinds.Deed.{Deed}
 use Rattle.pd_source.specs.Record.{SourceSettings, SourceRecord}
 use Rattle.pd_source.specs.Table.{Row, holds, row_of, deeds_of_row, asks_offer}
 use Rattle.pd_source.specs.Acts.{all_after, all_wants}

@@ -13,6 +13,7 @@ use crate::kinds::{Deed, Facts, Message};
 use crate::rows::choose;
 use crate::{Act, Sending, State, Stimulus};
 use arrayvec::ArrayVec;
+use bitflags::Flags;
 use pd_objects::{Answer, FixedSupply, Query, Supply, SupplyFlags};
 use pd_timers::{Deadlines, Timer};
 use std::marker::Model;
@@ -284,7 +285,7 @@ fn object(unconstrained: bool, supply: &Supply, ma: u32) -> u32
     ensures { result ≡ object_of unconstrained supply.now ma }
 {
     let flags = if unconstrained {
-        SupplyFlags::unconstrained_power()
+        SupplyFlags::UNCONSTRAINED_POWER
     } else {
         SupplyFlags::empty()
     };
@@ -308,3 +309,6 @@ fn same_supplies(supplies: &[Supply], others: &[Supply]) -> bool
         _ => false,
     }
 }
+
+#[cfg(test)]
+mod tests;

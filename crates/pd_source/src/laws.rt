@@ -1,6 +1,6 @@
 //! Laws of the engine's steps.
 
-ghost use Rattle.pd_source.specs.Laws.{StepsSetLater, StepsReadOnlyTheirAnswer, HoldsKeepTheFloor, HoldsOfDetachedAreFloors, HoldsStayAllowed};
+ghost use Rattle.pd_source.specs.Laws.{StepsSetLater, StepsReadOnlyTheirAnswer, HoldsKeepTheFloor, HoldsOfDetachedAreFloors, HoldsStayAllowed, ObjectsOfferTheirSupplies};
 
 /// Each deadline that a step sets is later than the step, and the timer that fell due no longer runs.
 pub fn later()
@@ -17,4 +17,9 @@ pub fn holds()
     ensures floor { HoldsKeepTheFloor }
     ensures detached { HoldsOfDetachedAreFloors }
     ensures allowed { HoldsStayAllowed }
+{}
+
+/// The objects of Source_Capabilities offer the supplies at the currents of the draft offer.
+pub fn objects()
+    ensures { ObjectsOfferTheirSupplies }
 {}

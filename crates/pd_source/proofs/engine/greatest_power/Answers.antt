@@ -1,4 +1,4 @@
-use Rattle.std.proofs.Common.{◌≡◌, inl, inr}
+use Rattle.std.proofs.Common.{inl, inr}
 use Rattle.pd_source.proofs.Powers.{powers-ended}
 use Rattle.pd_source.proofs.engine.greatest_power.Goals as goal
 

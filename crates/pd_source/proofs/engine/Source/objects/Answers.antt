@@ -1,4 +1,4 @@
-use Rattle.std.proofs.Common.{◌≡◌, inl, inr}
+use Rattle.std.proofs.Common.{inl, inr}
 use Rattle.std.proofs.lemmas.List.{append-nil}
 use Rattle.pd_source.proofs.Powers.{capabilities-ended}
 use Rattle.pd_source.proofs.engine.Source.objects.Goals as goal
