@@ -10,7 +10,7 @@ use Rattle.pd_header.specs.declared.kind.Kind.{Kind}
 use Rattle.pd_header.specs.declared.kind.Kind.TheVariants as kind
 use Rattle.pd_identity.specs.declared.Cable.{Cable}
 use Rattle.pd_packet.specs.Contents.{Contents}
-use Rattle.pd_packet.specs.Duration.{duration_of}
+use Rattle.pd_packet.specs.Timing.{duration_of}
 use Rattle.pd_packet.specs.Hearing.{heard}
 use Rattle.pd_packet.specs.declared.fate.Fate.{Fate}
 use Rattle.pd_timers.specs.declared.Timer.{Timer}

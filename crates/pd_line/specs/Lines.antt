@@ -8,7 +8,7 @@ use Rattle.pd_header.specs.declared.side.Side.TheVariants.{Source, Sink, Plug}
 use Rattle.pd_header.specs.Kinds.{kind_of_header}
 use Rattle.pd_header.specs.Header.{id_of}
 use Rattle.pd_packet.specs.Contents.{Contents}
-use Rattle.pd_packet.specs.Duration.{duration_of}
+use Rattle.pd_packet.specs.Timing.{duration_of, symbols_of}
 use Rattle.pd_packet.specs.Hearing.{heard}
 use Rattle.pd_packet.specs.declared.fate.Fate.{Fate}
 use Rattle.pd_packet.specs.declared.fate.Fate.TheVariants.{Undisturbed, Lost as LostOnTheWay, Damaged as DamagedOnTheWay}
@@ -39,17 +39,17 @@ pause = 100
 abbrev pub time_out : ℕ
 time_out = 1000
 
--- how many symbols a packet of so many objects has: the ordered set, header, objects, check and EOP
-abbrev pub symbols : ℕ → ℕ
-symbols count = 17 + 8 * count
-
 -- how long a packet lasts, in microseconds
 abbrev pub lasts : Contents → ℕ
-lasts p = duration_of (symbols (length p.objects))
+lasts p = duration_of (symbols_of p)
 
--- what is left of the time-out where a GoodCRC, which has no objects, has ended
+-- how many symbols a GoodCRC has, which has no objects
+abbrev pub good_crc_symbols : ℕ
+good_crc_symbols = 17
+
+-- what is left of the time-out where a GoodCRC has ended
 abbrev pub rest_of_time_out : ℕ
-rest_of_time_out = time_out - (pause + duration_of (symbols 0))
+rest_of_time_out = time_out - (pause + duration_of good_crc_symbols)
 
 -- the line is this
 unfoldable pub with_line : Line → Work → Work

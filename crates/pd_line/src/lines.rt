@@ -1,13 +1,13 @@
 //! What happens on the line.
 
 ghost use Rattle.std.specs.Prelude.{◌≡◌, ℕ, ◌<◌, ◌≤◌, length};
-ghost use Rattle.pd_line.specs.Lines.{receiver, channel_for, lasts, rest_of_time_out, fate_of};
+ghost use Rattle.pd_line.specs.Lines.{receiver, channel_for, rest_of_time_out, fate_of};
 
 use crate::notes::{Fault, Start};
 use crate::record::{Disturbance, Line, Waiting};
 use crate::work::Work;
 use pd_header::{Side, header_id, header_kind};
-use pd_packet::{Fate, Packet, duration, reaches};
+use pd_packet::{Fate, Packet, duration, packet_duration, reaches};
 use pd_protocol::{LayerAct, Message, good_crc_for};
 use pd_symbols::Channel;
 use std::mem;
@@ -18,25 +18,19 @@ const PAUSE: u64 = 100;
 /// How long after a message's end the sender waits for a GoodCRC, in microseconds.
 const TIME_OUT: u64 = 1_000;
 
+/// How many symbols a GoodCRC has.
+const GOOD_CRC_SYMBOLS: u32 = 17;
+
 /// The revision bits of packets: 10, USB Power Delivery 3.0.
 const REVISION: u8 = 2;
 
-/// How long a packet lasts, in microseconds.
-fn packet_time(packet: &Packet) -> u64
-    ensures value { result ≡ lasts packet.now }
-    ensures bounded { result < 2000 }
-{
-    let count = packet.objects().len() as u32;
-    u64::from(duration(17 + 8 * count))
-}
-
 /// What is left of the time-out where a GoodCRC has ended.
-#[tactic(auto, unfolding(pd_packet::specs::Duration::duration_of))]
+#[tactic(auto, unfolding(pd_packet::specs::Timing::duration_of))]
 fn rest_of_time_out() -> u64
     ensures value { result ≡ rest_of_time_out }
     ensures bounded { result < 1000 }
 {
-    TIME_OUT - (PAUSE + u64::from(duration(17)))
+    TIME_OUT - (PAUSE + u64::from(duration(GOOD_CRC_SYMBOLS)))
 }
 
 /// Which channel a side speaks on.
@@ -123,7 +117,7 @@ impl Work {
         ensures faults { self.new.faults ≡ self.old.faults }
     {
         let fate = self.take_fate();
-        let end = t + packet_time(&packet);
+        let end = t + u64::from(packet_duration(&packet));
         self.start = Some(start_of(side, &packet, &fate));
         self.port.line = Line::Message {
             side,
@@ -143,7 +137,7 @@ impl Work {
         let hearer = receiver_of(side, packet.channel());
         let answer = good_crc_for(hearer, &packet, REVISION);
         let fate = self.take_fate();
-        let end = t + packet_time(&answer);
+        let end = t + u64::from(packet_duration(&answer));
         self.start = Some(start_of(hearer, &answer, &fate));
         self.port.line = Line::GoodCrc {
             side,
