@@ -1,1 +1,6 @@
+pub mod Contents
+pub mod Laws
+pub mod Names
 pub mod Plan
+pub mod Plans
+pub mod Script
