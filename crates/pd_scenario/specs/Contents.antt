@@ -1,9 +1,11 @@
--- What a scenario holds, and what each keeps: this product's own limits.
-use Rattle.std.specs.Prelude.{◌≡◌, ℕ, ◌≤◌, Bool, true, not, ◌&&◌, ◌==◌, nat_le, List, [], ◌∷◌, length, map, find, sum_by, Option, option_map, is_some, bytes_eq}
+-- What a scenario holds, and what each keeps.
+use Rattle.std.specs.Prelude.{◌≡◌, ℕ, ◌≤◌, Bool, true, not, ◌&&◌, ◌==◌, List, [], ◌∷◌, length, map, find, sum_by, Option, option_map, is_some, bytes_eq}
 use Rattle.std.specs.List.{list_any, list_all}
 use Rattle.pd_identity.specs.declared.Cable.{Cable}
 use Rattle.pd_sink.specs.Settings.{SinkData}
 use Rattle.pd_port.specs.Settings.{SettingsData}
+use Rattle.pd_scenario.specs.Limits as limit
+use Rattle.pd_scenario.specs.Limits.{is_id, is_time, is_port, most_ports, most_names, most_events, latest_end}
 use Rattle.pd_scenario.specs.declared.contents.NamedCable.{NamedCable}
 use Rattle.pd_scenario.specs.declared.contents.NamedSink.{NamedSink}
 use Rattle.pd_scenario.specs.declared.contents.ScenarioEventKind.{ScenarioEventKind}
@@ -45,24 +47,24 @@ ids_differ (e ∷ events) = not (has_id events e.id) && ids_differ events
 abbrev pub names_are_known : List NamedCable → List NamedSink → ScenarioEventKind → Bool
 names_are_known cables sinks (Attach cable sink) = is_some (cable_named cables cable) && is_some (sink_named sinks sink)
 
--- an event's numbers are in their ranges: the id from 1 to 1,000,000, the time within two minutes, one of n ports
+-- an event's id and time are in their ranges, and its port is one of n
 abbrev pub event_fits : ℕ → ScenarioEvent → Bool
-event_fits n e = (((nat_le 1 e.id && nat_le e.id 1000000) && nat_le e.at 120000000) && nat_le 1 e.port) && nat_le e.port n
+event_fits n e = (is_id e.id && is_time e.at) && is_port n e.port
 
 -- what every scenario of n ports keeps
 pub record IsValid (n : ℕ) (c : Contents) : Type 0 where
   pub some_port : 1 ≤ n
-  pub few_ports : n ≤ 8
+  pub few_ports : n ≤ most_ports
   pub settings_count : length c.settings ≡ n
-  pub few_cables : length c.cables ≤ 64
-  pub few_sinks : length c.sinks ≤ 64
-  pub few_events : length c.events ≤ 4096
+  pub few_cables : length c.cables ≤ most_names
+  pub few_sinks : length c.sinks ≤ most_names
+  pub few_events : length c.events ≤ most_events
   pub cables_differ : names_differ (map (λ (cable : NamedCable). cable.name) c.cables) ≡ true
   pub sinks_differ : names_differ (map (λ (sink : NamedSink). sink.name) c.sinks) ≡ true
   pub events_differ : ids_differ c.events ≡ true
   pub events_fit : list_all (event_fits n) c.events ≡ true
   pub names_known : list_all (λ (e : ScenarioEvent). names_are_known c.cables c.sinks e.kind) c.events ≡ true
-  pub least_budget : 500 ≤ c.budget_mw
-  pub most_budget : c.budget_mw ≤ 1000000
+  pub least_budget : limit.least_budget ≤ c.budget_mw
+  pub most_budget : c.budget_mw ≤ limit.most_budget
   pub funded : sum_by (λ (s : SettingsData). s.floor_mw) c.settings ≤ c.budget_mw
-  pub soon : c.end_us ≤ 120000000
+  pub soon : c.end_us ≤ latest_end

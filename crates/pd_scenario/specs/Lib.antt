@@ -1,5 +1,6 @@
 pub mod Contents
 pub mod Laws
+pub mod Limits
 pub mod Names
 pub mod Plan
 pub mod Plans
