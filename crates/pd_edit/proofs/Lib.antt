@@ -1,0 +1,4 @@
+pub mod Accepted
+pub mod FirstWord
+pub mod Inserts
+pub mod Kept

@@ -1,0 +1,4 @@
+pub mod Edits
+pub mod Grammar
+pub mod Numbers
+pub mod Words
