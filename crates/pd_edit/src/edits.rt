@@ -12,7 +12,9 @@ use std::alloc::{AllocError, Global};
 
 /// The greatest id of an event, the latest time in microseconds, and the most events.
 const MOST_ID: u64 = 1_000_000;
+
 const LATEST: u64 = 120_000_000;
+
 const MOST_EVENTS: usize = 4_096;
 
 /// What an edit may be refused for, the least number first.
@@ -84,9 +86,7 @@ fn first_refusal<const N: usize>(scenario: &Scenario<N>, edit: &Edit) -> Option<
     REFUSALS.iter().copied().find(
         |fault| -> bool
             ensures { result ≡ refuses fault.now N scenario.entry.now edit.entry.now }
-        {
-            refuses(*fault, scenario, edit)
-        },
+        { refuses(*fault, scenario, edit) },
     )
 }
 

@@ -4,6 +4,7 @@
 mod change;
 mod edits;
 mod fault;
+pub mod laws;
 mod line;
 mod words;
 

@@ -29,9 +29,14 @@ pub enum Edit {
         kind: EditKind,
     },
     /// The event of this id is taken out.
-    Remove { id: u64 },
+    Remove {
+        id: u64,
+    },
     /// The event of this id is at another time, in microseconds.
-    Move { id: u64, at: u64 },
+    Move {
+        id: u64,
+        at: u64,
+    },
 }
 
 /// What is to be shown.
