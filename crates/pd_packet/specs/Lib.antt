@@ -4,4 +4,6 @@ pub mod Register
 pub mod Laws
 pub mod Reading
 pub mod Spelling
+pub mod Timing
 pub mod Damage
+pub mod Hearing

@@ -4,6 +4,7 @@
 mod check;
 mod fate;
 mod fault;
+mod hearing;
 pub mod laws;
 mod packet;
 mod reading;
@@ -13,9 +14,10 @@ mod writing;
 pub use check::check_of;
 pub use fate::{Damage, Fate};
 pub use fault::PacketFault;
+pub use hearing::{codes_of, reaches};
 pub use packet::Packet;
 pub use reading::read;
-pub use timing::duration;
+pub use timing::{duration, hard_reset_duration, packet_duration};
 pub use writing::write;
 
 #[cfg(test)]

@@ -1,0 +1,22 @@
+use super::*;
+use std::test::*;
+
+#[test]
+fn words(rt: HostRuntime) {
+    assert_eq!(rt; Header::new(1, 0, 0).pack(), 0x0081);
+    assert_eq!(rt; Header::new(1, 1, 0).with_roles(true, true).pack(), 0x11A1);
+    assert_eq!(rt; Header::new(15, 1, 0).pack(), 0x108F);
+    assert_eq!(rt; Header::new(2, 1, 0).with_revision(1).pack(), 0x1042);
+    let header = Header::unpack(0x11A1);
+    assert_eq!(rt; header.count(), 1);
+    assert!(rt; header.role() && header.data_role() && !header.extended());
+    assert_eq!(rt; header_kind(0x11A1), Kind::SourceCapabilities);
+    assert_eq!(rt; header_id(0x0E81), 7);
+}
+
+#[test]
+fn names(rt: HostRuntime) {
+    assert_eq!(rt; header_kind(0x0081).name().as_str(), "GoodCRC");
+    assert_eq!(rt; kind_of(4, 1).name().as_str(), "Sink_Capabilities");
+    assert_eq!(rt; kind_of(31, 0).name().as_str(), "Type31");
+}

@@ -1,0 +1,17 @@
+-- What the protocol layer of one side on one channel keeps (USB Power Delivery 3.0, section 6.12).
+use Rattle.std.specs.Prelude.{ℕ, Option}
+use Rattle.pd_symbols.specs.declared.channel.Channel.{Channel}
+use Rattle.pd_packet.specs.Contents.{Contents}
+use Rattle.pd_header.specs.declared.side.Side.{Side}
+
+-- a packet that waits for its GoodCRC, and how often it was sent
+pub record OutstandingData : Type 0 where
+  pub packet : Contents
+  pub tries : ℕ
+
+pub record LayerRecord : Type 0 where
+  pub side : Side
+  pub channel : Channel
+  pub next_id : ℕ
+  pub stored_id : Option ℕ
+  pub outstanding : Option OutstandingData

@@ -1,0 +1,185 @@
+//! The protocol layer of one side on one channel.
+
+ghost use Rattle.std.specs.Prelude.{◌≡◌, ◌↔◌, ◌<◌, ◌^◌, IsTrue};
+ghost use Rattle.pd_protocol.specs.Layer.{fresh, reset, submit, good_crc, timed_out, received, tries_of};
+ghost use Rattle.pd_protocol.specs.LayerRecord.{LayerRecord};
+
+use crate::message::Message;
+use crate::outstanding::{Outstanding, copy_outstanding, same_outstanding};
+use pd_header::{Kind, Side, header_id, header_kind, header_revision};
+use pd_packet::Packet;
+use pd_symbols::Channel;
+use std::marker::Model;
+
+/// What a layer makes of a call.
+#[derive(Debug, Drop)]
+pub enum LayerAct {
+    /// The outstanding message has its GoodCRC.
+    Sent,
+    /// The same packet is to go out again.
+    Retry(Packet),
+    /// The outstanding message was sent as often as it may be.
+    Failed,
+    /// Nothing is to be done.
+    Idle,
+    /// What came goes up to the engine.
+    Up,
+    /// What came was there before.
+    Repeat,
+}
+
+/// The layer of one side on one channel: the next ID, the ID that came last, and the packet that waits for its GoodCRC
+/// (USB Power Delivery 3.0, section 6.12).
+#[derive(Debug, Drop)]
+pub struct Layer {
+    side: Side,
+    channel: Channel,
+    next_id: u8,
+    stored_id: Option<u8>,
+    outstanding: Option<Outstanding>,
+}
+
+impl Model for Layer {
+    ghost Value = { LayerRecord };
+
+    ghost view = { λ l. record { side = l.side; channel = l.channel; next_id = l.next_id; stored_id = l.stored_id; outstanding = l.outstanding } };
+
+    ghost invariant = { λ l. l.next_id < 2 ^ 3 };
+}
+
+/// How often a packet with this header is sent at most.
+#[tactic(auto, unfolding(crate::specs::Layer::tries_of))]
+fn tries_of(header: u16) -> u8
+    ensures { result ≡ tries_of header }
+{
+    if header_revision(header) == 1 { 4 } else { 3 }
+}
+
+impl Layer {
+    /// A layer as after a reset.
+    #[tactic(auto, unfolding(crate::specs::Layer::fresh))]
+    pub fn new(side: Side, channel: Channel) -> Layer
+        ensures { result ≡ fresh side channel }
+    {
+        Layer {
+            side,
+            channel,
+            next_id: 0,
+            stored_id: None,
+            outstanding: None,
+        }
+    }
+
+    /// Whether both are the same.
+    pub fn same(&self, other: &Layer) -> bool
+        ensures { IsTrue result ↔ (self.now ≡ other.now) }
+    {
+        self.side == other.side
+            && self.channel == other.channel
+            && self.next_id == other.next_id
+            && self.stored_id == other.stored_id
+            && same_outstanding(&self.outstanding, &other.outstanding)
+    }
+
+    /// An equal one.
+    pub fn copy(&self) -> Layer
+        ensures { result ≡ self.now }
+    {
+        Layer {
+            side: self.side,
+            channel: self.channel,
+            next_id: self.next_id,
+            stored_id: self.stored_id,
+            outstanding: copy_outstanding(&self.outstanding),
+        }
+    }
+
+    /// Forgets the IDs and the outstanding message.
+    #[tactic(auto, unfolding(crate::specs::Layer::reset, crate::specs::Layer::fresh))]
+    pub fn reset(&mut self)
+        ensures { self.new ≡ reset self.old }
+    {
+        self.next_id = 0;
+        self.stored_id = None;
+        self.outstanding = None;
+    }
+
+    /// The packet for a message, with these revision bits.
+    ///
+    /// # Errors
+    ///
+    /// The message where one is outstanding; the layer is as before.
+    #[tactic(auto, unfolding(crate::specs::Layer::submit))]
+    pub fn submit(&mut self, message: Message, revision: u8) -> Result<Packet, Message>
+        requires { revision < 2 ^ 2 }
+        ensures after { self.new ≡ (submit self.old revision message).0 }
+        ensures answer { result ≡ (submit self.old revision message).1 }
+    {
+        if self.outstanding.is_some() {
+            return Err(message);
+        }
+        let packet = message.into_packet(self.side, self.channel, revision, self.next_id);
+        self.outstanding = Some(Outstanding {
+            packet: packet.copy(),
+            tries: 1,
+        });
+        Ok(packet)
+    }
+
+    /// What comes of a GoodCRC with this ID: Sent, or Idle where no message with that ID is outstanding.
+    #[tactic(auto, unfolding(crate::specs::Layer::good_crc))]
+    pub fn good_crc(&mut self, id: u8) -> LayerAct
+        ensures after { self.new ≡ (good_crc self.old id).0 }
+        ensures answer { result ≡ (good_crc self.old id).1 }
+    {
+        match &self.outstanding {
+            Some(sent) if header_id(sent.packet.header()) == id => {
+                self.outstanding = None;
+                self.next_id = (self.next_id + 1) % 8;
+                LayerAct::Sent
+            }
+            _ => LayerAct::Idle,
+        }
+    }
+
+    /// What comes of a GoodCRC that did not come in time: Retry, Failed, or Idle where no message is outstanding.
+    #[tactic(auto, unfolding(crate::specs::Layer::timed_out))]
+    pub fn timed_out(&mut self) -> LayerAct
+        ensures after { self.new ≡ (timed_out self.old).0 }
+        ensures answer { result ≡ (timed_out self.old).1 }
+    {
+        match &mut self.outstanding {
+            None => LayerAct::Idle,
+            Some(sent) if sent.tries < tries_of(sent.packet.header()) => {
+                sent.tries += 1;
+                LayerAct::Retry(sent.packet.copy())
+            }
+            Some(_) => {
+                self.outstanding = None;
+                self.next_id = (self.next_id + 1) % 8;
+                LayerAct::Failed
+            }
+        }
+    }
+
+    /// What comes of a message with this header: Up or Repeat.
+    #[tactic(auto, unfolding(crate::specs::Layer::received, crate::specs::Layer::reset))]
+    pub fn received(&mut self, header: u16) -> LayerAct
+        ensures after { self.new ≡ (received self.old header).0 }
+        ensures answer { result ≡ (received self.old header).1 }
+    {
+        let id = header_id(header);
+        if header_kind(header).is_soft_reset() {
+            *self = Layer::new(self.side, self.channel);
+            self.stored_id = Some(id);
+            return LayerAct::Up;
+        }
+        let known = self.stored_id == Some(id);
+        self.stored_id = Some(id);
+        if known {
+            LayerAct::Repeat
+        } else {
+            LayerAct::Up
+        }
+    }
+}

@@ -1,0 +1,12 @@
+//! The protocol layer of one side on one channel: messages, their packets, their IDs and their tries.
+#![tactic(auto)]
+
+mod layer;
+mod message;
+mod outstanding;
+
+pub use layer::{Layer, LayerAct};
+pub use message::{Message, good_crc_for};
+
+#[cfg(test)]
+mod tests;

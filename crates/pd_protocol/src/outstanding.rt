@@ -1,0 +1,60 @@
+//! Packets that wait for their GoodCRC.
+
+ghost use Rattle.std.specs.Prelude.{◌≡◌, ◌↔◌, IsTrue};
+ghost use Rattle.pd_protocol.specs.LayerRecord.{OutstandingData};
+
+use pd_packet::Packet;
+use std::marker::Model;
+
+/// A packet that waits for its GoodCRC, and how often it was sent.
+#[derive(Debug, Drop)]
+pub struct Outstanding {
+    pub packet: Packet,
+    pub tries: u8,
+}
+
+impl Model for Outstanding {
+    ghost Value = { OutstandingData };
+
+    ghost view = { λ o. record { packet = o.packet; tries = o.tries } };
+}
+
+impl Outstanding {
+    /// Whether both are the same.
+    pub fn same(&self, other: &Outstanding) -> bool
+        ensures { IsTrue result ↔ (self.now ≡ other.now) }
+    {
+        self.tries == other.tries && self.packet.same(&other.packet)
+    }
+
+    /// An equal one.
+    pub fn copy(&self) -> Outstanding
+        ensures { result ≡ self.now }
+    {
+        Outstanding {
+            packet: self.packet.copy(),
+            tries: self.tries,
+        }
+    }
+}
+
+/// Whether both are the same.
+pub fn same_outstanding(one: &Option<Outstanding>, other: &Option<Outstanding>) -> bool
+    ensures { IsTrue result ↔ (one.now ≡ other.now) }
+{
+    match (one, other) {
+        (None, None) => true,
+        (Some(one), Some(other)) => one.same(other),
+        _ => false,
+    }
+}
+
+/// An equal one.
+pub fn copy_outstanding(outstanding: &Option<Outstanding>) -> Option<Outstanding>
+    ensures { result ≡ outstanding.now }
+{
+    match outstanding {
+        None => None,
+        Some(outstanding) => Some(outstanding.copy()),
+    }
+}
