@@ -109,7 +109,3 @@ pub record Run (plan : Plan) (moves : List Move) : Type 0 where
 -- what a run shows of a move: its port, numbered from 1 here, and its entry
 abbrev pub shown : Move → ℕ × Entry
 shown m = (m.port + 1, m.entry)
-
--- these are the entries of the plan's run
-abbrev pub Shows : Plan → List (ℕ × Entry) → Type 0
-Shows plan entries = (moves : List Move) × Run plan moves × (entries ≡ map shown moves)

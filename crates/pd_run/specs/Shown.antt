@@ -1,8 +1,16 @@
 -- What a runner stands for.
-use Rattle.std.specs.Prelude.{◌≡◌, ℕ, List, [], Option, Some, None}
+use Rattle.std.specs.Prelude.{◌≡◌, ℕ, List, [], map, Option, Some, None}
 use Rattle.pd_port.specs.declared.entry.Entry.{Entry}
 use Rattle.pd_scenario.specs.Plan.{Plan, IsPlan}
-use Rattle.pd_run.specs.Run.{Shows}
+use Rattle.pd_run.specs.Run.{Move, Run, shown}
+use Rattle.pd_run.specs.Laws.{IsWithin}
+
+-- these are the entries of the plan's run, in which all that the ports hold is always within the budget
+pub record Shows (plan : Plan) (entries : List (ℕ × Entry)) : Type 0 where
+  pub moves : List Move
+  pub run : Run plan moves
+  pub within : IsWithin plan moves
+  pub entries_are : entries ≡ map shown moves
 
 -- a plan, if there is one, and the entries of its run
 pub record Shown : Type 0 where

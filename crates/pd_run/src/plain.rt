@@ -2,11 +2,12 @@
 
 ghost use Rattle.std.specs.Prelude.{◌≡◌, ℕ, ◌+◌, ◌≤◌, ◌∷◌, ◌++◌, List, [], IfOk, OnOk, OnErr, map, length, Some};
 ghost use Rattle.pd_port.specs.Meter.{raised};
-ghost use Rattle.pd_run.specs.Run.{Move, Run, Shows, shown};
-ghost use Rattle.pd_run.specs.Shown.{IsShown};
+ghost use Rattle.pd_scenario.specs.Plans.{plan_of};
+ghost use Rattle.pd_run.specs.Shown.{Shows, IsShown};
 
 use crate::{Live, Runner, Timetable};
 use pd_port::{Entry, Meter};
+use pd_scenario::Scenario;
 use std::alloc::{AllocError, Global};
 use std::marker::Model;
 
@@ -42,20 +43,21 @@ impl<const N: usize> Runner<N> for Plain<N> {
     fn replace(
         &mut self,
         alloc: Global,
-        timetable: Timetable<N>,
+        scenario: &Scenario<N>,
         meter: &mut Meter,
     ) -> Result<(), AllocError>
-        ensures plan { OnOk result (self.new.plan ≡ Some timetable.entry) }
-        ensures run { OnOk result (Shows timetable.entry self.new.entries) }
+        ensures plan { OnOk result (self.new.plan ≡ Some (plan_of scenario.now)) }
+        ensures run { OnOk result (Shows (plan_of scenario.now) self.new.entries) }
         ensures same_plan { OnErr result (self.new.plan ≡ self.old.plan) }
         ensures same_run { OnErr result (self.new.entries ≡ self.old.entries) }
         ensures rises { meter.old ≤ meter.new }
         ensures cost { OnOk result (meter.new ≡ raised meter.old (length self.new.entries)) }
     {
-        let entries = run(alloc, &timetable, meter)?;
-        let _end = timetable.end();
+        let plan = Timetable::of_scenario(alloc, scenario)?;
+        let entries = run(alloc, &plan, meter)?;
+        let _end = plan.end();
         self.entries = entries;
-        self.plan = Some(timetable);
+        self.plan = Some(plan);
         Ok(())
     }
 

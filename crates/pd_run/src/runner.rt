@@ -3,38 +3,38 @@
 ghost use Rattle.std.specs.Prelude.{◌≡◌, ℕ, ◌≤◌, List, [], Option, Some, None, OnOk, OnErr, IfSome, length, slice_get, option_map};
 ghost use Rattle.pd_port.specs.declared.entry.Entry.{Entry as EntryData};
 ghost use Rattle.pd_scenario.specs.Plan.{Plan};
-ghost use Rattle.pd_run.specs.Run.{Shows};
-ghost use Rattle.pd_run.specs.Shown.{IsShown};
+ghost use Rattle.pd_scenario.specs.Plans.{plan_of};
+ghost use Rattle.pd_run.specs.Shown.{Shows, IsShown};
 
-use crate::Timetable;
 use pd_port::{Entry, Meter};
+use pd_scenario::Scenario;
 use std::alloc::{AllocError, Global};
 
-/// What stands for the run of one plan of N ports, 1 to 8, or for none.
+/// What stands for the run of one scenario of N ports, 1 to 8, or for none.
 pub trait Runner<const N: usize> {
-    /// The plan, if there is one.
+    /// The scenario's plan, if there is one.
     ghost plan: { Self → Option Plan };
 
     /// The port of each move, numbered from 1, and its entry.
     ghost entries: { Self → List (ℕ × EntryData) };
 
-    /// A runner that stands for no plan.
+    /// A runner that stands for no scenario.
     fn empty(alloc: Global) -> Self
         ensures plan { plan result ≡ None }
         ensures entries { entries result ≡ [] };
 
-    /// Stands for this plan's run from now on. The meter rises by the steps that are taken.
+    /// Stands for this scenario's run from now on. The meter rises by the steps that are taken.
     ///
     /// # Errors
     /// There is no memory. The runner stands for what it stood for; the meter may have risen.
     fn replace(
         &mut self,
         alloc: Global,
-        timetable: Timetable<N>,
+        scenario: &Scenario<N>,
         meter: &mut Meter,
     ) -> Result<(), AllocError>
-        ensures plan { OnOk result (plan self.new ≡ Some timetable.entry) }
-        ensures run { OnOk result (Shows timetable.entry (entries self.new)) }
+        ensures plan { OnOk result (plan self.new ≡ Some (plan_of scenario.now)) }
+        ensures run { OnOk result (Shows (plan_of scenario.now) (entries self.new)) }
         ensures same_plan { OnErr result (plan self.new ≡ plan self.old) }
         ensures same_run { OnErr result (entries self.new ≡ entries self.old) }
         ensures rises { meter.old ≤ meter.new };

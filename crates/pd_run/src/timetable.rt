@@ -3,9 +3,11 @@
 ghost use Rattle.std.specs.Prelude.{◌≡◌, ℕ, ◌+◌, ◌-◌, ◌<◌, ◌≤◌, slice_get, map, All, IfOk};
 ghost use Rattle.std.specs.Option.{option_copied};
 ghost use Rattle.pd_scenario.specs.Plan.{Plan, IsPlan, settings_of, script_of, floors_of};
+ghost use Rattle.pd_scenario.specs.Plans.{plan_of};
 ghost use Rattle.pd_run.specs.Start.{start_of};
 
 use pd_port::{Event, Port, Settings};
+use pd_scenario::Scenario;
 use std::alloc::{AllocError, Global};
 use std::marker::Model;
 
@@ -30,22 +32,21 @@ impl<const N: usize> Model for Timetable<N> {
 }
 
 impl<const N: usize> Timetable<N> {
-    /// The plan of these settings and scripts, with a budget in microwatts and an end in microseconds.
-    pub fn of(
-        settings: Vec<Settings>,
-        scripts: Vec<Vec<Event>>,
-        budget: u64,
-        end: u64,
-    ) -> Timetable<N>
-        requires { IsPlan N (record { settings = settings.items; scripts = map (λ v. v.items) scripts.items; budget = budget; end = end }) }
-        ensures { result ≡ record { settings = settings.items; scripts = map (λ v. v.items) scripts.items; budget = budget; end = end } }
+    /// What a scenario asks.
+    ///
+    /// # Errors
+    /// There is no memory.
+    pub fn of_scenario(alloc: Global, scenario: &Scenario<N>) -> Result<Timetable<N>, AllocError>
+        ensures { IfOk result (λ timetable. timetable ≡ plan_of scenario.now) }
     {
-        Timetable {
+        let settings = settings_of(alloc, scenario)?;
+        let scripts = scripts_of(alloc, scenario)?;
+        Ok(Timetable {
             settings,
             scripts,
-            budget,
-            end,
-        }
+            budget: scenario.budget(),
+            end: scenario.end_time(),
+        })
     }
 
     /// What a port is set to.
@@ -104,4 +105,34 @@ impl<const N: usize> Timetable<N> {
     {
         self.settings.iter().map(|s| Port::new(s)).collect(alloc)
     }
+}
+
+// What each port is set to.
+fn settings_of<const N: usize>(
+    alloc: Global,
+    scenario: &Scenario<N>,
+) -> Result<Vec<Settings>, AllocError>
+    ensures { IfOk result (λ settings. settings.items ≡ (plan_of scenario.now).settings) }
+{
+    let _end = scenario.end_time();
+    let mut settings = Vec::new(alloc);
+    for port in 0..N {
+        settings.push(scenario.settings(port + 1).copy())?;
+    }
+    Ok(settings)
+}
+
+// The script of each port.
+fn scripts_of<const N: usize>(
+    alloc: Global,
+    scenario: &Scenario<N>,
+) -> Result<Vec<Vec<Event>>, AllocError>
+    ensures { IfOk result (λ scripts. map (λ script. script.items) scripts.items ≡ (plan_of scenario.now).scripts) }
+{
+    let _end = scenario.end_time();
+    let mut scripts = Vec::new(alloc);
+    for port in 0..N {
+        scripts.push(scenario.script(alloc, port + 1)?)?;
+    }
+    Ok(scripts)
 }

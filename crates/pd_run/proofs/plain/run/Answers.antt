@@ -3,9 +3,10 @@ use Rattle.std.proofs.lemmas.List.{map-append, length_push}
 use Rattle.pd_port.specs.declared.entry.Entry.{Entry}
 use Rattle.pd_run.specs.Run.{Move, shown}
 use Rattle.pd_run.specs.Live.{next_move}
-use Rattle.pd_run.proofs.Runs.{runs_start, runs_step}
+use Rattle.pd_run.proofs.Runs.{runs_start, runs_step, runs_end}
 use Rattle.pd_run.proofs.Work.{work_known, work_falls}
 use Rattle.pd_run.proofs.Steps.{due_known, entry_known}
+use Rattle.pd_run.proofs.Within.{fits_run}
 use Rattle.pd_run.proofs.plain.run.Goals as goal
 
 pub loop-port-init : goal.loop-port-init
@@ -47,3 +48,10 @@ loop-port-preserved g c =
           ∙ ap (λ (e : Entry). map shown i.moves ++ (c.in-Some.port, e) ∷ []) entry ∙ ap (λ k. map shown i.moves ++ (k, m.entry) ∷ []) port ∙ sym (map-append shown i.moves (m ∷ []));
       cost = omega (arith, c.step-entry.ensures.meter, i.cost);
     }
+
+pub returns-clause-run : goal.returns-clause-run
+returns-clause-run g c =
+    let plan = c.args.plan.now in
+    let i = c.loop-port.invariant in
+    let run = runs_end plan i.moves _ i.stands c.in_default.ensures.next i.runs in
+    record { moves = i.moves; run = run; within = fits_run g.row.N plan i.moves c.in_default.ensures.is_plan run; entries_are = i.entries }
