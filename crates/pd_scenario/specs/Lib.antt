@@ -1,1 +1,7 @@
+pub mod Contents
+pub mod Laws
+pub mod Limits
+pub mod Names
 pub mod Plan
+pub mod Plans
+pub mod Script

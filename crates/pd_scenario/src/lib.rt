@@ -1,2 +1,12 @@
-//! Scenarios.
+//! Scenarios: the ports of a charger, cables and sinks by name, and what happens when.
 #![tactic(auto)]
+
+mod contents;
+pub mod laws;
+mod name;
+mod order;
+mod scenario;
+
+pub use contents::{NamedCable, NamedSink, ScenarioEvent, ScenarioEventKind};
+pub use name::{Name, is_name};
+pub use scenario::Scenario;

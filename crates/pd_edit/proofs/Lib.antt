@@ -1,0 +1,5 @@
+pub mod Accepted
+pub mod FirstWord
+pub mod Inserts
+pub mod Kept
+pub mod Least

@@ -1,0 +1,5 @@
+pub mod Edits
+pub mod Grammar
+pub mod Laws
+pub mod Numbers
+pub mod Words

@@ -1,0 +1,45 @@
+-- Offers are within what is free, and the greatest that are.
+use Rattle.std.proofs.Common.{ℕ, ◌*◌, ◌/◌, ◌<◌, ◌≤◌, List, [], ◌∷◌, Option, Some, None, option_map, map, refl, arith}
+use Rattle.std.proofs.Math.Nat.{mul-div-le, le-div_iff_mul-le, mul_comm, mul-le-mul_left}
+use Rattle.pd_objects.specs.Supply.{SupplyData, IsSupply}
+use Rattle.pd_objects.specs.Answers.{IsAllowed, AreWithin}
+use Rattle.pd_objects.specs.declared.query.Query.{Query}
+use Rattle.pd_objects.specs.declared.query.Query.TheVariants as query
+use Rattle.pd_ledger.specs.Offer.{offered, answer_of}
+use Rattle.pd_ledger.specs.Laws.{IsOffered}
+
+-- a current within what the power gives is within the power
+times_quotient : (free mv ma : ℕ) → ma ≤ free / mv → mv * ma ≤ free
+times_quotient free mv ma h = let quotient = mul-div-le free mv in let times = mul-le-mul_left mv h in omega (arith, times)
+
+pub offered-within : (free limit_ma : ℕ) (s : SupplyData) → s.mv * offered free limit_ma s ≤ free
+unfolding offered
+offered-within free limit_ma s = times_quotient free s.mv _ (omega arith)
+
+are_within : (free limit_ma : ℕ) (supplies : List SupplyData) → AreWithin free supplies (map (offered free limit_ma) supplies)
+are_within free limit_ma [] = tt
+are_within free limit_ma (s ∷ rest) = (offered-within free limit_ma s, are_within free limit_ma rest)
+
+-- what is answered is allowed
+pub answer-allowed : (free : ℕ) (query : Option Query) → IsAllowed free query (option_map (answer_of free) query)
+answer-allowed free None = refl
+answer-allowed free (Some (query.Offer supplies limit_ma)) = (map (offered free limit_ma) supplies.items, are_within free limit_ma supplies.items, refl)
+answer-allowed free (Some (query.Fits power)) = refl
+
+-- a current within the power is within what the power gives
+in_quotient : (free mv ma : ℕ) → 0 < mv → mv * ma ≤ free → ma ≤ free / mv
+in_quotient free mv ma some h = let times = mul_comm mv ma in (le-div_iff_mul-le some).1 (omega arith)
+
+pub offered-greatest : (free limit_ma : ℕ) (s : SupplyData) → IsSupply s → IsOffered free limit_ma s (offered free limit_ma s)
+unfolding offered
+offered-greatest free limit_ma s is = record {
+  steps = omega arith;
+  in_supply = omega arith;
+  in_cable = omega arith;
+  in_free = times_quotient free s.mv _ (omega arith);
+  greatest = λ more steps in_supply in_cable in_free. let quotient = in_quotient free s.mv more (omega arith) in_free in omega arith;
+}
+
+pub offered-some : (free limit_ma : ℕ) (s : SupplyData) → IsSupply s → 500000 ≤ free → 10 ≤ limit_ma → 10 ≤ offered free limit_ma s
+unfolding offered
+offered-some free limit_ma s is half_a_watt some = let quotient = in_quotient free s.mv 10 (omega arith) (omega arith) in omega arith

@@ -1,0 +1,24 @@
+-- The budget that ports share, in microwatts.
+use Rattle.std.specs.Prelude.{◌≡◌, ℕ, ◌-◌, ◌<◌, ◌≤◌, ◌^◌, List, length, sum, slice_index, slice_set}
+
+-- a budget, what each port may not fall below, and what it holds
+pub record Account : Type 0 where
+  pub budget : ℕ
+  pub floors : List ℕ
+  pub holds : List ℕ
+
+-- the budget less the other ports' holds, the ports being numbered from 0 here
+abbrev pub free_of : Account → ℕ → ℕ
+free_of a p = a.budget - sum (slice_set a.holds p 0)
+
+-- What a ledger of n ports keeps: no floor is below half a watt, no hold is below its port's floor, and the holds, whose
+-- total is kept, add to at most the budget.
+pub record IsKept (n budget : ℕ) (floors holds : List ℕ) (total : ℕ) : Type 0 where
+  pub few : n ≤ 8
+  pub floors_count : length floors ≡ n
+  pub holds_count : length holds ≡ n
+  pub half_a_watt : (p : ℕ) → p < n → 500000 ≤ slice_index floors p
+  pub floored : (p : ℕ) → p < n → slice_index floors p ≤ slice_index holds p
+  pub within : sum holds ≤ budget
+  pub totalled : total ≡ sum holds
+  pub small : budget < 2 ^ 64

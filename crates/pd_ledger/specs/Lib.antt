@@ -1,0 +1,3 @@
+pub mod Account
+pub mod Laws
+pub mod Offer

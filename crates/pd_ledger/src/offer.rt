@@ -1,0 +1,28 @@
+//! The currents of an offer.
+
+ghost use Rattle.std.specs.Prelude.{◌≡◌, ◌≤◌, map};
+ghost use Rattle.pd_ledger.specs.Offer.{offered};
+
+use arrayvec::ArrayVec;
+use pd_objects::Supply;
+
+/// The current in mA that a supply is offered at.
+#[tactic(auto, unfolding(crate::specs::Offer::offered))]
+fn offered(free: u64, limit_ma: u32, supply: &Supply) -> u32
+    ensures { result ≡ offered free limit_ma supply.now }
+{
+    let most = free / u64::from(supply.mv());
+    let ma = u64::from(supply.ma().min(limit_ma)).min(most);
+    ma as u32 / 10 * 10
+}
+
+/// The current in mA that each supply is offered at.
+pub fn offer(free: u64, limit_ma: u32, supplies: &ArrayVec<Supply, 7>) -> ArrayVec<u32, 7>
+    ensures { result.items ≡ map (offered free limit_ma) supplies.now.items }
+{
+    let mut currents = ArrayVec::<u32, 7>::new();
+    for supply in supplies.as_slice() {
+        currents.push(offered(free, limit_ma, supply));
+    }
+    currents
+}

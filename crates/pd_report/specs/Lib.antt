@@ -1,0 +1,4 @@
+pub mod Device
+pub mod Numbers
+pub mod Report
+pub mod Text

@@ -1,0 +1,6 @@
+pub mod Moves
+pub mod OneRun
+pub mod Runs
+pub mod Steps
+pub mod Within
+pub mod Work

@@ -1,0 +1,162 @@
+-- What the ports, the events that they have had and the budget are after one more move.
+use Rattle.std.proofs.Common.{◌≡◌, ◌≢◌, ℕ, ◌+◌, ◌<◌, ◌≤◌, ⊎_elim, List, [], ◌∷◌, ◌++◌, length, map, sum, Option, Some, option_map, true, refl, ap, sym, ◌∙◌, subst, arith, get_or, slice_index, slice_index_or, slice_set, slice_get, set, replicate}
+use Rattle.std.specs.List.{range_with_len}
+use Rattle.std.proofs.lemmas.List.{length-map, length-replicate, get_or-replicate, get_or_default, get_or-set_same, get_or-set_other, length-set, same_lists}
+use Rattle.std.proofs.Math.ListN as list_map
+use Rattle.std.proofs.lemmas.Option.{slice_get_within}
+use Rattle.std.proofs.lemmas.List.FromFn.{get_or-map-range_with_len, length-map-range_with_len}
+use Rattle.std.proofs.lemmas.Bool.{cases_eq}
+use Rattle.pd_objects.specs.declared.query.Answer.{Answer}
+use Rattle.pd_port.specs.Settings.{floor_of}
+use Rattle.pd_port.specs.Events.{EventData}
+use Rattle.pd_port.specs.declared.due.Due.{Due}
+use Rattle.pd_port.specs.declared.due.What.{What}
+use Rattle.pd_port.specs.declared.due.What.TheVariants as what
+use Rattle.pd_port.specs.Port.{PortData, is_event, detached, due, ask, entry_of, hold, record_after}
+use Rattle.pd_port.proofs.PortLaws.{due_event, hold_fits, hold_detached}
+use Rattle.pd_ledger.specs.Account.{Account, free_of}
+use Rattle.pd_ledger.specs.Offer.{answer_of}
+use Rattle.pd_ledger.proofs.Offers.{answer-allowed}
+use Rattle.pd_ledger.proofs.Sums.{hold-free, sum-set-within}
+use Rattle.pd_scenario.specs.Plan.{Plan, IsPlan, count, settings_of, script_of, floors_of, no_settings}
+use Rattle.pd_run.specs.Run.{Move, Standing, standing, moved, after, taken_after, due_after, account_after, holds_after, reply_after}
+use Rattle.pd_run.specs.Start.{start_of, no_port}
+use Rattle.pd_run.specs.Live.{LiveData, Stands, IsFirst, IsNext, due_at, next_move, port_at, port_after, reply_at, moved_port}
+use Rattle.pd_run.proofs.Moves.{standing-same, standing-other}
+
+-- a table with one entry changed
+pub table-set : {X : Type 0} (f g : ℕ → X) (n p : ℕ) (y : X) → p < n → ((k : ℕ) → k ≢ p → g k ≡ f k) → g p ≡ y → set (map f (range_with_len 0 n)) p y ≡ map g (range_with_len 0 n)
+table-set {X} f g n p y lt others here =
+    let fs = length-map-range_with_len f 0 n in
+    let gs = length-map-range_with_len g 0 n in
+    let xs : List X = map f (range_with_len 0 n) in
+    same_lists (set xs p y) (map g (range_with_len 0 n)) (length-set xs p y ∙ fs ∙ sym gs)
+    (λ k d h.
+    let kn : k < n = omega (arith, length-set xs p y) in
+    let at_g : get_or (map g (range_with_len 0 n)) k d ≡ g k = get_or-map-range_with_len g 0 n k k d kn (omega arith) in
+    ⊎_elim
+    (λ (same : k ≡ p).
+    let inside : p < length xs = omega arith in
+    ap (λ i. get_or (set xs p y) i d) same ∙ get_or-set_same xs p y d inside ∙ sym here ∙ sym (at_g ∙ ap g same))
+    (λ (other : k ≢ p). get_or-set_other xs p k y d other ∙ get_or-map-range_with_len f 0 n k k d kn (omega arith) ∙ sym (others k other) ∙ sym at_g)
+    (cases_eq k p))
+
+-- what is due by the ports is what is due after the moves
+pub due_known : (plan : Plan) (past : List Move) (live : LiveData) (p : ℕ) → Stands plan past live → p < count plan → due_at plan live p ≡ due_after plan past p
+due_known plan past live p s lt =
+    ap (λ (x : PortData). due x.«record» (slice_get (script_of plan p) (slice_index live.taken p))) (s.ports_are p lt)
+    ∙ ap (λ t. due (standing plan past p).state (slice_get (script_of plan p) t)) (s.taken_are p lt)
+
+-- the budget's hold is the port's
+pub hold_known : (plan : Plan) (past : List Move) (p : ℕ) → p < count plan → slice_index (holds_after plan past) p ≡ hold (settings_of plan p) (standing plan past p).state
+hold_known plan past p lt = get_or-map-range_with_len (λ k. hold (settings_of plan k) (standing plan past k).state) 0 (count plan) p p 0 lt (omega arith)
+
+pub length-holds_after : (plan : Plan) (past : List Move) → length (holds_after plan past) ≡ count plan
+length-holds_after plan past = length-map-range_with_len (λ k. hold (settings_of plan k) (standing plan past k).state) 0 (count plan)
+
+-- the hold after a move is within the power that was free
+pub hold_after-fits : (plan : Plan) (past : List Move) (live : LiveData) (p : ℕ) (d : Due) → Stands plan past live → p < count plan → hold (settings_of plan p) (after plan (next_move plan past p d)) ≤ free_of live.account p
+hold_after-fits plan past live p d s lt =
+    let inside : p < length (holds_after plan past) = omega (arith, length-holds_after plan past) in
+    let within = subst (λ (l : Account). sum l.holds ≤ l.budget) s.account_is s.funded in
+    let old = hold-free (account_after plan past) p inside within in
+    let held : hold (settings_of plan p) (standing plan past p).state ≤ free_of (account_after plan past) p = omega (arith, hold_known plan past p lt) in
+    let fits = hold_fits (settings_of plan p) (standing plan past p).state d (reply_after plan past p (ask (settings_of plan p) (standing plan past p).state d)) (free_of (account_after plan past) p) held (answer-allowed _ _) in
+    subst (λ (l : Account). hold (settings_of plan p) (after plan (next_move plan past p d)) ≤ free_of l p) (sym s.account_is) fits
+
+-- all of it after one more move
+pub Stands-step : (plan : Plan) (past : List Move) (live : LiveData) (p : ℕ) (d : Due) (port : PortData) (more : List ℕ) (h : ℕ) → Stands plan past live → p < count plan
+    → port ≡ port_after plan (past ++ next_move plan past p d ∷ []) p → length more ≡ length live.taken → slice_index more p ≡ taken_after (slice_index live.taken p) d → ((k : ℕ) → k ≢ p → slice_index more k ≡ slice_index live.taken k)
+    → h ≡ hold (settings_of plan p) (after plan (next_move plan past p d)) → Stands plan (past ++ next_move plan past p d ∷ []) (record { ports = slice_set live.ports p port; taken = more; account = record live.account { holds = slice_set live.account.holds p h } })
+Stands-step plan past live p d port more h s lt port_is counted at_p at_others h_is =
+    let m : Move = next_move plan past p d in
+    let ports : List PortData = live.ports in
+    let here : standing plan (past ++ m ∷ []) p ≡ moved plan (standing plan past p) m = standing-same plan past m p refl in
+    let others : (k : ℕ) → k ≢ p → standing plan (past ++ m ∷ []) k ≡ standing plan past k = λ k ne. standing-other plan past m k (λ e. ne (sym e)) in
+    let inside : p < length ports = omega (arith, s.ports_count) in
+    let holds : slice_set (holds_after plan past) p h ≡ holds_after plan (past ++ m ∷ []) = table-set _ _ (count plan) p h lt (λ k ne. ap (λ (x : Standing). hold (settings_of plan k) x.state) (others k ne)) (ap (λ (x : Standing). hold (settings_of plan p) x.state) here ∙ sym h_is) in
+    let slots : p < length live.account.holds = omega (arith, length-holds_after plan past, ap (λ (l : Account). length l.holds) s.account_is) in
+    record {
+      ports_count = length-set ports p port ∙ s.ports_count;
+      taken_count = counted ∙ s.taken_count;
+      ports_are = λ k kn.
+          ⊎_elim
+          (λ (same : k ≡ p). ap (λ i. get_or (set ports p port) i no_port) same ∙ get_or-set_same ports p port no_port inside ∙ port_is ∙ ap (λ i. port_after plan (past ++ m ∷ []) i) (sym same))
+          (λ (other : k ≢ p). get_or-set_other ports p k port no_port other ∙ s.ports_are k kn ∙ ap (λ (x : Standing). record { settings = settings_of plan k; «record» = x.state }) (sym (others k other)))
+          (cases_eq k p);
+      taken_are = λ k kn.
+          ⊎_elim
+          (λ (same : k ≡ p). ap (slice_index more) same ∙ at_p ∙ ap (λ t. taken_after t d) (s.taken_are p lt) ∙ ap (λ (x : Standing). x.taken) (sym here) ∙ ap (λ i. (standing plan (past ++ m ∷ []) i).taken) (sym same))
+          (λ (other : k ≢ p). at_others k other ∙ s.taken_are k kn ∙ ap (λ (x : Standing). x.taken) (sym (others k other)))
+          (cases_eq k p);
+      account_is = ap (λ (l : Account). record l { holds = slice_set l.holds p h }) s.account_is ∙ ap (λ hs. record { budget = plan.budget; floors = floors_of plan; holds = hs }) holds;
+      funded = sum-set-within live.account p h slots (rw h_is (hold_after-fits plan past live p d s lt)) s.funded;
+    }
+
+-- a floor of the account is the port's
+pub floor_known : (plan : Plan) (past : List Move) (live : LiveData) (p : ℕ) → Stands plan past live → slice_index live.account.floors p ≡ floor_of (settings_of plan p)
+floor_known plan past live p s = ap (λ (l : Account). slice_index l.floors p) s.account_is ∙ list_map.get_or-map floor_of plan.settings p no_settings
+
+-- an event that falls due is the next one
+some_event : (w : What) → is_event w ≡ true → (e : EventData) × (w ≡ what.Event e)
+some_event (what.Event e) h = (e, refl)
+some_event what.Line h = cc
+some_event (what.Timer side timer) h = cc
+
+-- a script isn't used up where an event falls due
+pub taken_few : (n : ℕ) (plan : Plan) (live : LiveData) (p : ℕ) (d : Due) → IsPlan n plan → p < n → due_at plan live p ≡ Some d → is_event d.what ≡ true → slice_index live.taken p < 4096
+taken_few n plan live p d is lt du ev =
+    let e = some_event d.what ev in
+    let next = due_event _ _ d e.0 du e.1 in
+    let inside = slice_get_within (script_of plan p) (slice_index live.taken p) e.0 next.0 in
+    omega (arith, is.brief p lt)
+
+-- a number that is read from the list
+pub taken_read : (taken : List ℕ) (p t : ℕ) → p < length taken → t ≡ slice_index_or taken p t → slice_index taken p ≡ t
+taken_read taken p t lt e = get_or_default taken p 0 t lt ∙ sym e
+
+-- at the start
+pub Stands-start : (n : ℕ) (plan : Plan) (ports : List PortData) (taken : List ℕ) → IsPlan n plan → ports ≡ map start_of plan.settings → taken ≡ replicate n 0 → Stands plan [] (record { ports = ports; taken = taken; account = record { budget = plan.budget; floors = floors_of plan; holds = floors_of plan } })
+Stands-start n plan ports taken is ports_is taken_is =
+    let holds : floors_of plan ≡ holds_after plan [] =
+    same_lists (floors_of plan) (holds_after plan []) (length-map plan.settings floor_of ∙ sym (length-holds_after plan []))
+    (λ k d h.
+    let kn : k < count plan = omega (arith, length-map plan.settings floor_of) in
+    let here : get_or (floors_of plan) k 0 ≡ floor_of (settings_of plan k) = list_map.get_or-map floor_of plan.settings k no_settings in
+    get_or_default (floors_of plan) k d 0 h ∙ here ∙ sym (hold_detached (settings_of plan k)) ∙ sym (get_or-map-range_with_len (λ i. hold (settings_of plan i) (detached (settings_of plan i))) 0 (count plan) k k d kn (omega arith))) in
+    record {
+      ports_count = ap length ports_is ∙ length-map plan.settings start_of;
+      taken_count = ap length taken_is ∙ length-replicate n 0 ∙ sym is.settings_count;
+      ports_are = λ p k. ap (λ (l : List PortData). get_or l p no_port) ports_is ∙ list_map.get_or-map start_of plan.settings p no_settings;
+      taken_are = λ p k. ap (λ (l : List ℕ). slice_index l p) taken_is ∙ get_or-replicate n p 0 0 (omega (arith, is.settings_count));
+      account_is = ap (λ hs. record { budget = plan.budget; floors = floors_of plan; holds = hs }) holds;
+      funded = is.funded;
+    }
+
+-- the answer by the ports is the answer after the moves
+pub reply_known : (plan : Plan) (past : List Move) (live : LiveData) (p : ℕ) (d : Due) → Stands plan past live → p < count plan → reply_at live p d ≡ (next_move plan past p d).answer
+reply_known plan past live p d s lt =
+    ap (λ (x : PortData). option_map (answer_of (free_of live.account p)) (ask x.settings x.«record» d)) (s.ports_are p lt)
+    ∙ ap (λ (l : Account). option_map (answer_of (free_of l p)) (ask (settings_of plan p) (standing plan past p).state d)) s.account_is
+
+-- the port as its move leaves it, by the moves
+pub moved_known : (plan : Plan) (past : List Move) (live : LiveData) (p : ℕ) (d : Due) → Stands plan past live → p < count plan → moved_port live p d ≡ port_after plan (past ++ next_move plan past p d ∷ []) p
+moved_known plan past live p d s lt =
+    ap (λ (x : PortData). record { settings = x.settings; «record» = record_after x.settings x.«record» d (reply_at live p d) }) (s.ports_are p lt)
+    ∙ ap (λ (a : Option Answer). record { settings = settings_of plan p; «record» = record_after (settings_of plan p) (standing plan past p).state d a }) (reply_known plan past live p d s lt)
+    ∙ ap (λ (x : Standing). record { settings = settings_of plan p; «record» = x.state }) (sym (standing-same plan past (next_move plan past p d) p refl))
+
+-- its hold
+pub moved_hold : (plan : Plan) (past : List Move) (p : ℕ) (d : Due) (x : PortData) → x ≡ port_after plan (past ++ next_move plan past p d ∷ []) p → hold x.settings x.«record» ≡ hold (settings_of plan p) (after plan (next_move plan past p d))
+moved_hold plan past p d x e =
+    ap (λ (z : PortData). hold z.settings z.«record») e ∙ ap (λ (z : Standing). hold (settings_of plan p) z.state) (standing-same plan past (next_move plan past p d) p refl)
+
+-- the same port, numbered from 1
+pub next_of_first : (plan : Plan) (live : LiveData) (p : ℕ) (d : Due) → IsFirst plan live p d → IsNext plan live (p + 1) d
+next_of_first plan live p d h = record { from_one = omega arith; first = subst (λ k. IsFirst plan live k d) (omega arith) h }
+
+-- the entry that a port leaves, by the moves
+pub entry_known : (plan : Plan) (past : List Move) (live : LiveData) (p : ℕ) (d : Due) (x : PortData) (a : Option Answer) → Stands plan past live → p < count plan → x ≡ port_at live p → a ≡ reply_at live p d → entry_of x.settings x.«record» d a ≡ (next_move plan past p d).entry
+entry_known plan past live p d x a s lt x_is a_is =
+    ap (λ (z : PortData). entry_of z.settings z.«record» d a) (x_is ∙ s.ports_are p lt)
+    ∙ ap (entry_of (settings_of plan p) (standing plan past p).state d) (a_is ∙ reply_known plan past live p d s lt)

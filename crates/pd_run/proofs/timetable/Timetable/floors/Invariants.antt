@@ -1,0 +1,9 @@
+use Rattle.std.proofs.Common.{◌≡◌, ◌≤◌, map, take, All}
+use Rattle.pd_port.specs.Settings.{floor_of}
+use Rattle.pd_run.proofs.timetable.Timetable.floors.Given as goal
+
+abbrev pub invariant-loop-settings : goal.invariant-loop-settings
+invariant-loop-settings g l = record {
+  floors : l.floors.items ≡ map floor_of (take l.settings-index l.settings-items);
+  least : All (λ floor. 500000 ≤ floor) l.floors.items;
+}

@@ -1,0 +1,6 @@
+pub mod Laws
+pub mod Live
+pub mod Order
+pub mod Run
+pub mod Shown
+pub mod Start

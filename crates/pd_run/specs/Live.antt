@@ -1,0 +1,84 @@
+-- Ports that move.
+use Rattle.std.specs.Prelude.{◌≡◌, ℕ, ◌-◌, ◌<◌, ◌≤◌, List, length, sum, slice_index, slice_index_or, slice_get, Option, Some, option_map}
+use Rattle.pd_objects.specs.declared.query.Answer.{Answer}
+use Rattle.pd_port.specs.declared.due.Due.{Due}
+use Rattle.pd_port.specs.Port.{PortData, due, ask, entry_of, record_after}
+use Rattle.pd_ledger.specs.Account.{Account, free_of}
+use Rattle.pd_ledger.specs.Offer.{answer_of}
+use Rattle.pd_scenario.specs.Plan.{Plan, count, settings_of, script_of}
+use Rattle.pd_run.specs.Order.{IsNoLater}
+use Rattle.pd_run.specs.Run.{Move, standing, account_after, reply_after}
+use Rattle.pd_run.specs.Start.{no_port}
+
+-- the ports, how many events each has had, and the shared budget
+pub record LiveData : Type 0 where
+  pub ports : List PortData
+  pub taken : List ℕ
+  pub account : Account
+
+-- the port of this number, the ports being numbered from 0 here
+abbrev pub port_at : LiveData → ℕ → PortData
+port_at live p = slice_index_or live.ports p no_port
+
+-- what falls due on a port
+abbrev pub due_at : Plan → LiveData → ℕ → Option Due
+due_at plan live p = due (port_at live p).«record» (slice_get (script_of plan p) (slice_index live.taken p))
+
+-- a port of these settings stands where these moves have left it
+abbrev pub port_after : Plan → List Move → ℕ → PortData
+port_after plan past p = record { settings = settings_of plan p; «record» = (standing plan past p).state }
+
+-- the ports, the events that they have had and the shared budget are as these moves leave them
+pub record Stands (plan : Plan) (past : List Move) (live : LiveData) : Type 0 where
+  pub ports_count : length live.ports ≡ count plan
+  pub taken_count : length live.taken ≡ count plan
+  pub ports_are : (p : ℕ) → p < count plan → port_at live p ≡ port_after plan past p
+  pub taken_are : (p : ℕ) → p < count plan → slice_index live.taken p ≡ (standing plan past p).taken
+  pub account_is : live.account ≡ account_after plan past
+  pub funded : sum live.account.holds ≤ live.account.budget
+
+-- the move that a due on a port makes after these moves
+abbrev pub next_move : Plan → List Move → ℕ → Due → Move
+next_move plan past p d = record {
+  port = p;
+  before = (standing plan past p).state;
+  due = d;
+  answer = reply_after plan past p (ask (settings_of plan p) (standing plan past p).state d);
+  entry = entry_of (settings_of plan p) (standing plan past p).state d (reply_after plan past p (ask (settings_of plan p) (standing plan past p).state d));
+}
+
+-- among the ports below n, the due of this port is the first one, and not after the end
+pub record IsFirstOf (plan : Plan) (live : LiveData) (n p : ℕ) (d : Due) : Type 0 where
+  pub known : p < n
+  pub is_due : due_at plan live p ≡ Some d
+  pub soon : d.time ≤ plan.end
+  pub least : (q : ℕ) (f : Due) → q < n → due_at plan live q ≡ Some f → IsNoLater d.time p f.time q
+
+-- the due of this port is the first one
+abbrev pub IsFirst : Plan → LiveData → ℕ → Due → Type 0
+IsFirst plan live p d = IsFirstOf plan live (count plan) p d
+
+-- nothing falls due on the ports below n up to the end
+pub record IsOver (plan : Plan) (live : LiveData) (n : ℕ) : Type 0 where
+  pub late : (q : ℕ) (f : Due) → q < n → due_at plan live q ≡ Some f → plan.end < f.time
+
+-- the answer that the port gets for a due
+abbrev pub reply_at : LiveData → ℕ → Due → Option Answer
+reply_at live p d = option_map (answer_of (free_of live.account p)) (ask (port_at live p).settings (port_at live p).«record» d)
+
+-- the port as its move for a due leaves it
+abbrev pub moved_port : LiveData → ℕ → Due → PortData
+moved_port live p d = record {
+  settings = (port_at live p).settings;
+  «record» = record_after (port_at live p).settings (port_at live p).«record» d (reply_at live p d);
+}
+
+-- the due of this port, which is numbered from 1 here, is the first one
+pub record IsNext (plan : Plan) (live : LiveData) (port : ℕ) (d : Due) : Type 0 where
+  pub from_one : 1 ≤ port
+  pub first : IsFirst plan live (port - 1) d
+
+-- there are n ports
+pub record HasPorts (n : ℕ) (live : LiveData) : Type 0 where
+  pub ports_count : length live.ports ≡ n
+  pub taken_count : length live.taken ≡ n

@@ -1,0 +1,28 @@
+-- What a runner stands for.
+use Rattle.std.specs.Prelude.{◌≡◌, ℕ, List, [], map, Option, Some, None}
+use Rattle.pd_port.specs.declared.entry.Entry.{Entry}
+use Rattle.pd_scenario.specs.Plan.{Plan, IsPlan}
+use Rattle.pd_run.specs.Run.{Move, Run, shown}
+use Rattle.pd_run.specs.Laws.{IsWithin}
+
+-- these are the entries of the plan's run, in which all that the ports hold is always within the budget
+pub record Shows (plan : Plan) (entries : List (ℕ × Entry)) : Type 0 where
+  pub moves : List Move
+  pub run : Run plan moves
+  pub within : IsWithin plan moves
+  pub entries_are : entries ≡ map shown moves
+
+-- a plan, if there is one, and the entries of its run
+pub record Shown : Type 0 where
+  pub plan : Option Plan
+  pub entries : List (ℕ × Entry)
+
+-- these are the entries of the run of a plan of n ports
+pub record IsShown (n : ℕ) (plan : Plan) (entries : List (ℕ × Entry)) : Type 0 where
+  pub is_plan : IsPlan n plan
+  pub shows : Shows plan entries
+
+-- the entries are those of the plan's run; where there is no plan there are none
+abbrev pub IsKept : ℕ → Option Plan → List (ℕ × Entry) → Type 0
+IsKept n None entries = entries ≡ []
+IsKept n (Some plan) entries = IsShown n plan entries

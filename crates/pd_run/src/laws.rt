@@ -1,0 +1,13 @@
+//! What holds of runs.
+
+ghost use Rattle.pd_run.specs.Laws.{OneRun, AlwaysFit};
+
+/// A plan has at most one run.
+pub fn one_run()
+    ensures { OneRun }
+{}
+
+/// The ports' holds fit the budget at the start of a run and after each of its moves.
+pub fn always_fit()
+    ensures { AlwaysFit }
+{}

@@ -1,0 +1,148 @@
+//! Ports that move.
+
+ghost use Rattle.std.specs.Prelude.{◌≡◌, ℕ, ◌+◌, ◌-◌, ◌<◌, ◌≤◌, ◌∷◌, ◌++◌, ◌↔◌, List, [], IfOk, MatchOption, IsTrue, ⊤, option_map};
+ghost use Rattle.pd_port.specs.Port.{is_event};
+ghost use Rattle.pd_ledger.specs.Account.{free_of};
+ghost use Rattle.pd_ledger.specs.Offer.{answer_of};
+ghost use Rattle.pd_scenario.specs.Plan.{Plan, IsPlan, count};
+ghost use Rattle.pd_run.specs.Run.{Move};
+ghost use Rattle.pd_run.specs.Live.{LiveData, Stands, IsFirstOf, IsNext, IsOver, due_at, next_move, port_at, reply_at, moved_port};
+
+use crate::Timetable;
+use pd_ledger::Ledger;
+use pd_objects::{Answer, Query};
+use pd_port::{Due, Port, What};
+use std::alloc::{AllocError, Global};
+use std::marker::Model;
+
+/// N ports as they stand, 1 to 8, how many events each has had, and the shared budget. Ports are numbered from 1.
+#[derive(Drop)]
+pub struct Live<const N: usize> {
+    ports: Vec<Port>,
+    taken: Vec<usize>,
+    ledger: Ledger<N>,
+}
+
+impl<const N: usize> Model for Live<N> {
+    ghost use Rattle.pd_run.specs.Live.{LiveData, HasPorts};
+
+    ghost Value = { LiveData };
+
+    ghost view = { λ l. record { ports = l.ports.items; taken = l.taken.items; account = l.ledger } };
+
+    ghost invariant = { λ l. HasPorts N (record { ports = l.ports.items; taken = l.taken.items; account = l.ledger }) };
+}
+
+impl<const N: usize> Live<N> {
+    /// Each port at the start.
+    ///
+    /// # Errors
+    /// There is no memory.
+    pub fn new(alloc: Global, plan: &Timetable<N>) -> Result<Live<N>, AllocError>
+        ensures { IfOk result (λ live. Stands plan.now [] live) }
+    {
+        let floors = plan.floors(alloc)?;
+        Ok(Live {
+            ports: plan.ports(alloc)?,
+            taken: vec![in alloc; 0; N]?,
+            ledger: Ledger::new(plan.budget(), floors.as_slice()),
+        })
+    }
+
+    /// The port that moves next, with what falls due on it, if that isn't after the end.
+    pub fn next(&self, plan: &Timetable<N>) -> Option<(usize, Due)>
+        ensures next { MatchOption result (IsOver plan.now self.now (count plan.now)) (λ r. IsNext plan.now self.now r.0 r.1) }
+        ensures is_plan { IsPlan N plan.now }
+    {
+        let (port, due) = self.first(plan)?;
+        Some((port + 1, due))
+    }
+
+    /// A port as it stands.
+    pub fn port(&self, port: usize) -> &Port
+        requires first { 1 ≤ port }
+        requires last { port ≤ N }
+        ensures { result.now ≡ port_at self.now (port - 1) }
+    {
+        &self.ports[port - 1]
+    }
+
+    /// The answer to what a port asks at a due.
+    pub fn reply(&self, port: usize, due: &Due) -> Option<Answer>
+        requires first { 1 ≤ port }
+        requires last { port ≤ N }
+        ensures { result ≡ reply_at self.now (port - 1) due.now }
+    {
+        let query = self.ports[port - 1].ask(due);
+        reply(&self.ledger, port, query)
+    }
+
+    /// Puts the port that moves next to where its move for what falls due has left it.
+    pub fn settle(&mut self, plan: &Timetable<N>, port: usize, due: &Due, after: Port)
+        requires plan { IsPlan N plan.now }
+        requires stands { (past : List Move) × Stands plan.now past self.old }
+        requires next { IsNext plan.now self.old port due.now }
+        requires after { after ≡ moved_port self.old (port - 1) due.now }
+        ensures { (past : List Move) → Stands plan.now past self.old
+            → Stands plan.now (past ++ next_move plan.now past (port - 1) due.now ∷ []) self.new }
+    {
+        let hold = after.hold();
+        self.ports[port - 1] = after;
+        self.ledger.set_hold(port, hold);
+        if is_event(&due.what) {
+            self.taken[port - 1] += 1;
+        }
+    }
+
+    // Like `next`, with the ports numbered from 0.
+    fn first(&self, plan: &Timetable<N>) -> Option<(usize, Due)>
+        ensures first { MatchOption result (IsOver plan.now self.now N) (λ r. IsFirstOf plan.now self.now N r.0 r.1) }
+        ensures is_plan { IsPlan N plan.now }
+    {
+        let end = plan.end();
+        let mut first: Option<(usize, Due)> = None;
+        for port in 0..N {
+            if let Some(due) = self.due(plan, port) {
+                if due.time <= end && is_before(&due, &first) {
+                    first = Some((port, due));
+                }
+            }
+        }
+        first
+    }
+
+    fn due(&self, plan: &Timetable<N>, port: usize) -> Option<Due>
+        requires { port < N }
+        ensures { result ≡ due_at plan.now self.now port }
+    {
+        let taken = self.taken[port];
+        self.ports[port].due(plan.event(port + 1, taken))
+    }
+}
+
+// The ledger's answer to a query, if there is one.
+fn reply<const N: usize>(ledger: &Ledger<N>, port: usize, query: Option<Query>) -> Option<Answer>
+    requires first { 1 ≤ port }
+    requires last { port ≤ N }
+    ensures { result ≡ option_map (answer_of (free_of ledger.now (port - 1))) query }
+{
+    match query {
+        Some(query) => Some(ledger.answer(port, &query)),
+        None => None,
+    }
+}
+
+fn is_event(what: &What) -> bool
+    ensures { result ≡ is_event what.now }
+{
+    matches!(what, What::Event(_))
+}
+
+fn is_before(due: &Due, first: &Option<(usize, Due)>) -> bool
+    ensures { IsTrue result ↔ MatchOption first.now ⊤ (λ r. due.now.time < r.1.time) }
+{
+    match first {
+        None => true,
+        Some((_, first)) => due.time < first.time,
+    }
+}

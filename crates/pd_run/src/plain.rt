@@ -1,0 +1,96 @@
+//! The runner that runs each plan from its start.
+
+ghost use Rattle.std.specs.Prelude.{◌≡◌, ℕ, ◌+◌, ◌≤◌, ◌∷◌, ◌++◌, List, [], IfOk, OnOk, OnErr, map, length, Some};
+ghost use Rattle.pd_port.specs.Meter.{raised};
+ghost use Rattle.pd_scenario.specs.Plans.{plan_of};
+ghost use Rattle.pd_run.specs.Shown.{Shows, IsShown};
+
+use crate::{Live, Runner, Timetable};
+use pd_port::{Entry, Meter};
+use pd_scenario::Scenario;
+use std::alloc::{AllocError, Global};
+use std::marker::Model;
+
+/// A runner that runs each plan from its start.
+#[derive(Drop)]
+pub struct Plain<const N: usize> {
+    plan: Option<Timetable<N>>,
+    entries: Vec<(usize, Entry)>,
+}
+
+impl<const N: usize> Model for Plain<N> {
+    ghost use Rattle.pd_run.specs.Shown.{Shown, IsKept};
+
+    ghost Value = { Shown };
+
+    ghost view = { λ r. record { plan = r.plan; entries = r.entries.items } };
+
+    ghost invariant = { λ r. IsKept N r.plan r.entries.items };
+}
+
+impl<const N: usize> Runner<N> for Plain<N> {
+    ghost plan = { λ r. r.plan };
+
+    ghost entries = { λ r. r.entries };
+
+    fn empty(alloc: Global) -> Plain<N> {
+        Plain {
+            plan: None,
+            entries: Vec::new(alloc),
+        }
+    }
+
+    fn replace(
+        &mut self,
+        alloc: Global,
+        scenario: &Scenario<N>,
+        meter: &mut Meter,
+    ) -> Result<(), AllocError>
+        ensures plan { OnOk result (self.new.plan ≡ Some (plan_of scenario.now)) }
+        ensures run { OnOk result (Shows (plan_of scenario.now) self.new.entries) }
+        ensures same_plan { OnErr result (self.new.plan ≡ self.old.plan) }
+        ensures same_run { OnErr result (self.new.entries ≡ self.old.entries) }
+        ensures rises { meter.old ≤ meter.new }
+        ensures cost { OnOk result (meter.new ≡ raised meter.old (length self.new.entries)) }
+    {
+        let plan = Timetable::of_scenario(alloc, scenario)?;
+        let entries = run(alloc, &plan, meter)?;
+        let _end = plan.end();
+        self.entries = entries;
+        self.plan = Some(plan);
+        Ok(())
+    }
+
+    fn len(&self) -> usize {
+        let _plan = &self.plan;
+        self.entries.len()
+    }
+
+    fn entry(&self, i: usize) -> Option<(usize, &Entry)> {
+        let (port, entry) = self.entries.get(i)?;
+        Some((*port, entry))
+    }
+}
+
+// Runs a plan from its start: its ports and entries in turn, with a step of the meter for each.
+fn run<const N: usize>(
+    alloc: Global,
+    plan: &Timetable<N>,
+    meter: &mut Meter,
+) -> Result<Vec<(usize, Entry)>, AllocError>
+    ensures run { IfOk result (λ entries. Shows plan.now entries.items) }
+    ensures cost { IfOk result (λ entries. meter.new ≡ raised meter.old (length entries.items)) }
+    ensures rises { meter.old ≤ meter.new }
+{
+    let _count = meter.count();
+    let mut live = Live::new(alloc, plan)?;
+    let mut entries = Vec::new(alloc);
+    while let Some((port, due)) = live.next(plan) {
+        let answer = live.reply(port, &due);
+        let mut after = live.port(port).copy();
+        let entry = after.step(&due, answer, meter);
+        live.settle(plan, port, &due, after);
+        entries.push((port, entry))?;
+    }
+    Ok(entries)
+}

@@ -1,0 +1,138 @@
+//! A plan, as a runner keeps it.
+
+ghost use Rattle.std.specs.Prelude.{◌≡◌, ℕ, ◌+◌, ◌-◌, ◌<◌, ◌≤◌, slice_get, map, All, IfOk};
+ghost use Rattle.std.specs.Option.{option_copied};
+ghost use Rattle.pd_scenario.specs.Plan.{Plan, IsPlan, settings_of, script_of, floors_of};
+ghost use Rattle.pd_scenario.specs.Plans.{plan_of};
+ghost use Rattle.pd_run.specs.Start.{start_of};
+
+use pd_port::{Event, Port, Settings};
+use pd_scenario::Scenario;
+use std::alloc::{AllocError, Global};
+use std::marker::Model;
+
+/// What a scenario asks of each of N ports, 1 to 8, the shared budget and the end. Ports are numbered from 1.
+#[derive(Drop)]
+pub struct Timetable<const N: usize> {
+    settings: Vec<Settings>,
+    scripts: Vec<Vec<Event>>,
+    budget: u64,
+    end: u64,
+}
+
+impl<const N: usize> Model for Timetable<N> {
+    ghost use Rattle.std.specs.Prelude.{map};
+    ghost use Rattle.pd_scenario.specs.Plan.{Plan, IsPlan};
+
+    ghost Value = { Plan };
+
+    ghost view = { λ t. record { settings = t.settings.items; scripts = map (λ v. v.items) t.scripts.items; budget = t.budget; end = t.end } };
+
+    ghost invariant = { λ t. IsPlan N (record { settings = t.settings.items; scripts = map (λ v. v.items) t.scripts.items; budget = t.budget; end = t.end }) };
+}
+
+impl<const N: usize> Timetable<N> {
+    /// What a scenario asks.
+    ///
+    /// # Errors
+    /// There is no memory.
+    pub fn of_scenario(alloc: Global, scenario: &Scenario<N>) -> Result<Timetable<N>, AllocError>
+        ensures { IfOk result (λ timetable. timetable ≡ plan_of scenario.now) }
+    {
+        let settings = settings_of(alloc, scenario)?;
+        let scripts = scripts_of(alloc, scenario)?;
+        Ok(Timetable {
+            settings,
+            scripts,
+            budget: scenario.budget(),
+            end: scenario.end_time(),
+        })
+    }
+
+    /// What a port is set to.
+    pub fn settings(&self, port: usize) -> &Settings
+        requires first { 1 ≤ port }
+        requires last { port ≤ N }
+        ensures settings { result.now ≡ settings_of self.now (port - 1) }
+        ensures is_plan { IsPlan N self.now }
+    {
+        &self.settings[port - 1]
+    }
+
+    /// An event of a port, by its place in the port's script.
+    pub fn event(&self, port: usize, place: usize) -> Option<&Event>
+        requires first { 1 ≤ port }
+        requires last { port ≤ N }
+        ensures event { option_copied result ≡ slice_get (script_of self.now (port - 1)) place }
+        ensures is_plan { IsPlan N self.now }
+    {
+        self.scripts[port - 1].get(place)
+    }
+
+    /// The shared budget in microwatts.
+    pub fn budget(&self) -> u64
+        ensures budget { result ≡ self.now.budget }
+        ensures is_plan { IsPlan N self.now }
+    {
+        let _end = self.end;
+        self.budget
+    }
+
+    /// The end in microseconds.
+    pub fn end(&self) -> u64
+        ensures end { result ≡ self.now.end }
+        ensures is_plan { IsPlan N self.now }
+    {
+        let _budget = self.budget;
+        self.end
+    }
+
+    /// Each port's floor in microwatts.
+    pub(crate) fn floors(&self, alloc: Global) -> Result<Vec<u64>, AllocError>
+        ensures floors { IfOk result (λ v. v.items ≡ floors_of self.now) }
+        ensures least { IfOk result (λ v. All (λ floor. 500000 ≤ floor) v.items) }
+    {
+        let mut floors = Vec::new(alloc);
+        for settings in &self.settings {
+            floors.push(u64::from(settings.floor_mw()) * 1_000)?;
+        }
+        Ok(floors)
+    }
+
+    /// Each port at the start.
+    pub(crate) fn ports(&self, alloc: Global) -> Result<Vec<Port>, AllocError>
+        ensures { IfOk result (λ v. v.items ≡ map start_of self.now.settings) }
+    {
+        self.settings.iter().map(|s| Port::new(s)).collect(alloc)
+    }
+}
+
+// What each port is set to.
+fn settings_of<const N: usize>(
+    alloc: Global,
+    scenario: &Scenario<N>,
+) -> Result<Vec<Settings>, AllocError>
+    ensures { IfOk result (λ settings. settings.items ≡ (plan_of scenario.now).settings) }
+{
+    let _end = scenario.end_time();
+    let mut settings = Vec::new(alloc);
+    for port in 0..N {
+        settings.push(scenario.settings(port + 1).copy())?;
+    }
+    Ok(settings)
+}
+
+// The script of each port.
+fn scripts_of<const N: usize>(
+    alloc: Global,
+    scenario: &Scenario<N>,
+) -> Result<Vec<Vec<Event>>, AllocError>
+    ensures { IfOk result (λ scripts. map (λ script. script.items) scripts.items ≡ (plan_of scenario.now).scripts) }
+{
+    let _end = scenario.end_time();
+    let mut scripts = Vec::new(alloc);
+    for port in 0..N {
+        scripts.push(scenario.script(alloc, port + 1)?)?;
+    }
+    Ok(scripts)
+}
