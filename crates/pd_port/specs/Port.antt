@@ -28,7 +28,8 @@ use Rattle.pd_line.specs.declared.record.Record.{Record}
 use Rattle.pd_line.specs.declared.record.Line.{Line}
 use Rattle.pd_line.specs.declared.record.Line.TheVariants.{Idle, Message, Pause, GoodCrc, NoAnswer}
 use Rattle.pd_line.specs.declared.work.Work.{Work}
-use Rattle.pd_line.specs.Record.{PortRecord, with_settings, without_settings, nothing_attached}
+pub use Rattle.pd_line.specs.Record.{PortRecord}
+use Rattle.pd_line.specs.Record.{with_settings, without_settings, nothing_attached}
 use Rattle.pd_line.specs.Later.{line_end}
 use Rattle.pd_line.specs.Work.{noted, tells_timer, tells_attach}
 use Rattle.pd_line.specs.Lines.{line_ends, line_starts}
