@@ -1,5 +1,5 @@
 -- The table's entries are what eight places of the division leave of each byte.
-use Rattle.std.proofs.Common.{◌≡◌, ℕ, ◌<◌, ◌^◌, Bool, true, false, List, [], ◌++◌, length, get_or, bit_xor, refl, sym, ap, ◌∙◌, arith}
+use Rattle.std.proofs.Common.{◌≡◌, ℕ, Bool, true, false, List, [], ◌++◌, length, refl, sym, ap, ◌∙◌, arith}
 use Rattle.std.specs.Prelude.{fold, replicate}
 use Rattle.std.specs.Int.Bits.{xor_zero_l}
 use Rattle.pd_symbols.specs.Words.{bits}
@@ -9,7 +9,7 @@ use Rattle.pd_packet.specs.Check.{added, divided}
 use Rattle.pd_packet.specs.Register.{step}
 use Rattle.pd_packet.specs.Laws.{EntriesAreDivided}
 use Rattle.pd_packet.proofs.Division.{divided-register}
-use Rattle.pd_packet.proofs.ByteTable.{added-zeros_after, byte_first, entry, feed_in, run, run_is, runs_from}
+use Rattle.pd_packet.proofs.ByteTable.{added-zeros_after, byte_first, entry, feed_in, run_is, runs_from}
 
 pub right : runs_from 0 TABLE ≡ true
 right = refl
