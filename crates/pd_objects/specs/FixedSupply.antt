@@ -9,6 +9,14 @@ pub record FixedSupplyData : Type 0 where
   pub voltage : ℕ
   pub current : ℕ
 
+-- the flag of unconstrained power, bit 27 of the object
+abbrev pub unconstrained_power : ℕ
+unconstrained_power = 8
+
+-- the greatest current that an object states, in 10 mA
+abbrev pub greatest_current : ℕ
+greatest_current = 1023
+
 -- each field is within its bits
 pub record IsFixedSupply (v : FixedSupplyData) : Type 0 where
   pub flags_fit : v.flags < 64

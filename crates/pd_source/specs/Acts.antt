@@ -2,7 +2,7 @@
 use Rattle.std.specs.Prelude.{ℕ, ◌+◌, ◌/◌, Bool, false, if◌then◌else◌, List, [], ◌∷◌, ◌++◌, Option, Some, min}
 use Rattle.pd_timers.specs.Deadlines.{idle, started}
 use Rattle.pd_objects.specs.Supply.{SupplyData}
-use Rattle.pd_objects.specs.FixedSupply.{word_of}
+use Rattle.pd_objects.specs.FixedSupply.{word_of, unconstrained_power, greatest_current}
 use Rattle.pd_objects.specs.declared.query.Answer.{Answer}
 use Rattle.pd_objects.specs.declared.query.Answer.TheVariants as answer
 use Rattle.pd_source.specs.declared.kinds.Message.{Message}
@@ -15,9 +15,13 @@ use Rattle.pd_source.specs.declared.kinds.Deed.{Deed}
 use Rattle.pd_source.specs.declared.kinds.Deed.TheVariants as deed
 use Rattle.pd_source.specs.Record.{SourceSettings, SourceRecord}
 
--- a counter rises up to 255 and then stays
+-- where a counter stays
+abbrev pub greatest_count : ℕ
+greatest_count = 255
+
+-- a counter rises up to its greatest value and then stays
 abbrev pub rise : ℕ → ℕ
-rise n = min (n + 1) 255
+rise n = min (n + 1) greatest_count
 
 -- the offer that is being made, after an answer
 abbrev pub draft_from : Option Answer → List ℕ → List ℕ
@@ -28,7 +32,7 @@ draft_from _ old = old
 -- Bit 27 tells that the power is unconstrained.
 abbrev pub object_of : Bool → SupplyData → ℕ → ℕ
 object_of unconstrained supply ma =
-    word_of (record { flags = if unconstrained then 8 else 0; peak_current = 0; voltage = supply.mv / 50; current = min (ma / 10) 1023 })
+    word_of (record { flags = if unconstrained then unconstrained_power else 0; peak_current = 0; voltage = supply.mv / 50; current = min (ma / 10) greatest_current })
 
 -- the objects of Source_Capabilities, one for each supply with its current; flags stand in the first alone
 abbrev pub capabilities : Bool → List SupplyData → List ℕ → List ℕ

@@ -26,13 +26,17 @@ pub record SourceData : Type 0 where
   pub settings : SourceSettings
   pub «record» : SourceRecord
 
--- the record of a detached port, and so at the attach: a cable that is never asked carries 3,000 mA
+-- the current in mA that each cable carries (USB Type-C)
+abbrev pub cable_current : ℕ
+cable_current = 3000
+
+-- the record of a detached port, and so at the attach: of a cable that is never asked no more is known
 abbrev pub off : SourceSettings → SourceRecord
 off s = record {
   state = state.Off;
   deadlines = idle;
   caps = 0;
-  limit = if s.identity_tries == 0 then Some 3000 else None;
+  limit = if s.identity_tries == 0 then Some cable_current else None;
   sent = false;
   draft_offer = [];
   delivered_offer = [];

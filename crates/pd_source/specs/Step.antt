@@ -10,7 +10,7 @@ use Rattle.pd_source.specs.declared.kinds.State.TheVariants as state
 use Rattle.pd_source.specs.declared.kinds.Stimulus.{Stimulus}
 use Rattle.pd_source.specs.declared.kinds.Stimulus.TheVariants as stimulus
 use Rattle.pd_source.specs.declared.kinds.Act.{Act}
-use Rattle.pd_source.specs.Record.{SourceSettings, SourceRecord}
+use Rattle.pd_source.specs.Record.{SourceSettings, SourceRecord, cable_current}
 use Rattle.pd_source.specs.Table.{Row, holds, row_of, deeds_of_row, asks_offer}
 use Rattle.pd_source.specs.Acts.{all_after, all_wants}
 
@@ -34,7 +34,7 @@ acts_of s now x a r = all_wants s (deeds_of_row (row_at s x a (before_row x r)))
 
 -- which currents may be offered on the supplies through the cable
 abbrev pub offer_query : SourceSettings → SourceRecord → Query
-offer_query s r = query.Offer (record { items = s.supplies }) (unwrap_or r.limit 3000)
+offer_query s r = query.Offer (record { items = s.supplies }) (unwrap_or r.limit cable_current)
 
 -- what the engine asks before a step: for an offer, on each row that makes one
 unfoldable pub query_of : SourceSettings → Stimulus → SourceRecord → Option Query

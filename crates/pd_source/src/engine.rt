@@ -18,6 +18,9 @@ use pd_objects::{Answer, FixedSupply, Query, Supply, SupplyFlags};
 use pd_timers::{Deadlines, Timer};
 use std::marker::Model;
 
+/// The current in mA that each cable carries (USB Type-C).
+const CABLE_CURRENT_MA: u32 = 3_000;
+
 /// The source's policy engine.
 #[derive(Drop)]
 pub struct Source {
@@ -76,7 +79,7 @@ impl Source {
             deadlines: Deadlines::new(),
             caps: 0,
             limit: if identity_tries == 0 {
-                Some(3_000)
+                Some(CABLE_CURRENT_MA)
             } else {
                 None
             },
@@ -126,7 +129,7 @@ impl Source {
     {
         Query::Offer {
             supplies: copied(self.supplies.as_slice()),
-            limit_ma: self.limit.unwrap_or(3_000),
+            limit_ma: self.limit.unwrap_or(CABLE_CURRENT_MA),
         }
     }
 
@@ -280,6 +283,9 @@ fn greatest_power(floor: u64, supplies: &[Supply], offer: &[u32]) -> u64
     greatest
 }
 
+/// The greatest current that an object states, in 10 mA.
+const GREATEST_CURRENT: u32 = 1_023;
+
 /// An object of Source_Capabilities: a supply with a current in mA.
 fn object(unconstrained: bool, supply: &Supply, ma: u32) -> u32
     ensures { result ≡ object_of unconstrained supply.now ma }
@@ -293,7 +299,7 @@ fn object(unconstrained: bool, supply: &Supply, ma: u32) -> u32
         flags,
         0,
         (supply.mv() / 50) as u16,
-        (ma / 10).min(1_023) as u16,
+        (ma / 10).min(GREATEST_CURRENT) as u16,
     )
     .pack()
 }
