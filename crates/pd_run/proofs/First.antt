@@ -53,10 +53,12 @@ Passes plan f (Some r) = r.1.time ≤ f.time
 pub keeps : (plan : Plan) (live : LiveData) (n : ℕ) (first : Option (ℕ × Due)) → IsSoFar plan live n first →
     ((f : Due) → due_at plan live n ≡ Some f → Passes plan f first) → IsSoFar plan live (n + 1) first
 keeps plan live n None h p =
-    record { late = λ q f below g. elim (below_more q n below) [
-      | inl k ↦ h.late q f k g
-      | inr k ↦ p f (ap (due_at plan live) (sym k) ∙ g)
-    ] }
+    record {
+      late = λ q f below g. elim (below_more q n below) [
+        | inl k ↦ h.late q f k g
+        | inr k ↦ p f (ap (due_at plan live) (sym k) ∙ g)
+      ];
+    }
 keeps plan live n (Some r) h p =
     let known = h.known in
     record {
