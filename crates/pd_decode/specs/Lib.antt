@@ -1,0 +1,4 @@
+pub mod Argument
+pub mod Decoding
+pub mod Laws
+pub mod Lines
