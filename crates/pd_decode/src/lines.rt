@@ -20,7 +20,11 @@ pub(crate) fn packet_text(packet: &Packet) -> Text<WIDTH>
     for object in objects {
         push_word(&mut text, b"object ", *object);
     }
-    push_word(&mut text, b"check ", check_of_words(packet.header(), objects));
+    push_word(
+        &mut text,
+        b"check ",
+        check_of_words(packet.header(), objects),
+    );
     text
 }
 
@@ -55,9 +59,9 @@ fn set_text(channel: Channel) -> Text<WIDTH>
 }
 
 fn push_header(text: &mut Text<WIDTH>, header: u16)
-    requires { length text.old + 83 ≤ WIDTH }
+    requires { length text.old + 84 ≤ WIDTH }
     ensures bytes { text.new ≡ text.old ++ header_line header }
-    ensures grows { length text.new ≤ length text.old + 83 }
+    ensures grows { length text.new ≤ length text.old + 84 }
 {
     let name = header_kind(header).name();
     text.push_all(b"header ");
