@@ -6,7 +6,12 @@ mod decoded;
 mod decoding;
 pub mod laws;
 mod lines;
+mod printing;
 
 pub use argument::read_codes;
 pub use decoded::Decoded;
 pub use decoding::decode;
+pub use printing::print_decoded;
+
+#[cfg(test)]
+mod tests;

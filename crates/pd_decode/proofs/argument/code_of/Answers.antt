@@ -1,5 +1,5 @@
-use Rattle.std.proofs.Common.{◌≡◌, ◌<◌, ℕ, ◌%◌, ◌/◌, arith, lit<, length}
-use Rattle.pd_decode.proofs.ArgumentLemmas.{IsCodeText, code_text-two, code_text_digits, digits_code_text}
+use Rattle.std.proofs.Common.{◌<◌, ◌%◌, ◌/◌, arith}
+use Rattle.pd_decode.proofs.ArgumentLemmas.{code_text-two, code_text_digits, digits_code_text}
 use Rattle.pd_decode.proofs.argument.code_of.Goals as goal
 
 pub returns-in_default-clause-none : goal.returns-in_default-clause-none

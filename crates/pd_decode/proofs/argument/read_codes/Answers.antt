@@ -2,7 +2,7 @@ use Rattle.std.proofs.Common.{rules, tests, ◌==◌, [], ◌∷◌}
 use Rattle.std.proofs.lemmas.Iterator.Splits.{YieldsList-from_slice_split}
 use Rattle.std.proofs.lemmas.Iterator.Consumers.{YieldsList-turn, YieldsList-end}
 use Rattle.std.proofs.lemmas.List.{map-append}
-use Rattle.pd_decode.proofs.ArgumentLemmas.{IsSoFar, SoFar-push, SoFar-all, no_part_fails}
+use Rattle.pd_decode.proofs.ArgumentLemmas.{SoFar-push, SoFar-all, no_part_fails}
 use Rattle.pd_decode.proofs.argument.read_codes.Goals as goal
 
 pub returns-in_default-clause-none : goal.returns-in_default-clause-none
