@@ -1,4 +1,8 @@
+ghost use Rattle.std.specs.Prelude.{Some};
+
 use super::*;
+use arrayvec::ArrayVec;
+use pd_report::{BenchFault, DeviceFault, TextOut};
 use std::test::*;
 
 /// What is printed for packets.
@@ -72,4 +76,45 @@ fn others(rt: HostRuntime) -> Result<(), Fail> {
         assert_eq!(rt; decoded.status(), 1);
     }
     Ok(())
+}
+
+/// A writer that keeps what it takes, and fails once it is full.
+#[derive(Drop)]
+struct Page<const CAP: usize> {
+    text: ArrayVec<u8, CAP>,
+    failures: u64,
+}
+
+impl<const CAP: usize> TextOut for Page<CAP> {
+    ghost taken = { λ p. Some p.text.items };
+
+    ghost failures = { λ p. p.failures };
+
+    fn write(&mut self, bytes: &[u8]) -> Result<usize, DeviceFault> {
+        let count = bytes.len().min(self.text.remaining_capacity());
+        if count == 0 && !bytes.is_empty() {
+            self.failures = self.failures.saturating_add(1);
+            return Err(DeviceFault);
+        }
+        self.text.try_extend_from_slice(&bytes[..count]).unwrap();
+        Ok(count)
+    }
+}
+
+/// All is written, or what there is room for.
+#[test]
+fn printed(rt: HostRuntime) {
+    let mut page = Page::<64> {
+        text: ArrayVec::new(),
+        failures: 0,
+    };
+    assert_eq!(rt; print_decoded(rt.alloc(), b"18 18 18", &mut page), Ok(1));
+    assert_eq!(rt; page.text.as_slice(), b"fault 1\n".as_slice());
+    let mut page = Page::<5> {
+        text: ArrayVec::new(),
+        failures: 0,
+    };
+    let printed = print_decoded(rt.alloc(), b"18 18 18", &mut page);
+    assert_eq!(rt; printed, Err(BenchFault::WriteFailed));
+    assert_eq!(rt; page.text.as_slice(), b"fault".as_slice());
 }
