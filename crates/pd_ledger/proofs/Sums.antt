@@ -2,7 +2,7 @@ use Rattle.std.proofs.Common.{◌≡◌, ◌≢◌, ⊎_elim, ℕ, ◌+◌, ◌-
 use Rattle.std.proofs.lemmas.List.Sums.{sum_by-set}
 use Rattle.std.proofs.lemmas.List.{get_or-set_same, get_or-set_other, length-set}
 use Rattle.std.proofs.lemmas.Bool.{cases_eq}
-use Rattle.pd_ledger.specs.Account.{IsKept, Account, free_of}
+use Rattle.pd_ledger.specs.Account.{IsLedger, Account, free_of}
 
 -- the sum after a write
 pub sum-set : (xs : List ℕ) (p y : ℕ) → p < length xs → sum (slice_set xs p y) + slice_index xs p ≡ sum xs + y
@@ -13,8 +13,8 @@ floored-set n p h fs hs old len lt low k kn =
     ⊎_elim (λ (e : k ≡ p). let at : p < length hs = omega arith in rw (e, get_or-set_same) low) (λ (ne : k ≢ p). rw get_or-set_other (old k kn)) (cases_eq k p)
 
 -- the account after a write
-pub IsKept-set : (n b p h t : ℕ) (fs hs : List ℕ) → IsKept n b fs hs t → p < n → slice_index fs p ≤ h → h ≤ b - sum (slice_set hs p 0) → IsKept n b fs (slice_set hs p h) (t - slice_index hs p + h)
-IsKept-set n b p h t fs hs kept lt low high =
+pub IsLedger-set : (n b p h t : ℕ) (fs hs : List ℕ) → IsLedger n b fs hs t → p < n → slice_index fs p ≤ h → h ≤ b - sum (slice_set hs p 0) → IsLedger n b fs (slice_set hs p h) (t - slice_index hs p + h)
+IsLedger-set n b p h t fs hs kept lt low high =
     let inside : p < length hs = omega (arith, kept.holds_count) in
     let to_zero = sum-set hs p 0 inside in
     let to_hold = sum-set hs p h inside in

@@ -13,7 +13,7 @@ free_of a p = a.budget - sum (slice_set a.holds p 0)
 
 -- What a ledger of n ports keeps: no floor is below half a watt, no hold is below its port's floor, and the holds, whose
 -- total is kept, add to at most the budget.
-pub record IsKept (n budget : ℕ) (floors holds : List ℕ) (total : ℕ) : Type 0 where
+pub record IsLedger (n budget : ℕ) (floors holds : List ℕ) (total : ℕ) : Type 0 where
   pub few : n ≤ 8
   pub floors_count : length floors ≡ n
   pub holds_count : length holds ≡ n

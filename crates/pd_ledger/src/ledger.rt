@@ -22,13 +22,13 @@ pub struct Ledger<const N: usize> {
 
 impl<const N: usize> Model for Ledger<N> {
     ghost use Rattle.std.specs.Prelude.{take};
-    ghost use Rattle.pd_ledger.specs.Account.{Account, IsKept};
+    ghost use Rattle.pd_ledger.specs.Account.{Account, IsLedger};
 
     ghost Value = { Account };
 
     ghost view = { λ l. record { budget = l.budget; floors = take N l.floors; holds = take N l.holds } };
 
-    ghost invariant = { λ l. IsKept N l.budget (take N l.floors) (take N l.holds) l.total };
+    ghost invariant = { λ l. IsLedger N l.budget (take N l.floors) (take N l.holds) l.total };
 }
 
 impl<const N: usize> Ledger<N> {

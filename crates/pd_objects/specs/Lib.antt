@@ -1,2 +1,4 @@
 pub mod Answers
+pub mod FixedSupply
+pub mod Laws
 pub mod Supply

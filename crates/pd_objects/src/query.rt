@@ -1,5 +1,7 @@
 //! What a port asks of the shared budget, and what it is answered.
 
+ghost use Rattle.std.specs.Prelude.{◌≡◌};
+
 use crate::Supply;
 use arrayvec::ArrayVec;
 
@@ -15,6 +17,25 @@ pub enum Query {
     Fits {
         power: u64,
     },
+}
+
+impl Query {
+    /// The same query.
+    pub fn copy(&self) -> Query
+        ensures { result ≡ self.now }
+    {
+        match self {
+            Query::Offer { supplies, limit_ma } => {
+                let mut copy = ArrayVec::new();
+                let _fits = copy.try_extend_from_slice(supplies.as_slice());
+                Query::Offer {
+                    supplies: copy,
+                    limit_ma: *limit_ma,
+                }
+            }
+            Query::Fits { power } => Query::Fits { power: *power },
+        }
+    }
 }
 
 /// The answer to a query.

@@ -1,110 +1,328 @@
--- STAND-IN for the laws of a port.
-use Rattle.std.proofs.lemmas.Option.{same_Some}
-use Rattle.std.proofs.Common.{◌≡◌, ◌⊎◌, inl, inr, ⊎_elim, ap, sym, ◌∙◌, if◌then◌else◌, max, ℕ, ◌+◌, ◌<◌, ◌≤◌, Option, Some, None, arith, refl, leb, Bool, true, false, cond}
-use Rattle.std.proofs.lemmas.Bool.Decides.{nat_tests}
+-- What the run of a charger relies on of a port's step.
+use Rattle.std.proofs.Common.{◌≡◌, ◌⊎◌, ℕ, ◌+◌, ◌<◌, ◌≤◌, Bool, true, false, if◌then◌else◌, List, [], ◌∷◌, Option, Some, None, refl, ◌∙◌, sym, ap, subst, inl, inr, arith}
+use Rattle.std.specs.Option.{option_and_then}
+use Rattle.pd_header.specs.declared.side.Side.{Side}
+use Rattle.pd_header.specs.declared.side.Side.TheVariants.{Source, Sink, Plug}
+use Rattle.pd_objects.specs.declared.query.Query.{Query}
 use Rattle.pd_objects.specs.declared.query.Answer.{Answer}
 use Rattle.pd_objects.specs.Answers.{IsAllowed}
-use Rattle.pd_port.specs.Settings.{SettingsData, floor_of}
-use Rattle.pd_port.specs.Events.{EventData}
+use Rattle.pd_timers.specs.declared.Timer.{Timer}
+use Rattle.pd_timers.specs.Deadlines.{deadline, stopped, first_of, IsFirst}
+use Rattle.pd_timers.proofs.FirstLemmas.{first_of-IsFirst}
+use Rattle.pd_timers.proofs.LaterLemmas.{SetsLater-same}
+use Rattle.pd_source.specs.Record.{SourceSettings, SourceRecord}
+use Rattle.pd_source.specs.Step.{query_of, hold_of}
+use Rattle.pd_source.specs.declared.kinds.Stimulus.{Stimulus}
+use Rattle.pd_source.proofs.Holds.{IsSafe, safe-None, safe-query, hold_of-floor, hold_of-off}
+use Rattle.pd_line.specs.Record.{PortRecord, nothing_attached}
+use Rattle.pd_line.proofs.Later.{IsBounded, later_kept}
+use Rattle.pd_line.specs.Later.{Times, times_of, Later, line_end}
 use Rattle.pd_port.specs.declared.due.Due.{Due}
 use Rattle.pd_port.specs.declared.due.What.{What}
 use Rattle.pd_port.specs.declared.due.What.TheVariants as what
-use Rattle.pd_port.specs.Port.{PortRecord, is_event, detached, due, earliest, event_due, line_due, asked, held_after, wish_after, record_after, hold, ask}
-use Rattle.pd_port.specs.Laws.{pending, pending_of, NotBefore}
+use Rattle.pd_port.specs.Events.{EventData}
+use Rattle.pd_port.specs.Settings.{SettingsData, floor_of}
+use Rattle.pd_port.specs.Laws.{NotBefore, pending_at, pending, without, IsOneOf, IsEarliest}
+use Rattle.pd_port.specs.Port.{is_before, is_event, event_due, line_due, timer_due, dues, due, detached, source_settings, whole, begun, portstep, source_told, query, ask, record_after, hold}
+use Rattle.pd_port.proofs.Earliest.{is_before-time, due-IsEarliest}
+use Rattle.pd_port.proofs.Later.{record_after-later, portstep-bounded, portstep-settings}
+use Rattle.pd_port.proofs.Pending.{stopped-later, pending_at-few, pending_at-falls, pending_at-line, pending_at-source, pending_at-sink, pending_at-plug}
 
-pick : (b : Bool) (t : ℕ) (y : EventData) (d : Due) → b ≡ leb y.at t → (if b then Some (event_due y) else Some (line_due t)) ≡ Some d → ((event_due y ≡ d) × (y.at ≤ t)) ⊎ ((line_due t ≡ d) × (t < y.at))
-pick true t y d b e = inl (same_Some _ _ e, grind (arith, nat_tests))
-pick false t y d b e = inr (same_Some _ _ e, grind (arith, nat_tests))
+-- a deadline that is the first one runs
+first_runs : (d : List (Option ℕ)) (at : ℕ) (timer : Timer) → first_of d ≡ Some (at, timer) → deadline d timer ≡ Some at
+first_runs d at timer e = let h = subst (λ (f : Option (ℕ × Timer)). IsFirst d f) e (first_of-IsFirst d) in h.0
 
-few_of : (o : Option ℕ) (t : ℕ) → pending_of o t ≤ 64
-few_of None t = omega arith
-few_of (Some x) t = grind (arith, nat_tests)
+-- some deadline is the first one where one runs, and it is no later
+pub record HasFirst (d : List (Option ℕ)) (at : ℕ) : Type 0 where
+  pub time : ℕ
+  pub timer : Timer
+  pub first : first_of d ≡ Some (time, timer)
+  pub sooner : time ≤ at
 
+no_later : (a b : ℕ) (P : Type 0) → (a < b) ⊎ ((a ≡ b) × P) → a ≤ b
+no_later a b P (inl h) = omega arith
+no_later a b P (inr h) = let e = h.0 in omega arith
+
+has_first : (d : List (Option ℕ)) (u : Timer) (at : ℕ) → deadline d u ≡ Some at → (f : Option (ℕ × Timer)) → first_of d ≡ f → IsFirst d f → HasFirst d at
+has_first d u at e None g h = absurd (let n = h u in let x : None ≡ Some at = sym n ∙ e in cc)
+has_first d u at e (Some (time, timer)) g h = record { time = time; timer = timer; first = g; sooner = no_later time at _ (h.1 u at e) }
+
+pub some_first : (d : List (Option ℕ)) (u : Timer) (at : ℕ) → deadline d u ≡ Some at → HasFirst d at
+some_first d u at e = has_first d u at e (first_of d) refl (first_of-IsFirst d)
+
+-- what falls due next is no later than anything that is due
+record NoneBefore (t : ℕ) (r : PortRecord) (next : Option EventData) : Type 0 where
+  event : NotBefore t next
+  line : (at : ℕ) → line_end r.line ≡ Some at → t ≤ at
+  source : (u : Timer) (at : ℕ) → deadline r.source.deadlines u ≡ Some at → t ≤ at
+  sink : (u : Timer) (at : ℕ) → deadline r.sink.deadlines u ≡ Some at → t ≤ at
+  plug : (u : Timer) (at : ℕ) → deadline r.plug.deadlines u ≡ Some at → t ≤ at
+
+timed_before : (d c : Due) (ds : List (Option Due)) → IsEarliest d ds → IsOneOf c ds → d.time ≤ c.time
+timed_before d c ds h one = is_before-time c d (h.least c one)
+
+event_none : (r : PortRecord) (next : Option EventData) (d : Due) → IsEarliest d (dues r next) → NotBefore d.time next
+event_none r None d h = tt
+event_none r (Some e) d h =
+    let c : Due = record { time = e.at; what = what.Event e } in timed_before d c (dues r (Some e)) h (inl refl)
+
+line_none : (r : PortRecord) (next : Option EventData) (d : Due) (at : ℕ) → IsEarliest d (dues r next) → line_end r.line ≡ Some at → d.time ≤ at
+line_none r next d at h e =
+    let c : Due = record { time = at; what = what.Line } in
+    timed_before d c (dues r next) h (inr (inl (ap line_due e)))
+
+source_none : (r : PortRecord) (next : Option EventData) (d : Due) (u : Timer) (at : ℕ) → IsEarliest d (dues r next) → deadline r.source.deadlines u ≡ Some at → d.time ≤ at
+source_none r next d u at h e =
+    let f = some_first r.source.deadlines u at e in
+    let c : Due = record { time = f.time; what = what.Timer Source f.timer } in
+    let n = timed_before d c (dues r next) h (inr (inr (inl (ap (timer_due Source) f.first)))) in
+    let s = f.sooner in
+    omega arith
+
+sink_none : (r : PortRecord) (next : Option EventData) (d : Due) (u : Timer) (at : ℕ) → IsEarliest d (dues r next) → deadline r.sink.deadlines u ≡ Some at → d.time ≤ at
+sink_none r next d u at h e =
+    let f = some_first r.sink.deadlines u at e in
+    let c : Due = record { time = f.time; what = what.Timer Sink f.timer } in
+    let n = timed_before d c (dues r next) h (inr (inr (inr (inl (ap (timer_due Sink) f.first))))) in
+    let s = f.sooner in
+    omega arith
+
+plug_none : (r : PortRecord) (next : Option EventData) (d : Due) (u : Timer) (at : ℕ) → IsEarliest d (dues r next) → deadline r.plug.deadlines u ≡ Some at → d.time ≤ at
+plug_none r next d u at h e =
+    let f = some_first r.plug.deadlines u at e in
+    let c : Due = record { time = f.time; what = what.Timer Plug f.timer } in
+    let n = timed_before d c (dues r next) h (inr (inr (inr (inr (inl (ap (timer_due Plug) f.first)))))) in
+    let s = f.sooner in
+    omega arith
+
+none_before : (r : PortRecord) (next : Option EventData) (d : Due) → IsEarliest d (dues r next) → NoneBefore d.time r next
+none_before r next d h =
+    record {
+      event = event_none r next d h;
+      line = λ at e. line_none r next d at h e;
+      source = λ u at e. source_none r next d u at h e;
+      sink = λ u at e. sink_none r next d u at h e;
+      plug = λ u at e. plug_none r next d u at h e;
+    }
+
+-- few deadlines are pending
 pub pending_few : (r : PortRecord) (t : ℕ) → pending r t ≤ 64
 unfolding pending
-pending_few r t = few_of r.deadline t
+pending_few r t = pending_at-few (times_of r) t
 
-timer_of : (o : Option ℕ) (next : Option EventData) (d : Due) → earliest o next ≡ Some d → is_event d.what ≡ false → pending_of o d.time ≡ 1
-timer_of None None d e n = cc
-timer_of (Some t) None d e n = let time = ap (λ (x : Due). x.time) (same_Some _ _ e) in grind (arith, nat_tests)
-timer_of None (Some y) d e n = let it = ap (λ (x : Due). is_event x.what) (same_Some _ _ e) in cc
-timer_of (Some t) (Some y) d e n =
-    ⊎_elim
-    (λ (h : (event_due y ≡ d) × (y.at ≤ t)). let it = ap (λ (x : Due). is_event x.what) h.0 in cc)
-    (λ (h : (line_due t ≡ d) × (t < y.at)). let time = ap (λ (x : Due). x.time) h.0 in grind (arith, nat_tests))
-    (pick (leb y.at t) t y d refl e)
+-- what falls due is taken away, and nothing else
+without_later : (x : What) (t : ℕ) (a : Times) → Later t a (without x a)
+without_later (what.Event e) t a = later_kept t a
+without_later what.Line t a =
+    record { source = SetsLater-same t _; sink = SetsLater-same t _; plug = SetsLater-same t _; line = λ at e. cc }
+without_later (what.Timer Source timer) t a =
+    record { source = stopped-later t a.source timer; sink = SetsLater-same t _; plug = SetsLater-same t _; line = λ at e. inl e }
+without_later (what.Timer Sink timer) t a =
+    record { source = SetsLater-same t _; sink = stopped-later t a.sink timer; plug = SetsLater-same t _; line = λ at e. inl e }
+without_later (what.Timer Plug timer) t a =
+    record { source = SetsLater-same t _; sink = SetsLater-same t _; plug = stopped-later t a.plug timer; line = λ at e. inl e }
 
-pub pending_timer : (s : SettingsData) (r : PortRecord) (next : Option EventData) (d : Due) (a : Option Answer) → due r next ≡ Some d → is_event d.what ≡ false → pending (record_after s r d a) d.time < pending r d.time
-unfolding pending due record_after
-pending_timer s r next d a e n = let h = timer_of r.deadline next d e n in grind (arith, nat_tests)
+pending_without : (x : What) (a : Times) (t : ℕ) → pending_at (without x a) t ≤ pending_at a t
+pending_without x a t = pending_at-falls t a (without x a) (without_later x t a)
 
+-- a step for an event leaves no more of them
 pub pending_event : (s : SettingsData) (r : PortRecord) (d : Due) (a : Option Answer) → pending (record_after s r d a) d.time ≤ pending r d.time
-unfolding pending record_after
-pending_event s r d a = grind (arith, nat_tests)
+unfolding pending
+pending_event s r d a =
+    let h = pending_at-falls d.time (without d.what (times_of r)) (times_of (record_after s r d a)) (record_after-later s r d a) in
+    let k = pending_without d.what (times_of r) d.time in
+    omega arith
 
-event_is : (y : EventData) (d : Due) (e : EventData) → event_due y ≡ d → d.what ≡ what.Event e → (Some y ≡ Some e) × (d.time ≡ e.at)
-event_is y d e h i =
-    let same : what.Event y ≡ what.Event e = ap (λ (x : Due). x.what) h ∙ i in
-    let it : y ≡ e = cc in
-    (ap Some it, sym (ap (λ (x : Due). x.time) h) ∙ ap (λ (x : EventData). x.at) it)
+-- what falls due is pending
+Falls : Times → Due → Type 0
+Falls a d = pending_at (without d.what a) d.time < pending_at a d.time
 
-event_of : (o : Option ℕ) (next : Option EventData) (d : Due) (e : EventData) → earliest o next ≡ Some d → d.what ≡ what.Event e → (next ≡ Some e) × (d.time ≡ e.at)
-event_of None None d e h i = cc
-event_of (Some t) None d e h i = let it = ap (λ (x : Due). x.what) (same_Some _ _ h) in cc
-event_of None (Some y) d e h i = event_is y d e (same_Some _ _ h) i
-event_of (Some t) (Some y) d e h i =
-    ⊎_elim
-    (λ (h : (event_due y ≡ d) × (y.at ≤ t)). event_is y d e h.0 i)
-    (λ (h : (line_due t ≡ d) × (t < y.at)). let it = ap (λ (x : Due). x.what) h.0 in cc)
-    (pick (leb y.at t) t y d refl h)
+event_case : (next : Option EventData) (d : Due) → event_due next ≡ Some d → is_event d.what ≡ false → ⊥
+event_case None d e n = cc
+event_case (Some ev) d e n =
+    let c : Due = record { time = ev.at; what = what.Event ev } in
+    let same : c ≡ d = cc in
+    let t : true ≡ false = subst (λ (x : Due). is_event x.what ≡ false) (sym same) n in
+    cc
 
-pub due_event : (r : PortRecord) (next : Option EventData) (d : Due) (e : EventData) → due r next ≡ Some d → d.what ≡ what.Event e → (next ≡ Some e) × (d.time ≡ e.at)
-unfolding due
-due_event r next d e h i = event_of r.deadline next d e h i
+line_case : (a : Times) (o : Option ℕ) (d : Due) → a.line ≡ o → line_due o ≡ Some d → Falls a d
+unfolding Falls
+line_case a None d f e = absurd (let x : None ≡ Some d = e in cc)
+line_case a (Some end) d f e =
+    let c : Due = record { time = end; what = what.Line } in
+    let same : c ≡ d = cc in
+    subst (λ (x : Due). pending_at (without x.what a) x.time < pending_at a x.time) same (pending_at-line end a f)
 
-first_of : (o : Option ℕ) (next : Option EventData) (d : Due) → earliest o next ≡ Some d → NotBefore d.time next
-first_of None None d e = tt
-first_of (Some t) None d e = tt
-first_of None (Some y) d e = let time = ap (λ (x : Due). x.time) (same_Some _ _ e) in omega arith
-first_of (Some t) (Some y) d e =
-    ⊎_elim
-    (λ (h : (event_due y ≡ d) × (y.at ≤ t)). let time = ap (λ (x : Due). x.time) h.0 in omega arith)
-    (λ (h : (line_due t ≡ d) × (t < y.at)). let time = ap (λ (x : Due). x.time) h.0 in omega (arith, h.1))
-    (pick (leb y.at t) t y d refl e)
+source_case : (a : Times) (o : Option (ℕ × Timer)) (d : Due) → first_of a.source ≡ o → timer_due Source o ≡ Some d → Falls a d
+unfolding Falls
+source_case a None d f e = absurd (let x : None ≡ Some d = e in cc)
+source_case a (Some (time, timer)) d f e =
+    let c : Due = record { time = time; what = what.Timer Source timer } in
+    let same : c ≡ d = cc in
+    subst (λ (x : Due). pending_at (without x.what a) x.time < pending_at a x.time) same (pending_at-source time a timer (first_runs a.source time timer f))
 
+sink_case : (a : Times) (o : Option (ℕ × Timer)) (d : Due) → first_of a.sink ≡ o → timer_due Sink o ≡ Some d → Falls a d
+unfolding Falls
+sink_case a None d f e = absurd (let x : None ≡ Some d = e in cc)
+sink_case a (Some (time, timer)) d f e =
+    let c : Due = record { time = time; what = what.Timer Sink timer } in
+    let same : c ≡ d = cc in
+    subst (λ (x : Due). pending_at (without x.what a) x.time < pending_at a x.time) same (pending_at-sink time a timer (first_runs a.sink time timer f))
+
+plug_case : (a : Times) (o : Option (ℕ × Timer)) (d : Due) → first_of a.plug ≡ o → timer_due Plug o ≡ Some d → Falls a d
+unfolding Falls
+plug_case a None d f e = absurd (let x : None ≡ Some d = e in cc)
+plug_case a (Some (time, timer)) d f e =
+    let c : Due = record { time = time; what = what.Timer Plug timer } in
+    let same : c ≡ d = cc in
+    subst (λ (x : Due). pending_at (without x.what a) x.time < pending_at a x.time) same (pending_at-plug time a timer (first_runs a.plug time timer f))
+
+due_pending : (r : PortRecord) (next : Option EventData) (d : Due) → IsOneOf d (dues r next) → is_event d.what ≡ false →
+    pending_at (without d.what (times_of r)) d.time < pending_at (times_of r) d.time
+unfolding Falls
+due_pending r next d (inl e) n = absurd (event_case next d e n)
+due_pending r next d (inr (inl e)) n = line_case (times_of r) (line_end r.line) d refl e
+due_pending r next d (inr (inr (inl e))) n = source_case (times_of r) (first_of r.source.deadlines) d refl e
+due_pending r next d (inr (inr (inr (inl e)))) n = sink_case (times_of r) (first_of r.sink.deadlines) d refl e
+due_pending r next d (inr (inr (inr (inr (inl e))))) n = plug_case (times_of r) (first_of r.plug.deadlines) d refl e
+due_pending r next d (inr (inr (inr (inr (inr e))))) n = absurd e
+
+-- a step for no event leaves fewer pending deadlines
+pub pending_timer : (s : SettingsData) (r : PortRecord) (next : Option EventData) (d : Due) (a : Option Answer) → due r next ≡ Some d →
+    is_event d.what ≡ false → pending (record_after s r d a) d.time < pending r d.time
+unfolding pending
+pending_timer s r next d a e n =
+    let h = pending_at-falls d.time (without d.what (times_of r)) (times_of (record_after s r d a)) (record_after-later s r d a) in
+    let i : IsEarliest d (dues r next) = due-IsEarliest r next d e in
+    let k = due_pending r next d i.one n in
+    omega arith
+
+-- the next event isn't before what falls due
 pub due_first : (r : PortRecord) (next : Option EventData) (d : Due) → due r next ≡ Some d → NotBefore d.time next
-unfolding due
-due_first r next d h = first_of r.deadline next d h
+due_first r next d e = (none_before r next d (due-IsEarliest r next d e)).event
 
-after_of : (t u : ℕ) (next : Option EventData) (d : Due) → t < u → NotBefore t next → earliest (Some u) next ≡ Some d → t ≤ d.time
-after_of t u None d h n e = let time = ap (λ (x : Due). x.time) (same_Some _ _ e) in omega arith
-after_of t u (Some y) d h n e =
-    ⊎_elim
-    (λ (i : (event_due y ≡ d) × (y.at ≤ u)). let time = ap (λ (x : Due). x.time) i.0 in omega arith)
-    (λ (i : (line_due u ≡ d) × (u < y.at)). let time = ap (λ (x : Due). x.time) i.0 in omega arith)
-    (pick (leb y.at u) u y d refl e)
+event_is : (next : Option EventData) (d : Due) (e : EventData) → event_due next ≡ Some d → d.what ≡ what.Event e → (next ≡ Some e) × (d.time ≡ e.at)
+event_is None d e h w = absurd (let x : None ≡ Some d = h in cc)
+event_is (Some ev) d e h w =
+    let c : Due = record { time = ev.at; what = what.Event ev } in
+    let same : c ≡ d = cc in
+    let k : what.Event ev ≡ what.Event e = ap (λ (x : Due). x.what) same ∙ w in
+    let i : ev ≡ e = cc in
+    (ap Some i, ap (λ (x : Due). x.time) (sym same) ∙ ap (λ (x : EventData). x.at) i)
 
-pub due_later : (s : SettingsData) (r : PortRecord) (now : Option EventData) (d : Due) (a : Option Answer) (next : Option EventData) (f : Due) → due r now ≡ Some d → NotBefore d.time next → due (record_after s r d a) next ≡ Some f → d.time ≤ f.time
-unfolding due record_after
-due_later s r now d a next f h i j = after_of d.time (d.time + 1) next f (omega arith) i j
+not_line : (o : Option ℕ) (d : Due) (e : EventData) → line_due o ≡ Some d → d.what ≡ what.Event e → ⊥
+not_line None d e h w = let x : None ≡ Some d = h in cc
+not_line (Some at) d e h w =
+    let c : Due = record { time = at; what = what.Line } in
+    let same : c ≡ d = cc in
+    let k : what.Line ≡ what.Event e = ap (λ (x : Due). x.what) same ∙ w in
+    cc
 
+not_timer : (side : Side) (o : Option (ℕ × Timer)) (d : Due) (e : EventData) → timer_due side o ≡ Some d → d.what ≡ what.Event e → ⊥
+not_timer side None d e h w = let x : None ≡ Some d = h in cc
+not_timer side (Some (time, timer)) d e h w =
+    let c : Due = record { time = time; what = what.Timer side timer } in
+    let same : c ≡ d = cc in
+    let k : what.Timer side timer ≡ what.Event e = ap (λ (x : Due). x.what) same ∙ w in
+    cc
+
+event_one : (r : PortRecord) (next : Option EventData) (d : Due) (e : EventData) → IsOneOf d (dues r next) → d.what ≡ what.Event e → (next ≡ Some e) × (d.time ≡ e.at)
+event_one r next d e (inl h) w = event_is next d e h w
+event_one r next d e (inr (inl h)) w = absurd (not_line (line_end r.line) d e h w)
+event_one r next d e (inr (inr (inl h))) w = absurd (not_timer Source _ d e h w)
+event_one r next d e (inr (inr (inr (inl h)))) w = absurd (not_timer Sink _ d e h w)
+event_one r next d e (inr (inr (inr (inr (inl h))))) w = absurd (not_timer Plug _ d e h w)
+event_one r next d e (inr (inr (inr (inr (inr h))))) w = absurd h
+
+-- a due for an event is for the next one
+pub due_event : (r : PortRecord) (next : Option EventData) (d : Due) (e : EventData) → due r next ≡ Some d → d.what ≡ what.Event e → (next ≡ Some e) × (d.time ≡ e.at)
+due_event r next d e h w = event_one r next d e (due-IsEarliest r next d h).one w
+
+event_after : (t : ℕ) (next : Option EventData) (f : Due) → NotBefore t next → event_due next ≡ Some f → t ≤ f.time
+event_after t None f n e = absurd (let x : None ≡ Some f = e in cc)
+event_after t (Some ev) f n e =
+    let c : Due = record { time = ev.at; what = what.Event ev } in
+    let same : c ≡ f = cc in
+    subst (λ (x : Due). t ≤ x.time) same n
+
+-- nothing of these times is before t
+record NoneOf (t : ℕ) (a : Times) : Type 0 where
+  line : (at : ℕ) → a.line ≡ Some at → t ≤ at
+  source : (u : Timer) (at : ℕ) → deadline a.source u ≡ Some at → t ≤ at
+  sink : (u : Timer) (at : ℕ) → deadline a.sink u ≡ Some at → t ≤ at
+  plug : (u : Timer) (at : ℕ) → deadline a.plug u ≡ Some at → t ≤ at
+
+kept_or_later : (t at : ℕ) (A : Type 0) → (A → t ≤ at) → A ⊎ (t < at) → t ≤ at
+kept_or_later t at A f (inl h) = f h
+kept_or_later t at A f (inr h) = omega arith
+
+none_later : (t : ℕ) (a b : Times) → Later t a b → NoneOf t a → NoneOf t b
+none_later t a b h n =
+    record {
+      line = λ at e. kept_or_later t at _ (n.line at) (h.line at e);
+      source = λ u at e. kept_or_later t at _ (n.source u at) (h.source u at e);
+      sink = λ u at e. kept_or_later t at _ (n.sink u at) (h.sink u at e);
+      plug = λ u at e. kept_or_later t at _ (n.plug u at) (h.plug u at e);
+    }
+
+line_after : (t : ℕ) (o : Option ℕ) (f : Due) → ((at : ℕ) → o ≡ Some at → t ≤ at) → line_due o ≡ Some f → t ≤ f.time
+line_after t None f n e = absurd (let x : None ≡ Some f = e in cc)
+line_after t (Some end) f n e =
+    let c : Due = record { time = end; what = what.Line } in
+    let same : c ≡ f = cc in
+    subst (λ (x : Due). t ≤ x.time) same (n end refl)
+
+timer_after : (t : ℕ) (side : Side) (d : List (Option ℕ)) (o : Option (ℕ × Timer)) (f : Due) →
+    ((u : Timer) (at : ℕ) → deadline d u ≡ Some at → t ≤ at) → first_of d ≡ o → timer_due side o ≡ Some f → t ≤ f.time
+timer_after t side d None f n g e = absurd (let x : None ≡ Some f = e in cc)
+timer_after t side d (Some (time, timer)) f n g e =
+    let c : Due = record { time = time; what = what.Timer side timer } in
+    let same : c ≡ f = cc in
+    subst (λ (x : Due). t ≤ x.time) same (n timer time (first_runs d time timer g))
+
+after_one : (t : ℕ) (q : PortRecord) (next : Option EventData) (f : Due) → NotBefore t next → NoneOf t (times_of q) → IsOneOf f (dues q next) → t ≤ f.time
+after_one t q next f n k (inl h) = event_after t next f n h
+after_one t q next f n k (inr (inl h)) = line_after t (line_end q.line) f k.line h
+after_one t q next f n k (inr (inr (inl h))) = timer_after t Source q.source.deadlines _ f k.source refl h
+after_one t q next f n k (inr (inr (inr (inl h)))) = timer_after t Sink q.sink.deadlines _ f k.sink refl h
+after_one t q next f n k (inr (inr (inr (inr (inl h))))) = timer_after t Plug q.plug.deadlines _ f k.plug refl h
+after_one t q next f n k (inr (inr (inr (inr (inr h))))) = absurd h
+
+-- what falls due after a step isn't before it
+pub due_later : (s : SettingsData) (r : PortRecord) (now : Option EventData) (d : Due) (a : Option Answer) (next : Option EventData) (f : Due) →
+    due r now ≡ Some d → NotBefore d.time next → due (record_after s r d a) next ≡ Some f → d.time ≤ f.time
+due_later s r now d a next f e n g =
+    let q = record_after s r d a in
+    let b = none_before r now d (due-IsEarliest r now d e) in
+    let old : NoneOf d.time (times_of r) = record { line = b.line; source = b.source; sink = b.sink; plug = b.plug } in
+    let less = none_later d.time (times_of r) (without d.what (times_of r)) (without_later d.what d.time (times_of r)) old in
+    let new = none_later d.time (without d.what (times_of r)) (times_of q) (record_after-later s r d a) less in
+    after_one d.time q next f n new (due-IsEarliest q next f g).one
+
+-- a hold is at least the floor
 pub hold_floor : (s : SettingsData) (r : PortRecord) → floor_of s ≤ hold s r
 unfolding hold
-hold_floor s r = omega arith
+hold_floor s r = hold_of-floor (source_settings s) (floor_of s) r.source
 
+-- a detached port holds its floor
 pub hold_detached : (s : SettingsData) → hold s (detached s) ≡ floor_of s
-unfolding hold detached
-hold_detached s = omega arith
+unfolding hold detached nothing_attached
+hold_detached s = hold_of-off (source_settings s) (floor_of s)
 
-fit_of : (b : Bool) (wish held floor f : ℕ) → b ≡ leb wish f → max floor held ≤ f → max floor (cond b wish held) ≤ f
-fit_of true wish held floor f e h = grind (arith, nat_tests)
-fit_of false wish held floor f e h = h
+safe_told : (s : SourceSettings) (r : SourceRecord) (floor free : ℕ) (told : Option Stimulus) (x : Option Answer) → floor ≤ free →
+    IsAllowed free (option_and_then (λ y. query_of s y r) told) x → IsSafe s floor free x
+safe_told s r floor free None x l h = rw h (safe-None s floor free)
+safe_told s r floor free (Some y) x l h = safe-query s floor free y x r l h
 
-held_fits : (w : What) (wish held floor f : ℕ) (x : Option Answer) → max floor held ≤ f → IsAllowed f (asked wish w) x → max floor (held_after (wish_after wish w) held x) ≤ f
-held_fits (what.Event e) wish held floor f x h i = rw i h
-held_fits what.Line wish held floor f x h i = rw i (fit_of (leb wish f) wish held floor f refl h)
-held_fits (what.Timer side timer) wish held floor f x h i = rw i (fit_of (leb wish f) wish held floor f refl h)
-
-pub hold_fits : (s : SettingsData) (r : PortRecord) (d : Due) (x : Option Answer) (f : ℕ) → hold s r ≤ f → IsAllowed f (ask s r d) x → hold s (record_after s r d x) ≤ f
-unfolding hold ask record_after
-hold_fits s r d x f h i = held_fits d.what r.wish r.held (floor_of s) f x h i
+-- with an allowed answer the hold stays within the free power
+pub hold_fits : (s : SettingsData) (r : PortRecord) (d : Due) (x : Option Answer) (f : ℕ) → hold s r ≤ f → IsAllowed f (ask s r d) x →
+    hold s (record_after s r d x) ≤ f
+unfolding hold ask query record_after
+hold_fits s r d x f h i =
+    let set = source_settings s in
+    let least = hold_of-floor set (floor_of s) r.source in
+    let begin : IsBounded f (floor_of s) (begun (whole s r) x) =
+      record { answer = safe_told set r.source (floor_of s) f (source_told d.what (whole s r)) x (omega arith) i; held = h } in
+    let end = (portstep-bounded (whole s r) d x f (floor_of s) begin).held in
+    let same = portstep-settings (whole s r) d x in
+    subst (λ (z : SourceSettings). hold_of z (floor_of s) (portstep (whole s r) d x).port.source.record ≤ f) same end

@@ -1,17 +1,65 @@
--- STAND-IN for what holds of a port.
-use Rattle.std.specs.Prelude.{ℕ, ◌≤◌, Option, Some, None, nat_le, if◌then◌else◌}
+-- What the run of a charger relies on of a port's step.
+use Rattle.std.specs.Prelude.{◌≡◌, ◌⊎◌, ℕ, ◌+◌, ◌≤◌, ◌<◌, nat_le, if◌then◌else◌, Bool, true, false, List, [], ◌∷◌, Option, Some, None}
+use Rattle.pd_header.specs.declared.side.Side.{Side}
+use Rattle.pd_header.specs.declared.side.Side.TheVariants.{Source, Sink, Plug}
+use Rattle.pd_objects.specs.declared.query.Answer.{Answer}
+use Rattle.pd_timers.specs.declared.Timer.{Timer}
+use Rattle.pd_timers.specs.Deadlines.{timers, deadline, stopped}
+use Rattle.pd_line.specs.Record.{PortRecord}
+use Rattle.pd_line.specs.Later.{Times, times_of, Later}
+use Rattle.pd_port.specs.declared.due.Due.{Due}
+use Rattle.pd_port.specs.declared.due.What.{What}
+use Rattle.pd_port.specs.declared.due.What.TheVariants as what
 use Rattle.pd_port.specs.Events.{EventData}
-use Rattle.pd_port.specs.Port.{PortRecord}
-
-abbrev pub pending_of : Option ℕ → ℕ → ℕ
-pending_of None t = 0
-pending_of (Some x) t = if nat_le x t then 1 else 0
-
--- how many deadlines and line ends of the record are at or before t
-unfoldable pub pending : PortRecord → ℕ → ℕ
-pending r t = pending_of r.deadline t
+use Rattle.pd_port.specs.Settings.{SettingsData}
+use Rattle.pd_port.specs.Port.{dues, due, is_before, record_after}
 
 -- the next event isn't before t
 abbrev pub NotBefore : ℕ → Option EventData → Type 0
 NotBefore t None = Unit {0}
 NotBefore t (Some e) = t ≤ e.at
+
+-- 1 for a time up to t
+abbrev pub one_by : Option ℕ → ℕ → ℕ
+one_by None t = 0
+one_by (Some at) t = if nat_le at t then 1 else 0
+
+-- how many of these timers end by t
+abbrev pub ending : List Timer → List (Option ℕ) → ℕ → ℕ
+ending [] d t = 0
+ending (u ∷ us) d t = one_by (deadline d u) t + ending us d t
+
+-- how many times are up to t
+unfoldable pub pending_at : Times → ℕ → ℕ
+pending_at a t = one_by a.line t + ending timers a.source t + ending timers a.sink t + ending timers a.plug t
+
+-- how many deadlines and line's ends of the record are at or before t
+unfoldable pub pending : PortRecord → ℕ → ℕ
+pending r t = pending_at (times_of r) t
+
+-- the times without the one that falls due
+abbrev pub without : What → Times → Times
+without (what.Event e) a = a
+without what.Line a = record a { line = None }
+without (what.Timer Source timer) a = record a { source = stopped a.source timer }
+without (what.Timer Sink timer) a = record a { sink = stopped a.sink timer }
+without (what.Timer Plug timer) a = record a { plug = stopped a.plug timer }
+
+-- after a step, each deadline and each line's end stood before it, and wasn't the one that fell due, or is later
+abbrev pub StepsSetLater : Type 0
+StepsSetLater =
+    (s : SettingsData) (r : PortRecord) (d : Due) (given : Option Answer) →
+    Later d.time (without d.what (times_of r)) (times_of (record_after s r d given))
+
+-- this is one of the dues
+abbrev pub IsOneOf : Due → List (Option Due) → Type 0
+IsOneOf d [] = ⊥
+IsOneOf d (x ∷ xs) = (x ≡ Some d) ⊎ IsOneOf d xs
+
+-- what falls due next is one of the dues, and none of them is before it
+pub record IsEarliest (d : Due) (ds : List (Option Due)) : Type 0 where
+  pub one : IsOneOf d ds
+  pub least : (c : Due) → IsOneOf c ds → is_before c d ≡ false
+
+abbrev pub DuesAreEarliest : Type 0
+DuesAreEarliest = (r : PortRecord) (next : Option EventData) (d : Due) → due r next ≡ Some d → IsEarliest d (dues r next)

@@ -1,72 +1,197 @@
--- STAND-IN for a port, until the port itself is there.
-use Rattle.std.specs.Prelude.{ℕ, ◌+◌, Bool, true, false, Option, Some, None, [], max, nat_le, if◌then◌else◌}
+-- One port: what falls due on it next, what it asks before its step, the step, and what it holds of the shared budget.
+use Rattle.std.specs.Prelude.{◌≡◌, ◌⊎◌, ℕ, ◌+◌, ◌*◌, ◌==◌, nat_lt, Bool, true, false, ◌&&◌, ◌||◌, if◌then◌else◌, is_some, List, [], ◌∷◌, Option, Some, None, option_and_then}
+use Rattle.pd_symbols.specs.declared.channel.Channel.{Channel}
+use Rattle.pd_symbols.specs.declared.channel.Channel.TheVariants.{Sop, SopPrime}
+use Rattle.pd_header.specs.declared.side.Side.{Side}
+use Rattle.pd_header.specs.declared.side.Side.TheVariants.{Source, Sink, Plug}
+use Rattle.pd_header.specs.Header.{id_of}
+use Rattle.pd_identity.specs.declared.Cable.{Cable}
+use Rattle.pd_packet.specs.Contents.{Contents}
+use Rattle.pd_packet.specs.Hearing.{heard}
+use Rattle.pd_packet.specs.declared.fate.Fate.{Fate}
 use Rattle.pd_objects.specs.declared.query.Query.{Query}
-use Rattle.pd_objects.specs.declared.query.Query.TheVariants as query
 use Rattle.pd_objects.specs.declared.query.Answer.{Answer}
-use Rattle.pd_objects.specs.declared.query.Answer.TheVariants as answer
-use Rattle.pd_port.specs.Settings.{SettingsData, floor_of}
-use Rattle.pd_port.specs.Events.{EventData}
+use Rattle.pd_timers.specs.declared.Timer.{Timer}
+use Rattle.pd_timers.specs.Timers.{place}
+use Rattle.pd_timers.specs.Deadlines.{first_of}
+use Rattle.pd_protocol.specs.LayerRecord.{LayerRecord}
+use Rattle.pd_protocol.specs.Layer as layer
+use Rattle.pd_protocol.specs.declared.layer.LayerAct.{LayerAct}
+use Rattle.pd_protocol.specs.declared.layer.LayerAct.TheVariants as answer
+use Rattle.pd_source.specs.Record.{SourceSettings}
+use Rattle.pd_source.specs.Step as source
+use Rattle.pd_source.specs.declared.kinds.Stimulus.{Stimulus}
+use Rattle.pd_source.specs.declared.kinds.Stimulus.TheVariants as told
+use Rattle.pd_sink.specs.Settings.{SinkData}
+use Rattle.pd_line.specs.declared.notes.Fault.TheVariants.{Ignored}
+use Rattle.pd_line.specs.declared.record.Record.{Record}
+use Rattle.pd_line.specs.declared.record.Line.{Line}
+use Rattle.pd_line.specs.declared.record.Line.TheVariants.{Idle, Message, Pause, GoodCrc, NoAnswer}
+use Rattle.pd_line.specs.declared.work.Work.{Work}
+pub use Rattle.pd_line.specs.Record.{PortRecord}
+use Rattle.pd_line.specs.Record.{with_settings, without_settings, nothing_attached}
+use Rattle.pd_line.specs.Later.{line_end}
+use Rattle.pd_line.specs.Work.{noted, tells_timer, tells_attach}
+use Rattle.pd_line.specs.Lines.{line_ends, line_starts}
 use Rattle.pd_port.specs.declared.due.Due.{Due}
 use Rattle.pd_port.specs.declared.due.What.{What}
 use Rattle.pd_port.specs.declared.due.What.TheVariants as what
 use Rattle.pd_port.specs.declared.entry.Entry.{Entry}
+use Rattle.pd_port.specs.declared.event.EventKind.{EventKind}
+use Rattle.pd_port.specs.declared.event.EventKind.TheVariants.{Attach}
+use Rattle.pd_port.specs.Events.{EventData}
+use Rattle.pd_port.specs.Settings.{SettingsData, floor_of}
 
-pub record PortRecord : Type 0 where
-  pub wish : ℕ
-  pub held : ℕ
-  pub deadline : Option ℕ
-
+-- what a port is set to, and what it keeps from step to step
 pub record PortData : Type 0 where
   pub settings : SettingsData
   pub «record» : PortRecord
 
-unfoldable pub detached : SettingsData → PortRecord
-detached s = record { wish = 0; held = 0; deadline = None }
+abbrev pub side_place : Side → ℕ
+side_place Source = 0
+side_place Sink = 1
+side_place Plug = 2
+
+-- the order at one time: the event, the line, the timers in their order, and in each timer source, sink, plug
+abbrev pub rank : What → ℕ
+rank (what.Event e) = 0
+rank what.Line = 1
+rank (what.Timer side timer) = 2 + 3 * place timer + side_place side
+
+-- whether something falls due before something else
+unfoldable pub is_before : Due → Due → Bool
+is_before a b = nat_lt a.time b.time || (a.time == b.time && nat_lt (rank a.what) (rank b.what))
+
+abbrev pub earlier : Option Due → Option Due → Option Due
+earlier None b = b
+earlier (Some a) None = Some a
+earlier (Some a) (Some b) = if is_before b a then Some b else Some a
+
+abbrev pub event_due : Option EventData → Option Due
+event_due None = None
+event_due (Some e) = Some (record { time = e.at; what = what.Event e })
+
+abbrev pub line_due : Option ℕ → Option Due
+line_due None = None
+line_due (Some end) = Some (record { time = end; what = what.Line })
+
+abbrev pub timer_due : Side → Option (ℕ × Timer) → Option Due
+timer_due side None = None
+timer_due side (Some (time, timer)) = Some (record { time = time; what = what.Timer side timer })
+
+abbrev pub earliest : List (Option Due) → Option Due
+earliest [] = None
+earliest (d ∷ ds) = earlier d (earliest ds)
+
+-- all that is due: the next event, the line's end, and each engine's first deadline
+abbrev pub dues : PortRecord → Option EventData → List (Option Due)
+dues r next =
+    event_due next ∷ line_due (line_end r.line) ∷ timer_due Source (first_of r.source.deadlines)
+    ∷ timer_due Sink (first_of r.sink.deadlines) ∷ timer_due Plug (first_of r.plug.deadlines) ∷ []
+
+-- the earliest of them
+unfoldable pub due : PortRecord → Option EventData → Option Due
+due r next = earliest (dues r next)
 
 -- whether an event falls due
 abbrev pub is_event : What → Bool
 is_event (what.Event e) = true
 is_event _ = false
 
-abbrev pub event_due : EventData → Due
-event_due e = record { time = e.at; what = what.Event e }
+-- a sink is attached through a cable, where nothing is attached yet
+unfoldable pub attaches : ℕ → Cable → SinkData → ℕ → Work → Work
+attaches id cable device t w = if is_some w.port.cable then noted (Ignored id) w else tells_attach cable device t w
 
-abbrev pub line_due : ℕ → Due
-line_due t = record { time = t; what = what.Line }
+abbrev pub event_happens : ℕ → EventKind → ℕ → Work → Work
+event_happens id (Attach cable device) t w = attaches id cable device t w
 
-abbrev pub earliest : Option ℕ → Option EventData → Option Due
-earliest None None = None
-earliest (Some t) None = Some (line_due t)
-earliest None (Some e) = Some (event_due e)
-earliest (Some t) (Some e) = if nat_le e.at t then Some (event_due e) else Some (line_due t)
+-- what falls due happens
+abbrev pub happens : What → ℕ → Work → Work
+happens (what.Event e) t w = event_happens e.id e.kind t w
+happens what.Line t w = line_ends t w
+happens (what.Timer side timer) t w = tells_timer side timer t w
 
-unfoldable pub due : PortRecord → Option EventData → Option Due
-due r next = earliest r.deadline next
+-- a step that begins
+abbrev pub begun : Record → Option Answer → Work
+begun r given = record { port = r; answer = given; faults = record { items = [] }; start = None }
 
-abbrev pub asked : ℕ → What → Option Query
-asked wish (what.Event e) = None
-asked wish _ = Some (query.Fits wish)
+-- the step for this due: it happens, and then, where the line is idle, what waits starts
+unfoldable pub portstep : Record → Due → Option Answer → Work
+portstep r d given = line_starts d.time (happens d.what d.time (begun r given))
 
-unfoldable pub ask : SettingsData → PortRecord → Due → Option Query
-ask s r d = asked r.wish d.what
+-- what the source is set to
+abbrev pub source_settings : SettingsData → SourceSettings
+source_settings s = record { supplies = s.supplies; identity_tries = s.identity_tries; unconstrained = s.unconstrained }
 
-abbrev pub wish_after : ℕ → What → ℕ
-wish_after wish (what.Event e) = e.at
-wish_after wish _ = wish
+abbrev pub whole : SettingsData → PortRecord → Record
+whole s r = with_settings (source_settings s) r
 
-abbrev pub held_after : ℕ → ℕ → Option Answer → ℕ
-held_after wish held (Some (answer.Fits b)) = if b then wish else held
-held_after wish held _ = held
+-- the record at the start
+unfoldable pub detached : SettingsData → PortRecord
+detached s = nothing_attached (source_settings s)
 
+-- the record after the step for this due, with this answer of the shared budget
 unfoldable pub record_after : SettingsData → PortRecord → Due → Option Answer → PortRecord
-record_after s r d a = record {
-  wish = wish_after r.wish d.what;
-  held = held_after (wish_after r.wish d.what) r.held a;
-  deadline = Some (d.time + 1);
-}
+record_after s r d given = without_settings (portstep (whole s r) d given).port
 
+-- the source's layer on a channel
+abbrev pub source_layer : Channel → Record → LayerRecord
+source_layer Sop r = r.source_sop
+source_layer SopPrime r = r.source_sop_prime
+
+abbrev pub told_if_sent : LayerAct → Option Stimulus
+told_if_sent answer.Sent = Some told.Sent
+told_if_sent act = None
+
+abbrev pub told_if_up : LayerAct → Option Stimulus
+told_if_up answer.Up = Some told.Other
+told_if_up act = None
+
+abbrev pub told_if_failed : LayerAct → Option Stimulus
+told_if_failed answer.Failed = Some told.Failed
+told_if_failed act = None
+
+abbrev pub told_of_good_crc : Channel → Record → Option Contents → Option Stimulus
+told_of_good_crc channel r None = None
+told_of_good_crc channel r (Some a) = told_if_sent (layer.good_crc (source_layer channel r) (id_of a.header)).1
+
+abbrev pub told_at_good_crc : Side → Contents → Contents → Fate → Record → Option Stimulus
+told_at_good_crc Source p a fate r = told_of_good_crc p.channel r (heard a fate)
+told_at_good_crc side p a fate r = told_if_up (layer.received (source_layer p.channel r) p.header).1
+
+abbrev pub told_at_time_out : Side → Contents → Record → Option Stimulus
+told_at_time_out Source p r = told_if_failed (layer.timed_out (source_layer p.channel r)).1
+told_at_time_out side p r = None
+
+abbrev pub told_by_line : Line → Record → Option Stimulus
+told_by_line (GoodCrc side p a fate end) r = told_at_good_crc side p a fate r
+told_by_line (NoAnswer side p end) r = told_at_time_out side p r
+told_by_line line r = None
+
+abbrev pub told_by_event : EventKind → Record → Option Stimulus
+told_by_event (Attach cable device) r = if is_some r.cable then None else Some told.Attach
+
+-- with what the source's engine is stepped for this due
+abbrev pub source_told : What → Record → Option Stimulus
+source_told (what.Event e) r = told_by_event e.kind r
+source_told what.Line r = told_by_line r.line r
+source_told (what.Timer Source timer) r = Some (told.Ended timer)
+source_told (what.Timer side timer) r = None
+
+-- what the source asks in the step for this due
+unfoldable pub query : Record → Due → Option Query
+query r d = option_and_then (λ x. source.query_of r.source.settings x r.source.record) (source_told d.what r)
+
+-- what the port asks of the shared budget before the step for this due
+unfoldable pub ask : SettingsData → PortRecord → Due → Option Query
+ask s r d = query (whole s r) d
+
+-- what the step for this due leaves to be read
 unfoldable pub entry_of : SettingsData → PortRecord → Due → Option Answer → Entry
-entry_of s r d a = record { at = d.time; due = d; query = ask s r d; faults = record { items = [] }; start = None }
+entry_of s r d given =
+    let w = portstep (whole s r) d given in
+    record { at = d.time; due = d; query = ask s r d; faults = w.faults; start = w.start }
 
+-- what the port holds of the shared budget, in microwatts
 unfoldable pub hold : SettingsData → PortRecord → ℕ
-hold s r = max (floor_of s) r.held
+hold s r = source.hold_of (source_settings s) (floor_of s) r.source

@@ -1,140 +1,175 @@
-//! STAND-IN for a port, until the port itself is there.
+//! A port: what falls due on it, and its step.
 
-ghost use Rattle.std.specs.Prelude.{◌≡◌, ℕ, ◌≤◌, ◌↔◌, IsTrue, Option};
+ghost use Rattle.std.specs.Prelude.{◌≡◌, ℕ, ◌+◌, ◌<◌, ◌≤◌, length, IsTrue, ◌↔◌};
 ghost use Rattle.std.specs.Option.{option_copied};
-ghost use Rattle.pd_port.specs.Port.{detached, due, ask, record_after, entry_of, hold};
-ghost use Rattle.pd_port.specs.Meter.{raised};
+ghost use Rattle.pd_line.specs.Record.{without_settings};
+ghost use Rattle.pd_port.specs.Port.{due as the_due, event_happens, happens};
 
-use crate::{Due, Entry, Event, Meter, Settings, What};
+use crate::asks::source_told;
+use crate::dues::{due_of_event, due_of_line, due_of_timer, earlier_of};
+use crate::{Due, Entry, Event, EventKind, Meter, Settings, What};
 use arrayvec::ArrayVec;
-use pd_objects::{Answer, Query, Supply};
+use pd_header::Side;
+use pd_line::{Fault, Record, Work};
+use pd_objects::{Answer, Query};
 use std::marker::Model;
+use std::mem;
 
-/// A port: its settings and its record.
+/// One port of a charger, with what it is set to.
 #[derive(Drop)]
 pub struct Port {
     settings: Settings,
-    wish: u64,
-    held: u64,
-    deadline: Option<u64>,
+    work: Work,
 }
 
 impl Model for Port {
-    ghost use Rattle.pd_port.specs.Port.{PortData};
+    ghost use Rattle.std.specs.Prelude.{◌≡◌, [], None};
+    ghost use Rattle.pd_line.specs.Record.{without_settings};
+    ghost use Rattle.pd_port.specs.Port.{PortData, source_settings};
 
     ghost Value = { PortData };
 
-    ghost view = { λ p. record { settings = p.settings; «record» = record { wish = p.wish; held = p.held; deadline = p.deadline } } };
+    ghost view = { λ p. record { settings = p.settings; «record» = without_settings p.work.port } };
+
+    ghost invariant = { λ p. (p.work.faults.items ≡ []) × (p.work.start ≡ None) × (p.work.port.source.settings ≡ source_settings p.settings) };
+}
+
+#[tactic(auto, unfolding(crate::specs::Port::due))]
+fn due_of(port: &Record, next: Option<&Event>) -> Option<Due>
+    ensures { result ≡ the_due (without_settings port.now) (option_copied next.entry) }
+{
+    let plug = due_of_timer(Side::Plug, port.plug.first());
+    let sink = due_of_timer(Side::Sink, port.sink.first());
+    let source = due_of_timer(Side::Source, port.source.first());
+    let timers = earlier_of(source, earlier_of(sink, plug));
+    let line = due_of_line(&port.line);
+    earlier_of(due_of_event(next), earlier_of(line, timers))
+}
+
+/// An event happens.
+#[tactic(auto, unfolding(crate::specs::Port::attaches))]
+fn event_happens(work: &mut Work, event: Event, t: u64)
+    requires time { t ≤ 120000000 }
+    requires room { length work.old.faults.items < 8 }
+    ensures { work.new ≡ event_happens event.id event.kind t work.old }
+{
+    match event.kind() {
+        EventKind::Attach { cable, sink } => {
+            if work.port.cable.is_some() {
+                work.note(Fault::Ignored { id: event.id() });
+            } else {
+                work.tell_attach(cable, sink, t);
+            }
+        }
+    }
+}
+
+/// What falls due happens.
+fn happens(work: &mut Work, what: What, t: u64)
+    requires time { t ≤ 120000000 }
+    requires room { length work.old.faults.items < 8 }
+    ensures { work.new ≡ happens what t work.old }
+{
+    match what {
+        What::Event(event) => event_happens(work, event, t),
+        What::Line => work.line_ends(t),
+        What::Timer { side, timer } => work.tell_timer(side, timer, t),
+    }
 }
 
 impl Port {
-    /// A detached port.
+    ghost use Rattle.pd_port.specs.Meter.{raised};
+    ghost use Rattle.pd_port.specs.Port.{detached, due as the_due, ask, record_after, entry_of, hold};
+
+    /// A port to which nothing is attached.
     #[tactic(auto, unfolding(crate::specs::Port::detached))]
     pub fn new(settings: &Settings) -> Port
         ensures { result ≡ record { settings = settings.now; «record» = detached settings.now } }
     {
         Port {
             settings: settings.copy(),
-            wish: 0,
-            held: 0,
-            deadline: None,
+            work: Work {
+                port: Record::new(
+                    settings.supplies(),
+                    settings.identity_tries(),
+                    settings.unconstrained(),
+                ),
+                answer: None,
+                faults: ArrayVec::new(),
+                start: None,
+            },
         }
     }
 
-    /// What falls due.
-    #[tactic(auto, unfolding(crate::specs::Port::due))]
+    /// What falls due next on the port, whose next event is given.
     pub fn due(&self, next: Option<&Event>) -> Option<Due>
-        ensures { result ≡ due self.now.«record» (option_copied next.entry) }
+        ensures { result ≡ the_due self.now.record (option_copied next.entry) }
     {
-        match (next, self.deadline) {
-            (None, None) => None,
-            (None, Some(time)) => Some(Due {
-                time,
-                what: What::Line,
-            }),
-            (Some(event), None) => Some(Due {
-                time: event.at(),
-                what: What::Event(*event),
-            }),
-            (Some(event), Some(time)) => {
-                if event.at() <= time {
-                    Some(Due {
-                        time: event.at(),
-                        what: What::Event(*event),
-                    })
-                } else {
-                    Some(Due {
-                        time,
-                        what: What::Line,
-                    })
-                }
-            }
-        }
+        due_of(&self.work.port, next)
     }
 
-    /// What the port asks before a step.
-    #[tactic(auto, unfolding(crate::specs::Port::ask))]
+    /// What the port asks of the shared budget before the step for this due.
+    #[tactic(auto, unfolding(crate::specs::Port::ask, crate::specs::Port::query))]
     pub fn ask(&self, due: &Due) -> Option<Query>
-        ensures { result ≡ ask self.now.settings self.now.«record» due.now }
+        ensures { result ≡ ask self.now.settings self.now.record due.now }
     {
-        match due.what {
-            What::Event(_) => None,
-            _ => Some(Query::Fits { power: self.wish }),
-        }
+        let stimulus = source_told(&self.work.port, &due.what)?;
+        self.work.port.source.ask(&stimulus)
     }
 
-    /// Takes a step.
-    #[tactic(auto, unfolding(crate::specs::Port::record_after, crate::specs::Port::entry_of))]
+    /// The step for this due, with the answer to what the port asked. The meter rises by one.
+    #[tactic(auto, unfolding(crate::specs::Port::portstep))]
     pub fn step(&mut self, due: &Due, answer: Option<Answer>, meter: &mut Meter) -> Entry
         requires { due.now.time ≤ 120000000 }
-        ensures after { self.new ≡ record self.old { «record» = record_after self.old.settings self.old.«record» due.now answer } }
-        ensures entry { result ≡ entry_of self.old.settings self.old.«record» due.now answer }
+        ensures after { self.new ≡ record self.old { «record» = record_after self.old.settings self.old.record due.now answer } }
+        ensures entry { result ≡ entry_of self.old.settings self.old.record due.now answer }
         ensures meter { meter.new ≡ raised meter.old 1 }
     {
         let query = self.ask(due);
-        if let What::Event(event) = due.what {
-            self.wish = event.at();
-        }
-        if let Some(Answer::Fits(fits)) = answer {
-            if fits {
-                self.held = self.wish;
-            }
-        }
-        self.deadline = Some(due.time + 1);
         meter.rise();
+        self.work.answer = answer;
+        happens(&mut self.work, due.what, due.time);
+        self.work.line_starts(due.time);
+        self.work.answer = None;
         Entry {
             at: due.time,
             due: *due,
             query,
-            faults: ArrayVec::new(),
-            start: None,
+            faults: mem::replace(&mut self.work.faults, ArrayVec::new()),
+            start: self.work.start.take(),
         }
     }
 
-    /// How much of the budget the port holds.
+    /// What the port holds of the shared budget, in microwatts.
     #[tactic(auto, unfolding(crate::specs::Port::hold))]
     pub fn hold(&self) -> u64
-        ensures value { result ≡ hold self.now.settings self.now.«record» }
+        ensures { result ≡ hold self.now.settings self.now.record }
     {
-        (u64::from(self.settings.floor_mw()) * 1000).max(self.held)
+        self.work
+            .port
+            .source
+            .hold(u64::from(self.settings.floor_mw()) * 1_000)
     }
 
-    /// Whether both have the same record.
+    /// Whether both ports' records are the same, whatever the ports are set to.
     pub fn same(&self, other: &Port) -> bool
-        ensures { IsTrue result ↔ (self.now.«record» ≡ other.now.«record») }
+        ensures { IsTrue result ↔ (self.now.record ≡ other.now.record) }
     {
-        self.wish == other.wish && self.held == other.held && self.deadline == other.deadline
+        self.work.port.same(&other.work.port)
     }
 
-    /// A port of the same settings and the same record.
+    /// A port with the same settings and the same record.
     pub fn copy(&self) -> Port
         ensures { result ≡ self.now }
     {
         Port {
             settings: self.settings.copy(),
-            wish: self.wish,
-            held: self.held,
-            deadline: self.deadline,
+            work: Work {
+                port: self.work.port.copy(),
+                answer: None,
+                faults: ArrayVec::new(),
+                start: None,
+            },
         }
     }
 }

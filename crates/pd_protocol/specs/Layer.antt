@@ -1,4 +1,4 @@
--- The rules of the protocol layer (USB Power Delivery 3.0, sections 6.6.1, 6.7 and 6.12). Each gives what the layer
+-- The rules of the protocol layer (USB Power Delivery 3.0, sections 6.6.1, 6.7 and 6.8.1). Each gives what the layer
 -- keeps afterwards, and its answer.
 use Rattle.std.specs.Prelude.{ℕ, Bool, false, ◌+◌, ◌%◌, ◌==◌, nat_lt, if◌then◌else◌, Option, Some, None, Result, Ok, Err}
 use Rattle.pd_symbols.specs.declared.channel.Channel.{Channel}

@@ -1,4 +1,4 @@
--- What the protocol layer of one side on one channel keeps (USB Power Delivery 3.0, section 6.12).
+-- What the protocol layer of one side on one channel keeps (USB Power Delivery 3.0, sections 6.7 and 6.8.1).
 use Rattle.std.specs.Prelude.{ℕ, Option}
 use Rattle.pd_symbols.specs.declared.channel.Channel.{Channel}
 use Rattle.pd_packet.specs.Contents.{Contents}

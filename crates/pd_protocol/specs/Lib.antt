@@ -1,3 +1,4 @@
 pub mod Messages
 pub mod LayerRecord
 pub mod Layer
+pub mod Laws

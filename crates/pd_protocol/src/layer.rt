@@ -29,7 +29,7 @@ pub enum LayerAct {
 }
 
 /// The layer of one side on one channel: the next ID, the ID that came last, and the packet that waits for its GoodCRC
-/// (USB Power Delivery 3.0, section 6.12).
+/// (USB Power Delivery 3.0, sections 6.7 and 6.8.1).
 #[derive(Debug, Drop)]
 pub struct Layer {
     side: Side,

@@ -1,6 +1,7 @@
 //! The protocol layer of one side on one channel: messages, their packets, their IDs and their tries.
 #![tactic(auto)]
 
+pub mod laws;
 mod layer;
 mod message;
 mod outstanding;

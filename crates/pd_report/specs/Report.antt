@@ -12,8 +12,8 @@ use Rattle.pd_packet.specs.declared.fate.Fate.TheVariants.{Undisturbed, Lost, Da
 use Rattle.pd_packet.specs.Contents.{Contents}
 use Rattle.pd_packet.specs.Hearing.{shown}
 use Rattle.pd_port.specs.declared.entry.Entry.{Entry}
-use Rattle.pd_port.specs.declared.entry.Start.{Start}
-use Rattle.pd_port.specs.declared.entry.Start.TheVariants as starts
+use Rattle.pd_line.specs.declared.notes.Start.{Start}
+use Rattle.pd_line.specs.declared.notes.Start.TheVariants as starts
 use Rattle.pd_report.specs.Text.{right, code_text}
 
 -- the side that speaks

@@ -1,3 +1,4 @@
+pub mod First
 pub mod Moves
 pub mod OneRun
 pub mod Runs

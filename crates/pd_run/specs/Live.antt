@@ -1,5 +1,5 @@
 -- Ports that move.
-use Rattle.std.specs.Prelude.{◌≡◌, ℕ, ◌-◌, ◌<◌, ◌≤◌, List, length, sum, slice_index, slice_index_or, slice_get, Option, Some, option_map}
+use Rattle.std.specs.Prelude.{◌≡◌, ℕ, ◌-◌, ◌<◌, ◌≤◌, List, length, sum, slice_index, slice_index_or, slice_get, Option, None, Some, option_map}
 use Rattle.pd_objects.specs.declared.query.Answer.{Answer}
 use Rattle.pd_port.specs.declared.due.Due.{Due}
 use Rattle.pd_port.specs.Port.{PortData, due, ask, entry_of, record_after}
@@ -61,6 +61,11 @@ IsFirst plan live p d = IsFirstOf plan live (count plan) p d
 -- nothing falls due on the ports below n up to the end
 pub record IsOver (plan : Plan) (live : LiveData) (n : ℕ) : Type 0 where
   pub late : (q : ℕ) (f : Due) → q < n → due_at plan live q ≡ Some f → plan.end < f.time
+
+-- of the ports below n, this is the first due that isn't after the end, if there is one
+abbrev pub IsSoFar : Plan → LiveData → ℕ → Option (ℕ × Due) → Type 0
+IsSoFar plan live n None = IsOver plan live n
+IsSoFar plan live n (Some r) = IsFirstOf plan live n r.0 r.1
 
 -- the answer that the port gets for a due
 abbrev pub reply_at : LiveData → ℕ → Due → Option Answer

@@ -23,6 +23,6 @@ pub record IsShown (n : ℕ) (plan : Plan) (entries : List (ℕ × Entry)) : Typ
   pub shows : Shows plan entries
 
 -- the entries are those of the plan's run; where there is no plan there are none
-abbrev pub IsKept : ℕ → Option Plan → List (ℕ × Entry) → Type 0
-IsKept n None entries = entries ≡ []
-IsKept n (Some plan) entries = IsShown n plan entries
+abbrev pub AreEntriesOf : ℕ → Option Plan → List (ℕ × Entry) → Type 0
+AreEntriesOf n None entries = entries ≡ []
+AreEntriesOf n (Some plan) entries = IsShown n plan entries

@@ -6,7 +6,7 @@ ghost use Rattle.pd_ledger.specs.Account.{free_of};
 ghost use Rattle.pd_ledger.specs.Offer.{answer_of};
 ghost use Rattle.pd_scenario.specs.Plan.{Plan, IsPlan, count};
 ghost use Rattle.pd_run.specs.Run.{Move};
-ghost use Rattle.pd_run.specs.Live.{LiveData, Stands, IsFirstOf, IsNext, IsOver, due_at, next_move, port_at, reply_at, moved_port};
+ghost use Rattle.pd_run.specs.Live.{LiveData, Stands, IsSoFar, IsNext, IsOver, due_at, next_move, port_at, reply_at, moved_port};
 
 use crate::Timetable;
 use pd_ledger::Ledger;
@@ -96,17 +96,37 @@ impl<const N: usize> Live<N> {
 
     // Like `next`, with the ports numbered from 0.
     fn first(&self, plan: &Timetable<N>) -> Option<(usize, Due)>
-        ensures first { MatchOption result (IsOver plan.now self.now N) (λ r. IsFirstOf plan.now self.now N r.0 r.1) }
+        ensures first { IsSoFar plan.now self.now N result }
         ensures is_plan { IsPlan N plan.now }
     {
-        let end = plan.end();
+        let _end = plan.end();
         let mut first: Option<(usize, Due)> = None;
         for port in 0..N {
-            if let Some(due) = self.due(plan, port) {
-                if due.time <= end && is_before(&due, &first) {
-                    first = Some((port, due));
-                }
-            }
+            first = self.with_port(plan, port, first);
+        }
+        first
+    }
+
+    // The first due with one more port.
+    fn with_port(
+        &self,
+        plan: &Timetable<N>,
+        port: usize,
+        first: Option<(usize, Due)>,
+    ) -> Option<(usize, Due)>
+        requires known { port < N }
+        requires so_far { IsSoFar plan.now self.now port first }
+        ensures { IsSoFar plan.now self.now (port + 1) result }
+    {
+        let end = plan.end();
+        let Some(due) = self.due(plan, port) else {
+            return first;
+        };
+        if due.time > end {
+            return first;
+        }
+        if is_before(&due, &first) {
+            return Some((port, due));
         }
         first
     }

@@ -19,13 +19,13 @@ pub struct Plain<const N: usize> {
 }
 
 impl<const N: usize> Model for Plain<N> {
-    ghost use Rattle.pd_run.specs.Shown.{Shown, IsKept};
+    ghost use Rattle.pd_run.specs.Shown.{Shown, AreEntriesOf};
 
     ghost Value = { Shown };
 
     ghost view = { λ r. record { plan = r.plan; entries = r.entries.items } };
 
-    ghost invariant = { λ r. IsKept N r.plan r.entries.items };
+    ghost invariant = { λ r. AreEntriesOf N r.plan r.entries.items };
 }
 
 impl<const N: usize> Runner<N> for Plain<N> {

@@ -74,7 +74,6 @@ impl<const N: usize> Timetable<N> {
         ensures budget { result ≡ self.now.budget }
         ensures is_plan { IsPlan N self.now }
     {
-        let _end = self.end;
         self.budget
     }
 
@@ -83,7 +82,6 @@ impl<const N: usize> Timetable<N> {
         ensures end { result ≡ self.now.end }
         ensures is_plan { IsPlan N self.now }
     {
-        let _budget = self.budget;
         self.end
     }
 

@@ -1,1 +1,7 @@
 pub mod Settings
+pub mod Record
+pub mod Table
+pub mod Facts
+pub mod Acts
+pub mod Step
+pub mod Laws

@@ -1,6 +1,12 @@
 //! The sink: what it is set to, and its policy engine.
 #![tactic(auto)]
 
+mod engine;
+mod kinds;
+pub mod laws;
+mod rows;
 mod settings;
 
+pub use engine::Sink;
+pub use kinds::{Act, State, Stimulus};
 pub use settings::{SinkMode, SinkRevision, SinkSettings};

@@ -18,7 +18,7 @@ set_hold-requires g c =
     let known : p < count plan = c.requires.next.first.known in
     let s = subst (λ (l : LiveData). Stands plan past l) (sym c.self.view_is) c.requires.stands.1 in
     let port = c.requires.after ∙ moved_known plan past c.args.self.now p d c.requires.stands.1 known in
-    let held : c.hold-hold.result ≡ hold (settings_of plan p) (after plan (next_move plan past p d)) = c.hold-hold.ensures.value ∙ moved_hold plan past p d c.args.after port in
+    let held : c.hold-hold.result ≡ hold (settings_of plan p) (after plan (next_move plan past p d)) = c.hold-hold.ensures ∙ moved_hold plan past p d c.args.after port in
     let fits = hold_after-fits plan past live p d s known in
     let floor = floor_known plan past live p s in
     let least = hold_floor (settings_of plan p) (after plan (next_move plan past p d)) in
@@ -45,7 +45,7 @@ returns-then-is_event g c = λ past stands.
     let known : p < count plan = c.requires.next.first.known in
     let s = subst (λ (l : LiveData). Stands plan past l) (sym c.self.view_is) stands in
     let port = c.requires.after ∙ moved_known plan past c.args.self.now p d stands known in
-    let held : c.hold-hold.result ≡ hold (settings_of plan p) (after plan (next_move plan past p d)) = c.hold-hold.ensures.value ∙ moved_hold plan past p d c.args.after port in
+    let held : c.hold-hold.result ≡ hold (settings_of plan p) (after plan (next_move plan past p d)) = c.hold-hold.ensures ∙ moved_hold plan past p d c.args.after port in
     let inside : p < length live.taken = omega (arith, s.taken_count) in
     let at : slice_index live.taken p ≡ t = taken_read live.taken p t inside c.index_mut-then-is_event.ensures.value in
     let used : is_event d.what ≡ true = sym c.is_event.ensures ∙ c.if-is_event.true in
@@ -64,7 +64,7 @@ returns-else-is_event g c = λ past stands.
     let known : p < count plan = c.requires.next.first.known in
     let s = subst (λ (l : LiveData). Stands plan past l) (sym c.self.view_is) stands in
     let port = c.requires.after ∙ moved_known plan past c.args.self.now p d stands known in
-    let held : c.hold-hold.result ≡ hold (settings_of plan p) (after plan (next_move plan past p d)) = c.hold-hold.ensures.value ∙ moved_hold plan past p d c.args.after port in
+    let held : c.hold-hold.result ≡ hold (settings_of plan p) (after plan (next_move plan past p d)) = c.hold-hold.ensures ∙ moved_hold plan past p d c.args.after port in
     let kept : is_event d.what ≡ false = sym c.is_event.ensures ∙ c.if-is_event.false in
     rw c.set_hold.ensures
     (Stands-step plan past live p d c.args.after live.taken c.hold-hold.result s known port

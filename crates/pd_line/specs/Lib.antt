@@ -1,0 +1,5 @@
+pub mod Later
+pub mod Lines
+pub mod Record
+pub mod Told
+pub mod Work

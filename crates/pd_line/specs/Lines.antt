@@ -1,0 +1,199 @@
+-- The rules of the line, N1 to N4 of docs/TABLES.md: when a message starts, when its GoodCRC starts and ends, and what
+-- happens where none comes.
+use Rattle.std.specs.Prelude.{ℕ, ◌+◌, ◌*◌, ◌-◌, ◌==◌, length, Bool, true, false, if◌then◌else◌, List, [], ◌∷◌, Option, Some, None, Result, Ok, Err}
+use Rattle.pd_symbols.specs.declared.channel.Channel.{Channel}
+use Rattle.pd_symbols.specs.declared.channel.Channel.TheVariants.{Sop, SopPrime}
+use Rattle.pd_header.specs.declared.side.Side.{Side}
+use Rattle.pd_header.specs.declared.side.Side.TheVariants.{Source, Sink, Plug}
+use Rattle.pd_header.specs.Kinds.{kind_of_header}
+use Rattle.pd_header.specs.Header.{id_of}
+use Rattle.pd_packet.specs.Contents.{Contents}
+use Rattle.pd_packet.specs.Timing.{duration_of, symbols_of}
+use Rattle.pd_packet.specs.Hearing.{heard}
+use Rattle.pd_packet.specs.declared.fate.Fate.{Fate}
+use Rattle.pd_packet.specs.declared.fate.Fate.TheVariants.{Undisturbed, Lost as LostOnTheWay, Damaged as DamagedOnTheWay}
+use Rattle.pd_protocol.specs.Messages.{MessageData}
+use Rattle.pd_protocol.specs.Messages.{acknowledges}
+use Rattle.pd_protocol.specs.declared.layer.LayerAct.{LayerAct}
+use Rattle.pd_protocol.specs.declared.layer.LayerAct.TheVariants as answer
+use Rattle.pd_source.specs.Step as source
+use Rattle.pd_sink.specs.Step as sink
+use Rattle.pd_plug.specs.Step as plug
+use Rattle.pd_line.specs.declared.notes.Fault.TheVariants.{NoGoodCrc}
+use Rattle.pd_line.specs.declared.notes.Start.{Start}
+use Rattle.pd_line.specs.declared.notes.Start.TheVariants as start
+use Rattle.pd_line.specs.declared.record.Disturbance.{Disturbance}
+use Rattle.pd_line.specs.declared.record.Disturbance.TheVariants as disturbance
+use Rattle.pd_line.specs.declared.record.Line.{Line}
+use Rattle.pd_line.specs.declared.record.Line.TheVariants.{Idle, Message, Pause, GoodCrc, NoAnswer}
+use Rattle.pd_line.specs.declared.record.Waiting.{Waiting}
+use Rattle.pd_line.specs.declared.record.Waiting.TheVariants as waits
+use Rattle.pd_line.specs.declared.work.Work.{Work}
+use Rattle.pd_line.specs.Work.{with_port, wait, noted, submit_on, good_crc_on, timed_out_on, received_on, tells_sent, tells_failed, tells_message}
+
+-- how long, in microseconds, the receiver waits before its GoodCRC
+abbrev pub pause : ℕ
+pause = 100
+
+-- how long after a message's end the sender waits for a GoodCRC
+abbrev pub time_out : ℕ
+time_out = 1000
+
+-- how long a packet lasts, in microseconds
+abbrev pub lasts : Contents → ℕ
+lasts p = duration_of (symbols_of p)
+
+-- how many symbols a GoodCRC has, which has no objects
+abbrev pub good_crc_symbols : ℕ
+good_crc_symbols = 17
+
+-- what is left of the time-out where a GoodCRC has ended
+abbrev pub rest_of_time_out : ℕ
+rest_of_time_out = time_out - (pause + duration_of good_crc_symbols)
+
+-- the line is this
+unfoldable pub with_line : Line → Work → Work
+with_line line w = with_port (record w.port { line = line }) w
+
+-- this starts on the line
+unfoldable pub started : Start → Work → Work
+started s w = record w { start = Some s }
+
+-- who is spoken to: the sink and the source on SOP, the plug and the source on SOP'
+abbrev pub receiver : Side → Channel → Side
+receiver Source Sop = Sink
+receiver Source SopPrime = Plug
+receiver Sink channel = Source
+receiver Plug channel = Source
+
+-- whether a side hears
+unfoldable pub hears : Side → Work → Bool
+hears Source w = source.hears_in w.port.source.record
+hears Sink w = sink.hears_in w.port.sink
+hears Plug w = plug.hears_in w.port.plug
+
+-- what a disturbance makes of a packet
+abbrev pub fate_of : Disturbance → Fate
+fate_of disturbance.Lost = LostOnTheWay
+fate_of (disturbance.Damaged damage) = DamagedOnTheWay damage
+
+abbrev pub taken_from : List Disturbance → Work → Work × Fate
+taken_from [] w = (w, Undisturbed)
+taken_from (d ∷ rest) w = (with_port (record w.port { disturbances = record { items = rest } }) w, fate_of d)
+
+-- the packet that starts next takes the first disturbance that waits
+unfoldable pub taken : Work → Work × Fate
+taken w = taken_from w.port.disturbances.items w
+
+-- a message's packet starts
+unfoldable pub packet_starts : Side → Contents → ℕ → Work → Work
+packet_starts side p t w =
+    let r = taken w in started (start.Packet side p r.1) (with_line (Message side p r.1 (t + lasts p)) r.0)
+
+-- the GoodCRC for a side's message starts
+unfoldable pub good_crc_starts : Side → Contents → ℕ → Work → Work
+good_crc_starts side p t w =
+    let hearer = receiver side p.channel in
+    let a = acknowledges hearer 2 p in
+    let r = taken w in
+    started (start.Packet hearer a r.1) (with_line (GoodCrc side p a r.1 (t + lasts a)) r.0)
+
+-- what is left of a message has been heard, or not
+abbrev pub message_heard : Side → Contents → ℕ → Option Contents → Work → Work
+message_heard side p t None w = with_line (NoAnswer side p (t + time_out)) w
+message_heard side p t (Some q) w = with_line (Pause side q (t + pause)) w
+
+-- N2: a message has ended. Undisturbed and heard, it is answered after a pause
+unfoldable pub message_ends : Side → Contents → Fate → ℕ → Work → Work
+message_ends side p fate t w =
+    message_heard side p t (if hears (receiver side p.channel) w then heard p fate else None) w
+
+abbrev pub told_sent : Side → ℕ → LayerAct → Work → Work
+told_sent side t answer.Sent w = tells_sent side t w
+told_sent side t act w = w
+
+-- what is left of a GoodCRC reaches the sender, or nothing does
+abbrev pub acknowledged : Side → Contents → ℕ → Option Contents → Work → Work
+acknowledged side p t None w = with_line (NoAnswer side p (t + rest_of_time_out)) w
+acknowledged side p t (Some a) w =
+    let r = good_crc_on side p.channel (id_of a.header) w in told_sent side t r.1 r.0
+
+abbrev pub told_message : Side → Contents → ℕ → LayerAct → Work → Work
+told_message side p t answer.Up w = tells_message side p t w
+told_message side p t act w = w
+
+-- the receiver's layer takes the message, and its engine is stepped with it where it is no repeat
+unfoldable pub goes_up : Side → Contents → ℕ → Work → Work
+goes_up side p t w = let r = received_on side p.channel p.header w in told_message side p t r.1 r.0
+
+-- N3: a GoodCRC has ended
+unfoldable pub good_crc_ends : Side → Contents → Contents → Fate → ℕ → Work → Work
+good_crc_ends side p a fate t w =
+    goes_up (receiver side p.channel) p t (acknowledged side p t (heard a fate) w)
+
+abbrev pub after_time_out : Side → Contents → ℕ → LayerAct → Work → Work
+after_time_out side p t (answer.Retry q) w = packet_starts side q t w
+after_time_out side p t answer.Failed w = tells_failed side t (noted (NoGoodCrc side (kind_of_header p.header)) w)
+after_time_out side p t act w = w
+
+-- N4: no GoodCRC has come in time
+unfoldable pub times_out : Side → Contents → ℕ → Work → Work
+times_out side p t w = let r = timed_out_on side p.channel w in after_time_out side p t r.1 r.0
+
+abbrev pub line_ends_at : Line → ℕ → Work → Work
+line_ends_at Idle t w = w
+line_ends_at (Message side p fate end) t w = message_ends side p fate t w
+line_ends_at (Pause side p end) t w = good_crc_starts side p t w
+line_ends_at (GoodCrc side p a fate end) t w = good_crc_ends side p a fate t w
+line_ends_at (NoAnswer side p end) t w = times_out side p t w
+
+-- the line's due: what is on it has ended
+unfoldable pub line_ends : ℕ → Work → Work
+line_ends t w = line_ends_at w.port.line t (with_line Idle w)
+
+-- Which channel a side speaks on. The source speaks to the plug in Vendor_Defined messages alone, of type 15.
+abbrev pub channel_for : Side → ℕ → Channel
+channel_for Source kind = if kind == 15 then SopPrime else Sop
+channel_for Sink kind = Sop
+channel_for Plug kind = SopPrime
+
+-- what waits on a side
+abbrev pub waiting_on : Side → Work → Waiting
+waiting_on Source w = w.port.source_waits
+waiting_on Sink w = w.port.sink_waits
+waiting_on Plug w = w.port.plug_waits
+
+abbrev pub submitted : Side → ℕ → Work × Result Contents MessageData → Work
+submitted side t (w, Ok p) = packet_starts side p t w
+submitted side t (w, Err m) = wait side (waits.Message m) w
+
+-- a message goes to its layer, and starts
+unfoldable pub message_starts : Side → MessageData → ℕ → Work → Work
+message_starts side m t w = submitted side t (submit_on side (channel_for side m.kind) m 2 w)
+
+abbrev pub waiting_starts : Side → ℕ → Waiting → Work → Work
+waiting_starts side t waits.Nothing w = w
+waiting_starts side t (waits.Message m) w = message_starts side m t w
+
+-- what waits on a side starts
+unfoldable pub side_starts : Side → ℕ → Work → Work
+side_starts side t w = waiting_starts side t (waiting_on side w) (wait side waits.Nothing w)
+
+abbrev pub is_idle : Line → Bool
+is_idle Idle = true
+is_idle line = false
+
+abbrev pub is_waiting : Waiting → Bool
+is_waiting waits.Nothing = false
+is_waiting waiting = true
+
+-- N1: where the line is idle, the first that waits starts, in the order source, sink, plug
+unfoldable pub line_starts : ℕ → Work → Work
+line_starts t w =
+    if is_idle w.port.line
+    then (if is_waiting w.port.source_waits
+    then side_starts Source t w
+    else (if is_waiting w.port.sink_waits
+    then side_starts Sink t w
+    else (if is_waiting w.port.plug_waits then side_starts Plug t w else w)))
+    else w

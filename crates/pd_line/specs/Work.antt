@@ -1,0 +1,165 @@
+-- What a step of a port does to it, part by part: what waits, the layers, and the engines with their acts.
+use Rattle.std.specs.Prelude.{ℕ, ◌==◌, Bool, true, false, List, [], ◌∷◌, ◌++◌, Option, Some, None, Result, if◌then◌else◌}
+use Rattle.pd_symbols.specs.declared.channel.Channel.{Channel}
+use Rattle.pd_symbols.specs.declared.channel.Channel.TheVariants.{Sop, SopPrime}
+use Rattle.pd_header.specs.declared.side.Side.{Side}
+use Rattle.pd_header.specs.declared.side.Side.TheVariants.{Source, Sink, Plug}
+use Rattle.pd_header.specs.Kinds.{kind_of_header}
+use Rattle.pd_packet.specs.Contents.{Contents}
+use Rattle.pd_timers.specs.declared.Timer.{Timer}
+use Rattle.pd_identity.specs.declared.Cable.{Cable}
+use Rattle.pd_protocol.specs.Messages.{MessageData}
+use Rattle.pd_protocol.specs.LayerRecord.{LayerRecord}
+use Rattle.pd_protocol.specs.Layer as layer
+use Rattle.pd_protocol.specs.declared.layer.LayerAct.{LayerAct}
+use Rattle.pd_source.specs.Step as source
+use Rattle.pd_source.specs.declared.kinds.Act.TheVariants as source_act_is
+use Rattle.pd_source.specs.declared.kinds.Act.{Act as SourceAct}
+use Rattle.pd_source.specs.declared.kinds.Stimulus.{Stimulus as SourceStimulus}
+use Rattle.pd_source.specs.declared.kinds.Stimulus.TheVariants as source_told
+use Rattle.pd_sink.specs.Settings.{SinkData}
+use Rattle.pd_sink.specs.Step as sink
+use Rattle.pd_sink.specs.declared.kinds.Act.TheVariants as sink_act_is
+use Rattle.pd_sink.specs.declared.kinds.Act.{Act as SinkAct}
+use Rattle.pd_sink.specs.declared.kinds.Stimulus.{Stimulus as SinkStimulus}
+use Rattle.pd_sink.specs.declared.kinds.Stimulus.TheVariants as sink_told
+use Rattle.pd_plug.specs.Step as plug
+use Rattle.pd_plug.specs.declared.kinds.Act.TheVariants as plug_act_is
+use Rattle.pd_plug.specs.declared.kinds.Act.{Act as PlugAct}
+use Rattle.pd_plug.specs.declared.kinds.Stimulus.{Stimulus as PlugStimulus}
+use Rattle.pd_plug.specs.declared.kinds.Stimulus.TheVariants as plug_told
+use Rattle.pd_line.specs.declared.notes.Fault.{Fault}
+use Rattle.pd_line.specs.declared.record.Record.{Record}
+use Rattle.pd_line.specs.declared.record.Waiting.{Waiting}
+use Rattle.pd_line.specs.declared.record.Waiting.TheVariants.{Nothing, Message}
+use Rattle.pd_line.specs.declared.work.Work.{Work}
+use Rattle.pd_line.specs.Told.{message_of, sink_hears_as}
+
+-- the port is this
+abbrev pub with_port : Record → Work → Work
+with_port p w = record w { port = p }
+
+-- the faults so far, and one more
+unfoldable pub noted : Fault → Work → Work
+noted fault w = record w { faults = record { items = w.faults.items ++ fault ∷ [] } }
+
+-- what waits on a side is this
+unfoldable pub wait : Side → Waiting → Work → Work
+wait Source waiting w = with_port (record w.port { source_waits = waiting }) w
+wait Sink waiting w = with_port (record w.port { sink_waits = waiting }) w
+wait Plug waiting w = with_port (record w.port { plug_waits = waiting }) w
+
+-- the layer of a side on a channel
+abbrev pub layer_on : Side → Channel → Work → LayerRecord
+layer_on Source Sop w = w.port.source_sop
+layer_on Source SopPrime w = w.port.source_sop_prime
+layer_on Sink channel w = w.port.sink_sop
+layer_on Plug channel w = w.port.plug_sop_prime
+
+-- the layer of a side on a channel is this
+abbrev pub with_layer : Side → Channel → LayerRecord → Work → Work
+with_layer Source Sop l w = with_port (record w.port { source_sop = l }) w
+with_layer Source SopPrime l w = with_port (record w.port { source_sop_prime = l }) w
+with_layer Sink channel l w = with_port (record w.port { sink_sop = l }) w
+with_layer Plug channel l w = with_port (record w.port { plug_sop_prime = l }) w
+
+-- a call of the layer of a side on a channel
+abbrev pub on_layer : {A : Type 0} → Side → Channel → (LayerRecord → LayerRecord × A) → Work → Work × A
+on_layer side channel call w =
+    let r = call (layer_on side channel w) in (with_layer side channel r.0 w, r.1)
+
+unfoldable pub submit_on : Side → Channel → MessageData → ℕ → Work → Work × Result Contents MessageData
+submit_on side channel message revision = on_layer side channel (λ l. layer.submit l revision message)
+
+unfoldable pub good_crc_on : Side → Channel → ℕ → Work → Work × LayerAct
+good_crc_on side channel id = on_layer side channel (λ l. layer.good_crc l id)
+
+unfoldable pub timed_out_on : Side → Channel → Work → Work × LayerAct
+timed_out_on side channel = on_layer side channel layer.timed_out
+
+unfoldable pub received_on : Side → Channel → ℕ → Work → Work × LayerAct
+received_on side channel header = on_layer side channel (λ l. layer.received l header)
+
+-- an act of the sink
+abbrev pub sink_act : SinkAct → Work → Work
+sink_act sink_act_is.DropWaiting w = wait Sink Nothing w
+
+-- the acts of the sink, in order
+abbrev pub sink_acts : List SinkAct → Work → Work
+sink_acts [] w = w
+sink_acts (a ∷ rest) w = sink_acts rest (sink_act a w)
+
+-- the sink's engine is stepped
+unfoldable pub sink_steps : ℕ → SinkStimulus → Work → Work
+sink_steps t x w =
+    sink_acts (sink.acts_of t x w.port.sink) (with_port (record w.port { sink = sink.stepped t x w.port.sink }) w)
+
+-- an act of the plug
+abbrev pub plug_act : PlugAct → Work → Work
+plug_act plug_act_is.DropWaiting w = wait Plug Nothing w
+
+-- the acts of the plug, in order
+abbrev pub plug_acts : List PlugAct → Work → Work
+plug_acts [] w = w
+plug_acts (a ∷ rest) w = plug_acts rest (plug_act a w)
+
+-- the plug's engine is stepped
+unfoldable pub plug_steps : ℕ → PlugStimulus → Work → Work
+plug_steps t x w =
+    plug_acts (plug.acts_of t x w.port.plug) (with_port (record w.port { plug = plug.stepped t x w.port.plug }) w)
+
+-- an act of the source: where it turns the power on, the sink is stepped at once
+abbrev pub source_act : ℕ → SourceAct → Work → Work
+source_act t source_act_is.DropWaiting w = wait Source Nothing w
+source_act t source_act_is.On w = sink_steps t sink_told.Vbus w
+source_act t (source_act_is.Send sending) w = wait Source (Message (message_of sending)) w
+
+-- the acts of the source, in order
+abbrev pub source_acts : ℕ → List SourceAct → Work → Work
+source_acts t [] w = w
+source_acts t (a ∷ rest) w = source_acts t rest (source_act t a w)
+
+-- the source after it was stepped
+abbrev pub source_after : ℕ → SourceStimulus → Work → Work
+source_after t x w =
+    let s = w.port.source in
+    record w {
+      port = record w.port { source = record s { «record» = source.stepped s.settings t x w.answer s.record } };
+      answer = None;
+    }
+
+-- the source's engine is stepped, and the answer is used up
+unfoldable pub source_steps : ℕ → SourceStimulus → Work → Work
+source_steps t x w =
+    source_acts t (source.acts_of w.port.source.settings t x w.answer w.port.source.record) (source_after t x w)
+
+-- a side's message has reached its receiver
+unfoldable pub tells_sent : Side → ℕ → Work → Work
+tells_sent Source t = source_steps t source_told.Sent
+tells_sent Sink t = sink_steps t sink_told.Sent
+tells_sent Plug t = plug_steps t plug_told.Sent
+
+-- a side's message was sent as often as it may be, and nobody has answered
+unfoldable pub tells_failed : Side → ℕ → Work → Work
+tells_failed Source t = source_steps t source_told.Failed
+tells_failed Sink t = sink_steps t sink_told.Failed
+tells_failed Plug t = plug_steps t plug_told.Failed
+
+-- a side gets a message
+unfoldable pub tells_message : Side → Contents → ℕ → Work → Work
+tells_message Source p t = source_steps t source_told.Other
+tells_message Sink p t = sink_steps t (sink_hears_as (kind_of_header p.header) p.objects)
+tells_message Plug p t = plug_steps t plug_told.Other
+
+-- a side's timer has ended
+unfoldable pub tells_timer : Side → Timer → ℕ → Work → Work
+tells_timer Source timer t = source_steps t (source_told.Ended timer)
+tells_timer Sink timer t = sink_steps t (sink_told.Ended timer)
+tells_timer Plug timer t = plug_steps t (plug_told.Ended timer)
+
+-- a cable and a sink are attached: source, sink and plug are stepped, in this order
+unfoldable pub tells_attach : Cable → SinkData → ℕ → Work → Work
+tells_attach cable device t w =
+    plug_steps t (plug_told.Attach cable)
+    (sink_steps t (sink_told.Attach device)
+    (source_steps t source_told.Attach (with_port (record w.port { cable = Some cable }) w)))

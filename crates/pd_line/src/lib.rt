@@ -1,0 +1,13 @@
+//! The line of a port: who speaks on it, what reaches whom, and what the layers and engines make of it.
+#![tactic(auto)]
+
+mod lines;
+mod notes;
+mod record;
+mod same;
+mod told;
+mod work;
+
+pub use notes::{Fault, Start};
+pub use record::{Disturbance, Line, Record, Waiting};
+pub use work::Work;

@@ -1,0 +1,48 @@
+//! What a step leaves to be read.
+
+use pd_header::{Kind, Side};
+use pd_packet::{Fate, Packet};
+
+/// What went wrong in a step.
+#[derive(Clone, Copy, Debug, PartialEq, Eq)]
+pub enum Fault {
+    /// The event of this id could do nothing.
+    Ignored { id: u32 },
+    /// A side's message of this kind was sent as often as it may be, and no GoodCRC came.
+    NoGoodCrc { side: Side, kind: Kind },
+}
+
+// What a list of a fixed capacity fills its free places with.
+impl Default for Fault {
+    fn default() -> Fault {
+        Fault::Ignored { id: 0 }
+    }
+}
+
+/// What starts on the line.
+#[derive(Drop)]
+pub enum Start {
+    /// A side's packet, and what becomes of it.
+    Packet {
+        side: Side,
+        packet: Packet,
+        fate: Fate,
+    },
+}
+
+impl Start {
+    ghost use Rattle.std.specs.Prelude.{◌≡◌};
+
+    /// The same start.
+    pub fn copy(&self) -> Start
+        ensures { result ≡ self.now }
+    {
+        match self {
+            Start::Packet { side, packet, fate } => Start::Packet {
+                side: *side,
+                packet: packet.copy(),
+                fate: *fate,
+            },
+        }
+    }
+}

@@ -1,0 +1,266 @@
+//! Equal records, and copies.
+
+ghost use Rattle.std.specs.Prelude.{◌≡◌, ℕ, ◌≤◌, length, IsTrue, ◌↔◌};
+
+use crate::record::{Disturbance, Line, Record, Waiting};
+use arrayvec::ArrayVec;
+use pd_header::Side;
+use pd_objects::Supply;
+use pd_plug::Plug;
+use pd_protocol::Layer;
+use pd_sink::Sink;
+use pd_source::Source;
+use pd_symbols::Channel;
+
+impl Waiting {
+    /// Whether both are the same.
+    fn same(&self, other: &Waiting) -> bool
+        ensures { IsTrue result ↔ (self.now ≡ other.now) }
+    {
+        match (self, other) {
+            (Waiting::Nothing, Waiting::Nothing) => true,
+            (Waiting::Message(message), Waiting::Message(other)) => message.same(other),
+            _ => false,
+        }
+    }
+
+    /// The same.
+    fn copy(&self) -> Waiting
+        ensures { result ≡ self.now }
+    {
+        match self {
+            Waiting::Nothing => Waiting::Nothing,
+            Waiting::Message(message) => Waiting::Message(message.copy()),
+        }
+    }
+}
+
+impl Line {
+    /// Whether both are the same.
+    fn same(&self, other: &Line) -> bool
+        ensures { IsTrue result ↔ (self.now ≡ other.now) }
+    {
+        match (self, other) {
+            (Line::Idle, Line::Idle) => true,
+            (
+                Line::Message {
+                    side: a,
+                    packet: p,
+                    fate: f,
+                    end: t,
+                },
+                Line::Message {
+                    side: b,
+                    packet: q,
+                    fate: g,
+                    end: u,
+                },
+            ) => a == b && p == q && f.same(g) && t == u,
+            (
+                Line::Pause {
+                    side: a,
+                    packet: p,
+                    end: t,
+                },
+                Line::Pause {
+                    side: b,
+                    packet: q,
+                    end: u,
+                },
+            ) => a == b && p == q && t == u,
+            (
+                Line::GoodCrc {
+                    side: a,
+                    packet: p,
+                    answer: c,
+                    fate: f,
+                    end: t,
+                },
+                Line::GoodCrc {
+                    side: b,
+                    packet: q,
+                    answer: d,
+                    fate: g,
+                    end: u,
+                },
+            ) => a == b && p == q && c == d && f.same(g) && t == u,
+            (
+                Line::NoAnswer {
+                    side: a,
+                    packet: p,
+                    end: t,
+                },
+                Line::NoAnswer {
+                    side: b,
+                    packet: q,
+                    end: u,
+                },
+            ) => a == b && p == q && t == u,
+            _ => false,
+        }
+    }
+
+    /// The same.
+    fn copy(&self) -> Line
+        ensures { result ≡ self.now }
+    {
+        match self {
+            Line::Idle => Line::Idle,
+            Line::Message {
+                side,
+                packet,
+                fate,
+                end,
+            } => Line::Message {
+                side: *side,
+                packet: packet.copy(),
+                fate: *fate,
+                end: *end,
+            },
+            Line::Pause { side, packet, end } => Line::Pause {
+                side: *side,
+                packet: packet.copy(),
+                end: *end,
+            },
+            Line::GoodCrc {
+                side,
+                packet,
+                answer,
+                fate,
+                end,
+            } => Line::GoodCrc {
+                side: *side,
+                packet: packet.copy(),
+                answer: answer.copy(),
+                fate: *fate,
+                end: *end,
+            },
+            Line::NoAnswer { side, packet, end } => Line::NoAnswer {
+                side: *side,
+                packet: packet.copy(),
+                end: *end,
+            },
+        }
+    }
+}
+
+impl Disturbance {
+    /// Whether both are the same.
+    fn same(&self, other: &Disturbance) -> bool
+        ensures { IsTrue result ↔ (self.now ≡ other.now) }
+    {
+        match (self, other) {
+            (Disturbance::Lost, Disturbance::Lost) => true,
+            (Disturbance::Damaged(damage), Disturbance::Damaged(other)) => damage.same(other),
+            _ => false,
+        }
+    }
+}
+
+fn same_disturbances(first: &[Disturbance], second: &[Disturbance]) -> bool
+    ensures { IsTrue result ↔ (first.now ≡ second.now) }
+{
+    match (first, second) {
+        ([], []) => true,
+        ([x, xs @ ..], [y, ys @ ..]) => x.same(y) && same_disturbances(xs, ys),
+        _ => false,
+    }
+}
+
+fn copy_disturbances(disturbances: &ArrayVec<Disturbance, 8>) -> ArrayVec<Disturbance, 8>
+    ensures { result ≡ disturbances.now }
+{
+    let mut copy = ArrayVec::new();
+    let _fits = copy.try_extend_from_slice(disturbances.as_slice());
+    copy
+}
+
+impl Record {
+    ghost use Rattle.pd_source.specs.Record.{SourceSettings};
+    ghost use Rattle.pd_line.specs.Record.{without_settings, with_settings, nothing_attached};
+
+    /// A port to which nothing is attached.
+    #[tactic(auto, unfolding(crate::specs::Record::nothing_attached))]
+    pub fn new(supplies: &[Supply], identity_tries: u8, unconstrained: bool) -> Record
+        requires { length supplies.now ≤ 7 }
+        ensures { let settings : SourceSettings = record { supplies = supplies.now; identity_tries = identity_tries; unconstrained = unconstrained } in
+            result ≡ with_settings settings (nothing_attached settings) }
+    {
+        Record {
+            cable: None,
+            source: Source::new(supplies, identity_tries, unconstrained),
+            sink: Sink::new(),
+            plug: Plug::new(),
+            source_sop: Layer::new(Side::Source, Channel::Sop),
+            sink_sop: Layer::new(Side::Sink, Channel::Sop),
+            source_sop_prime: Layer::new(Side::Source, Channel::SopPrime),
+            plug_sop_prime: Layer::new(Side::Plug, Channel::SopPrime),
+            source_waits: Waiting::Nothing,
+            sink_waits: Waiting::Nothing,
+            plug_waits: Waiting::Nothing,
+            line: Line::Idle,
+            disturbances: ArrayVec::new(),
+        }
+    }
+
+    fn same_engines(&self, other: &Record) -> bool
+        ensures { IsTrue result ↔ ((self.now.source.record ≡ other.now.source.record) × (self.now.sink ≡ other.now.sink)
+            × (self.now.plug ≡ other.now.plug)) }
+    {
+        self.source.same_record(&other.source)
+            && self.sink.same(&other.sink)
+            && self.plug.same(&other.plug)
+    }
+
+    fn same_layers(&self, other: &Record) -> bool
+        ensures { IsTrue result ↔ ((self.now.source_sop ≡ other.now.source_sop) × (self.now.sink_sop ≡ other.now.sink_sop)
+            × (self.now.source_sop_prime ≡ other.now.source_sop_prime) × (self.now.plug_sop_prime ≡ other.now.plug_sop_prime)) }
+    {
+        self.source_sop.same(&other.source_sop)
+            && self.sink_sop.same(&other.sink_sop)
+            && self.source_sop_prime.same(&other.source_sop_prime)
+            && self.plug_sop_prime.same(&other.plug_sop_prime)
+    }
+
+    fn same_waiting(&self, other: &Record) -> bool
+        ensures { IsTrue result ↔ ((self.now.source_waits ≡ other.now.source_waits) × (self.now.sink_waits ≡ other.now.sink_waits)
+            × (self.now.plug_waits ≡ other.now.plug_waits)) }
+    {
+        self.source_waits.same(&other.source_waits)
+            && self.sink_waits.same(&other.sink_waits)
+            && self.plug_waits.same(&other.plug_waits)
+    }
+
+    /// Whether both are the same, whatever their sources are set to.
+    pub fn same(&self, other: &Record) -> bool
+        ensures { IsTrue result ↔ (without_settings self.now ≡ without_settings other.now) }
+    {
+        self.cable == other.cable
+            && self.same_engines(other)
+            && self.same_layers(other)
+            && self.same_waiting(other)
+            && self.line.same(&other.line)
+            && same_disturbances(self.disturbances.as_slice(), other.disturbances.as_slice())
+    }
+
+    /// The same record.
+    pub fn copy(&self) -> Record
+        ensures { result ≡ self.now }
+    {
+        Record {
+            cable: self.cable,
+            source: self.source.copy(),
+            sink: self.sink.copy(),
+            plug: self.plug.copy(),
+            source_sop: self.source_sop.copy(),
+            sink_sop: self.sink_sop.copy(),
+            source_sop_prime: self.source_sop_prime.copy(),
+            plug_sop_prime: self.plug_sop_prime.copy(),
+            source_waits: self.source_waits.copy(),
+            sink_waits: self.sink_waits.copy(),
+            plug_waits: self.plug_waits.copy(),
+            line: self.line.copy(),
+            disturbances: copy_disturbances(&self.disturbances),
+        }
+    }
+}

@@ -1,0 +1,283 @@
+//! A step under way, and what the engines' acts do to a port.
+
+ghost use Rattle.std.specs.Prelude.{◌≡◌, ℕ, ◌<◌, ◌≤◌, length};
+
+use crate::notes::{Fault, Start};
+use crate::record::{Record, Waiting};
+use crate::told::{message_of, sink_hears_as};
+use arrayvec::ArrayVec;
+use pd_header::Side;
+use pd_identity::Cable;
+use pd_objects::Answer;
+use pd_packet::Packet;
+use pd_plug::Act as PlugAct;
+use pd_plug::Stimulus as PlugStimulus;
+use pd_protocol::{LayerAct, Message};
+use pd_sink::Act as SinkAct;
+use pd_sink::SinkSettings;
+use pd_sink::Stimulus as SinkStimulus;
+use pd_source::Act as SourceAct;
+use pd_source::Stimulus as SourceStimulus;
+use pd_symbols::Channel;
+use pd_timers::Timer;
+
+/// A step under way: the port, the answer of the shared budget until the source has used it, the faults so far, and
+/// what has started on the line.
+#[derive(Drop)]
+pub struct Work {
+    pub port: Record,
+    pub answer: Option<Answer>,
+    pub faults: ArrayVec<Fault, 8>,
+    pub start: Option<Start>,
+}
+
+impl Work {
+    ghost use Rattle.pd_line.specs.Work.{wait, sink_acts, sink_steps, plug_acts, plug_steps, source_act, source_acts, source_steps, noted, submit_on, good_crc_on, timed_out_on, received_on, tells_sent, tells_failed, tells_message, tells_timer, tells_attach};
+
+    /// Notes a fault.
+    #[tactic(auto, unfolding(crate::specs::Work::noted))]
+    pub fn note(&mut self, fault: Fault)
+        requires { length self.old.faults.items < 8 }
+        ensures { self.new ≡ noted fault self.old }
+    {
+        self.faults.push(fault);
+    }
+
+    /// Puts what waits on a side.
+    #[tactic(auto, unfolding(crate::specs::Work::wait))]
+    pub(crate) fn wait(&mut self, side: Side, waiting: Waiting)
+        ensures after { self.new ≡ wait side waiting self.old }
+        ensures faults { self.new.faults ≡ self.old.faults }
+    {
+        match side {
+            Side::Source => self.port.source_waits = waiting,
+            Side::Sink => self.port.sink_waits = waiting,
+            Side::Plug => self.port.plug_waits = waiting,
+        }
+    }
+
+    /// Submits a message to the layer of a side.
+    #[tactic(auto, unfolding(crate::specs::Work::submit_on))]
+    pub(crate) fn submit_on(
+        &mut self,
+        side: Side,
+        channel: Channel,
+        message: Message,
+        revision: u8,
+    ) -> Result<Packet, Message>
+        requires { revision < 4 }
+        ensures after { self.new ≡ (submit_on side channel message revision self.old).0 }
+        ensures answer { result ≡ (submit_on side channel message revision self.old).1 }
+        ensures faults { self.new.faults ≡ self.old.faults }
+    {
+        match (side, channel) {
+            (Side::Source, Channel::Sop) => self.port.source_sop.submit(message, revision),
+            (Side::Source, Channel::SopPrime) => {
+                self.port.source_sop_prime.submit(message, revision)
+            }
+            (Side::Sink, _) => self.port.sink_sop.submit(message, revision),
+            (Side::Plug, _) => self.port.plug_sop_prime.submit(message, revision),
+        }
+    }
+
+    /// Hands a GoodCRC to the layer of a side.
+    #[tactic(auto, unfolding(crate::specs::Work::good_crc_on))]
+    pub(crate) fn good_crc_on(&mut self, side: Side, channel: Channel, id: u8) -> LayerAct
+        ensures after { self.new ≡ (good_crc_on side channel id self.old).0 }
+        ensures answer { result ≡ (good_crc_on side channel id self.old).1 }
+        ensures faults { self.new.faults ≡ self.old.faults }
+    {
+        match (side, channel) {
+            (Side::Source, Channel::Sop) => self.port.source_sop.good_crc(id),
+            (Side::Source, Channel::SopPrime) => self.port.source_sop_prime.good_crc(id),
+            (Side::Sink, _) => self.port.sink_sop.good_crc(id),
+            (Side::Plug, _) => self.port.plug_sop_prime.good_crc(id),
+        }
+    }
+
+    /// Tells the layer of a side that no GoodCRC has come.
+    #[tactic(auto, unfolding(crate::specs::Work::timed_out_on))]
+    pub(crate) fn timed_out_on(&mut self, side: Side, channel: Channel) -> LayerAct
+        ensures after { self.new ≡ (timed_out_on side channel self.old).0 }
+        ensures answer { result ≡ (timed_out_on side channel self.old).1 }
+        ensures faults { self.new.faults ≡ self.old.faults }
+    {
+        match (side, channel) {
+            (Side::Source, Channel::Sop) => self.port.source_sop.timed_out(),
+            (Side::Source, Channel::SopPrime) => self.port.source_sop_prime.timed_out(),
+            (Side::Sink, _) => self.port.sink_sop.timed_out(),
+            (Side::Plug, _) => self.port.plug_sop_prime.timed_out(),
+        }
+    }
+
+    /// Hands a message's header to the layer of a side.
+    #[tactic(auto, unfolding(crate::specs::Work::received_on))]
+    pub(crate) fn received_on(&mut self, side: Side, channel: Channel, header: u16) -> LayerAct
+        ensures after { self.new ≡ (received_on side channel header self.old).0 }
+        ensures answer { result ≡ (received_on side channel header self.old).1 }
+        ensures faults { self.new.faults ≡ self.old.faults }
+    {
+        match (side, channel) {
+            (Side::Source, Channel::Sop) => self.port.source_sop.received(header),
+            (Side::Source, Channel::SopPrime) => self.port.source_sop_prime.received(header),
+            (Side::Sink, _) => self.port.sink_sop.received(header),
+            (Side::Plug, _) => self.port.plug_sop_prime.received(header),
+        }
+    }
+
+    /// The acts of the sink, in order.
+    fn sink_acts(&mut self, mut rest: ArrayVec<SinkAct, 8>)
+        ensures after { self.new ≡ sink_acts rest.items self.old }
+        ensures faults { self.new.faults ≡ self.old.faults }
+    {
+        'acts: while !rest.is_empty() {
+            match rest.remove(0) {
+                SinkAct::DropWaiting => self.wait(Side::Sink, Waiting::Nothing),
+            }
+        }
+    }
+
+    /// Steps the sink's engine.
+    #[tactic(auto, unfolding(crate::specs::Work::sink_steps))]
+    pub(crate) fn sink_steps(&mut self, t: u64, stimulus: &SinkStimulus)
+        requires { t ≤ 120000000 }
+        ensures after { self.new ≡ sink_steps t stimulus.now self.old }
+        ensures faults { self.new.faults ≡ self.old.faults }
+    {
+        let acts = self.port.sink.step(t, stimulus);
+        self.sink_acts(acts);
+    }
+
+    /// The acts of the plug, in order.
+    fn plug_acts(&mut self, mut rest: ArrayVec<PlugAct, 8>)
+        ensures after { self.new ≡ plug_acts rest.items self.old }
+        ensures faults { self.new.faults ≡ self.old.faults }
+    {
+        'acts: while !rest.is_empty() {
+            match rest.remove(0) {
+                PlugAct::DropWaiting => self.wait(Side::Plug, Waiting::Nothing),
+            }
+        }
+    }
+
+    /// Steps the plug's engine.
+    #[tactic(auto, unfolding(crate::specs::Work::plug_steps))]
+    pub(crate) fn plug_steps(&mut self, t: u64, stimulus: &PlugStimulus)
+        requires { t ≤ 120000000 }
+        ensures after { self.new ≡ plug_steps t stimulus.now self.old }
+        ensures faults { self.new.faults ≡ self.old.faults }
+    {
+        let acts = self.port.plug.step(t, stimulus);
+        self.plug_acts(acts);
+    }
+
+    /// An act of the source.
+    fn source_act(&mut self, t: u64, act: SourceAct)
+        requires { t ≤ 120000000 }
+        ensures after { self.new ≡ source_act t act self.old }
+        ensures faults { self.new.faults ≡ self.old.faults }
+    {
+        match act {
+            SourceAct::DropWaiting => self.wait(Side::Source, Waiting::Nothing),
+            SourceAct::On => self.sink_steps(t, &SinkStimulus::Vbus),
+            SourceAct::Send(sending) => {
+                self.wait(Side::Source, Waiting::Message(message_of(sending)));
+            }
+        }
+    }
+
+    /// The acts of the source, in order.
+    fn source_acts(&mut self, t: u64, mut rest: ArrayVec<SourceAct, 8>)
+        requires { t ≤ 120000000 }
+        ensures after { self.new ≡ source_acts t rest.items self.old }
+        ensures faults { self.new.faults ≡ self.old.faults }
+    {
+        'acts: while !rest.is_empty() {
+            let next = rest.remove(0);
+            self.source_act(t, next);
+        }
+    }
+
+    /// Steps the source's engine.
+    #[tactic(auto, unfolding(crate::specs::Work::source_steps))]
+    pub(crate) fn source_steps(&mut self, t: u64, stimulus: &SourceStimulus)
+        requires { t ≤ 120000000 }
+        ensures after { self.new ≡ source_steps t stimulus.now self.old }
+        ensures faults { self.new.faults ≡ self.old.faults }
+    {
+        let acts = self
+            .port
+            .source
+            .step(t, stimulus, self.answer.take());
+        self.source_acts(t, acts);
+    }
+
+    /// A side's message has reached its receiver.
+    #[tactic(auto, unfolding(crate::specs::Work::tells_sent))]
+    pub(crate) fn tell_sent(&mut self, side: Side, t: u64)
+        requires { t ≤ 120000000 }
+        ensures after { self.new ≡ tells_sent side t self.old }
+        ensures faults { self.new.faults ≡ self.old.faults }
+    {
+        match side {
+            Side::Source => self.source_steps(t, &SourceStimulus::Sent),
+            Side::Sink => self.sink_steps(t, &SinkStimulus::Sent),
+            Side::Plug => self.plug_steps(t, &PlugStimulus::Sent),
+        }
+    }
+
+    /// A side's message was sent as often as it may be, and nobody has answered.
+    #[tactic(auto, unfolding(crate::specs::Work::tells_failed))]
+    pub(crate) fn tell_failed(&mut self, side: Side, t: u64)
+        requires { t ≤ 120000000 }
+        ensures after { self.new ≡ tells_failed side t self.old }
+        ensures faults { self.new.faults ≡ self.old.faults }
+    {
+        match side {
+            Side::Source => self.source_steps(t, &SourceStimulus::Failed),
+            Side::Sink => self.sink_steps(t, &SinkStimulus::Failed),
+            Side::Plug => self.plug_steps(t, &PlugStimulus::Failed),
+        }
+    }
+
+    /// A side gets a message.
+    #[tactic(auto, unfolding(crate::specs::Work::tells_message))]
+    pub(crate) fn tell_message(&mut self, side: Side, packet: &Packet, t: u64)
+        requires { t ≤ 120000000 }
+        ensures after { self.new ≡ tells_message side packet.now t self.old }
+        ensures faults { self.new.faults ≡ self.old.faults }
+    {
+        match side {
+            Side::Source => self.source_steps(t, &SourceStimulus::Other),
+            Side::Sink => self.sink_steps(t, &sink_hears_as(packet)),
+            Side::Plug => self.plug_steps(t, &PlugStimulus::Other),
+        }
+    }
+
+    /// A side's timer has ended.
+    #[tactic(auto, unfolding(crate::specs::Work::tells_timer))]
+    pub fn tell_timer(&mut self, side: Side, timer: Timer, t: u64)
+        requires { t ≤ 120000000 }
+        ensures after { self.new ≡ tells_timer side timer t self.old }
+        ensures faults { self.new.faults ≡ self.old.faults }
+    {
+        match side {
+            Side::Source => self.source_steps(t, &SourceStimulus::Ended(timer)),
+            Side::Sink => self.sink_steps(t, &SinkStimulus::Ended(timer)),
+            Side::Plug => self.plug_steps(t, &PlugStimulus::Ended(timer)),
+        }
+    }
+
+    /// A sink is attached through a cable.
+    #[tactic(auto, unfolding(crate::specs::Work::tells_attach))]
+    pub fn tell_attach(&mut self, cable: Cable, sink: SinkSettings, t: u64)
+        requires { t ≤ 120000000 }
+        ensures after { self.new ≡ tells_attach cable sink t self.old }
+        ensures faults { self.new.faults ≡ self.old.faults }
+    {
+        self.port.cable = Some(cable);
+        self.source_steps(t, &SourceStimulus::Attach);
+        self.sink_steps(t, &SinkStimulus::Attach(sink));
+        self.plug_steps(t, &PlugStimulus::Attach(cable));
+    }
+}

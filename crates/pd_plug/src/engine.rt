@@ -1,0 +1,154 @@
+//! The engine: what it keeps, and its steps.
+
+ghost use Rattle.std.specs.Prelude.{◌≡◌, ◌≤◌, ◌<◌, ◌+◌, ◌++◌, ◌↔◌, IsTrue, length};
+ghost use Rattle.arrayvec.specs.ArrayVec.{array_vec_len};
+ghost use Rattle.pd_timers.specs.Deadlines.{first_of};
+ghost use Rattle.pd_plug.specs.Record.{off};
+ghost use Rattle.pd_plug.specs.Table.{has_no_plug};
+ghost use Rattle.pd_plug.specs.Acts.{after, wants, all_after, all_wants};
+ghost use Rattle.pd_plug.specs.Step.{before_row, stepped, acts_of, hears_in};
+
+use crate::kinds::{Deed, Facts};
+use crate::rows::choose;
+use crate::{Act, State, Stimulus};
+use arrayvec::ArrayVec;
+use pd_identity::{Cable, CablePlug};
+use pd_timers::{Deadlines, Timer};
+use std::marker::Model;
+
+/// The plug's policy engine.
+#[derive(Drop)]
+pub struct Plug {
+    state: State,
+    deadlines: Deadlines,
+    sent: bool,
+    cable: Option<Cable>,
+}
+
+impl Model for Plug {
+    ghost use Rattle.pd_plug.specs.Record.{PlugRecord};
+
+    ghost Value = { PlugRecord };
+
+    ghost view = { λ s. record { state = s.state; deadlines = s.deadlines; sent = s.sent; cable = s.cable } };
+}
+
+impl Plug {
+    /// An engine in Off.
+    pub fn new() -> Plug
+        ensures { result ≡ off }
+    {
+        Plug {
+            state: State::Off,
+            deadlines: Deadlines::new(),
+            sent: false,
+            cable: None,
+        }
+    }
+
+    /// The first deadline.
+    pub fn first(&self) -> Option<(u64, Timer)>
+        ensures { result ≡ first_of self.now.deadlines }
+    {
+        self.deadlines.first()
+    }
+
+    /// Whether messages reach the engine.
+    pub fn hears(&self) -> bool
+        ensures { result ≡ hears_in self.now }
+    {
+        !matches!(self.state, State::Off)
+    }
+
+    /// One step at a time in microseconds: the first row that fits, and its acts.
+    #[tactic(auto, unfolding(crate::specs::Step::stepped, crate::specs::Step::acts_of))]
+    pub fn step(&mut self, now: u64, stimulus: &Stimulus) -> ArrayVec<Act, 8>
+        requires { now ≤ 120000000 }
+        ensures after { self.new ≡ stepped now stimulus.now self.old }
+        ensures acts { result.items ≡ acts_of now stimulus.now self.old }
+        ensures few { length result.items ≤ 6 }
+    {
+        self.arrive(stimulus);
+        let deeds = choose(self.state, *stimulus, self.facts());
+        self.run(deeds)
+    }
+
+    /// A timer that falls due has ended, Sent sets the mark, and a cable that is attached is known.
+    fn arrive(&mut self, stimulus: &Stimulus)
+        ensures { self.new ≡ before_row stimulus.now self.old }
+    {
+        match stimulus {
+            Stimulus::Attach(cable) => self.cable = Some(*cable),
+            Stimulus::Sent => self.sent = true,
+            Stimulus::Ended(timer) => self.deadlines.stop(*timer),
+            _ => {}
+        }
+    }
+
+    /// What the guards of the rows ask.
+    fn facts(&self) -> Facts
+        ensures { result ≡ record { without_plug = has_no_plug self.now.cable } }
+    {
+        let without_plug = match &self.cable {
+            Some(cable) => matches!(cable.plug, CablePlug::Absent),
+            None => false,
+        };
+        Facts { without_plug }
+    }
+
+    /// Takes the acts of a row, in order.
+    fn run(&mut self, deeds: &[Deed]) -> ArrayVec<Act, 8>
+        requires { length deeds.now ≤ 6 }
+        ensures after { self.new ≡ all_after deeds.now self.old }
+        ensures acts { result.items ≡ all_wants deeds.now self.old }
+        ensures few { length result.items ≤ 6 }
+    {
+        let mut acts = ArrayVec::new();
+        for deed in deeds {
+            self.take(*deed, &mut acts);
+        }
+        acts
+    }
+
+    /// Takes one act of a row.
+    fn take(&mut self, deed: Deed, acts: &mut ArrayVec<Act, 8>)
+        requires { array_vec_len acts.old < 8 }
+        ensures after { self.new ≡ after deed self.old }
+        ensures few { array_vec_len acts.new ≤ array_vec_len acts.old + 1 }
+        ensures acts { acts.new.items ≡ acts.old.items ++ wants deed self.old }
+    {
+        match deed {
+            Deed::Enter(state) => {
+                self.state = state;
+                self.deadlines.stop_all();
+                self.sent = false;
+                acts.push(Act::DropWaiting);
+            }
+        }
+    }
+
+    /// Whether both keep the same.
+    pub fn same(&self, other: &Plug) -> bool
+        ensures { IsTrue result ↔ (self.now ≡ other.now) }
+    {
+        self.state == other.state
+            && self.deadlines.same(&other.deadlines)
+            && self.sent == other.sent
+            && self.cable == other.cable
+    }
+
+    /// The same engine.
+    pub fn copy(&self) -> Plug
+        ensures { result ≡ self.now }
+    {
+        Plug {
+            state: self.state,
+            deadlines: self.deadlines.copy(),
+            sent: self.sent,
+            cable: self.cable,
+        }
+    }
+}
+
+#[cfg(test)]
+mod tests;

@@ -1,0 +1,81 @@
+-- How a step of a port is put together.
+use Rattle.std.proofs.Common.{◌≡◌, ℕ, List, [], ◌∷◌, Option, Some, None, refl, ap, sym, subst, ◌∙◌}
+use Rattle.pd_objects.specs.declared.query.Answer.{Answer}
+use Rattle.pd_objects.specs.declared.query.Query.{Query}
+use Rattle.pd_source.specs.Record.{SourceSettings}
+use Rattle.arrayvec.specs.ArrayVec.{ArrayVec}
+use Rattle.pd_line.specs.declared.notes.Fault.{Fault}
+use Rattle.pd_line.specs.declared.notes.Start.{Start}
+use Rattle.pd_line.specs.declared.record.Record.{Record}
+use Rattle.pd_line.specs.declared.work.Work.{Work}
+use Rattle.pd_line.specs.Record.{PortRecord, with_settings, without_settings}
+use Rattle.pd_line.specs.Lines.{line_starts}
+use Rattle.pd_line.specs.Work.{with_port}
+use Rattle.pd_port.specs.declared.due.Due.{Due}
+use Rattle.pd_port.specs.declared.entry.Entry.{Entry}
+use Rattle.pd_port.specs.Settings.{SettingsData}
+use Rattle.pd_port.proofs.Later.{portstep-settings}
+use Rattle.pd_port.specs.Port.{PortData, earlier, begun, happens, portstep, whole, source_settings, ask, record_after, entry_of}
+
+-- the later of nothing
+pub earlier-None : (d : Option Due) → earlier d None ≡ d
+earlier-None None = refl
+earlier-None (Some d) = refl
+
+-- a record is whole with what its source is set to
+pub with_settings-without : (s : SourceSettings) (r : Record) → r.source.settings ≡ s → with_settings s (without_settings r) ≡ r
+with_settings-without s r e = rw (sym e) refl
+
+-- a step begins with no faults and nothing started
+begun_is : (p : Record) (given : Option Answer) (faults : List Fault) (start : Option Start) → faults ≡ [] → start ≡ None →
+    begun p given ≡ record { port = p; answer = given; faults = record { items = faults }; start = start }
+begun_is p given faults start e f = rw (e, f) refl
+
+-- what a port's step does, from the two calls that it makes
+pub portstep_is : (old : Record) (d : Due) (given : Option Answer) (w v u : Work) → w.port ≡ old → w.answer ≡ given → w.faults.items ≡ [] → w.start ≡ None →
+    v ≡ happens d.what d.time w → u ≡ line_starts d.time v → u ≡ portstep old d given
+unfolding portstep
+portstep_is old d given w v u same answered faults start first second =
+    let e : begun old given ≡ w = rw (sym same, sym answered) (begun_is w.port w.answer w.faults.items w.start faults start) in
+    rw (second, first, e) refl
+
+abbrev port_data : SettingsData → PortRecord → PortData
+port_data s r = record { settings = s; «record» = r }
+
+-- the work of a step, from what a port was before it
+pub worked : (p : PortData) (settings : SettingsData) (w v u : Work) (d : Due) (given : Option Answer) →
+    ◌≡◌ {A = PortData} (record { settings = settings; «record» = without_settings w.port }) p →
+    w.faults.items ≡ [] → w.start ≡ None → w.port.source.settings ≡ source_settings settings →
+    v ≡ happens d.what d.time (record w { answer = given }) → u ≡ line_starts d.time v →
+    u ≡ portstep (whole p.settings p.record) d given
+worked p settings w v u d given view faults start set first second =
+    let a = portstep_is w.port d given (record w { answer = given }) v u refl refl faults start first second in
+    let b : with_settings (source_settings settings) (without_settings w.port) ≡ w.port = with_settings-without (source_settings settings) w.port set in
+    let c : u ≡ portstep (with_settings (source_settings settings) (without_settings w.port)) d given = a ∙ ap (λ (r : Record). portstep r d given) (sym b) in
+    subst (λ (q : PortData). u ≡ portstep (whole q.settings q.record) d given) view c
+
+-- what a port is after it
+pub after_is : (p : PortData) (settings : SettingsData) (w u : Work) (d : Due) (given : Option Answer) →
+    ◌≡◌ {A = PortData} (record { settings = settings; «record» = without_settings w.port }) p →
+    u ≡ portstep (whole p.settings p.record) d given →
+    ◌≡◌ {A = PortData} (record { settings = settings; «record» = without_settings u.port }) (record { settings = p.settings; «record» = record_after p.settings p.record d given })
+unfolding record_after
+after_is p settings w u d given view e =
+    let same : settings ≡ p.settings = ap (λ (q : PortData). q.settings) view in
+    let done : without_settings u.port ≡ without_settings (portstep (whole p.settings p.record) d given).port = ap (λ (x : Work). without_settings x.port) e in
+    (ap (λ (x : SettingsData). port_data x (without_settings u.port)) same) ∙ ap (port_data p.settings) done
+
+-- what its source is set to
+pub settings_are : (p : PortData) (settings : SettingsData) (w u : Work) (d : Due) (given : Option Answer) →
+    ◌≡◌ {A = PortData} (record { settings = settings; «record» = without_settings w.port }) p →
+    u ≡ portstep (whole p.settings p.record) d given → u.port.source.settings ≡ source_settings settings
+settings_are p settings w u d given view e =
+    let same : p.settings ≡ settings = ap (λ (q : PortData). q.settings) (sym view) in
+    ap (λ (x : Work). x.port.source.settings) e ∙ portstep-settings (whole p.settings p.record) d given ∙ ap source_settings same
+
+-- what is left to be read
+pub entry_is : (p : PortData) (u : Work) (d : Due) (given : Option Answer) (query : Option Query) (faults : ArrayVec Fault) (start : Option Start) →
+    u ≡ portstep (whole p.settings p.record) d given → query ≡ ask p.settings p.record d → faults ≡ u.faults → start ≡ u.start →
+    ◌≡◌ {A = Entry} (record { at = d.time; due = d; query = query; faults = faults; start = start }) (entry_of p.settings p.record d given)
+unfolding entry_of
+entry_is p u d given query faults start e q f g = rw (q, f, g, e) refl

@@ -1,0 +1,22 @@
+use Rattle.std.proofs.Common.{◌≡◌, refl, rules}
+use Rattle.pd_port.specs.Port.{portstep, whole}
+use Rattle.pd_port.proofs.Steps.{worked, after_is, settings_are, entry_is}
+use Rattle.pd_port.proofs.port.Port.step.Goals as goal
+
+done : (c : goal.After-take) → c.line_starts.new.self ≡ portstep (whole c.args.self.now.settings c.args.self.now.record) c.args.due.now c.args.answer
+done c =
+    worked c.args.self.now c.self.inside.settings c.self.inside.work c.happens.new.work c.line_starts.new.self c.args.due.now c.args.answer
+    c.self.view_is c.self.invariant.0 c.self.invariant.1 c.self.invariant.2 c.happens.ensures c.line_starts.ensures.after
+
+pub invariant_of-self : goal.invariant_of-self
+invariant_of-self c =
+    let a = c.replace.ensures.after in
+    (rw a c.new.ensures, c.take.ensures.after, settings_are c.args.self.now c.self.inside.settings c.self.inside.work c.line_starts.new.self c.args.due.now c.args.answer c.self.view_is (done c))
+
+pub returns-clause-after : goal.returns-clause-after
+returns-clause-after c =
+    after_is c.args.self.now c.self.inside.settings c.self.inside.work c.line_starts.new.self c.args.due.now c.args.answer c.self.view_is (done c)
+
+pub returns-clause-entry : goal.returns-clause-entry
+returns-clause-entry c =
+    entry_is c.args.self.now c.line_starts.new.self c.args.due.now c.args.answer c.ask-query.result c.replace.result c.take.result (done c) c.ask-query.ensures c.replace.ensures.value c.take.ensures.value

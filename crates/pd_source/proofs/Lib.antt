@@ -1,0 +1,5 @@
+pub mod Powers
+pub mod Later
+pub mod Answered
+pub mod Holds
+pub mod Objects

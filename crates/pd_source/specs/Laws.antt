@@ -1,0 +1,55 @@
+-- Laws of the source's policy engine.
+use Rattle.std.specs.Prelude.{◌≡◌, ℕ, ◌≤◌, ◌*◌, ◌%◌, Bool, if◌then◌else◌, Option, None}
+use Rattle.pd_symbols.specs.Words.{field}
+use Rattle.pd_timers.specs.Deadlines.{SetsLater}
+use Rattle.pd_objects.specs.declared.query.Answer.{Answer}
+use Rattle.pd_objects.specs.Answers.{IsAllowed}
+use Rattle.pd_objects.specs.Supply.{SupplyData, IsSupply}
+use Rattle.pd_source.specs.declared.kinds.Stimulus.{Stimulus}
+use Rattle.pd_source.specs.Record.{SourceSettings, SourceRecord, off}
+use Rattle.pd_source.specs.Acts.{object_of}
+use Rattle.pd_source.specs.Step.{before_row, stepped, acts_of, query_of, hold_of}
+
+-- after a step, each deadline that runs ran before it, and wasn't the one that fell due, or is later than the step
+abbrev pub StepsSetLater : Type 0
+StepsSetLater =
+    (s : SourceSettings) (now : ℕ) (x : Stimulus) (a : Option Answer) (r : SourceRecord) →
+    SetsLater now (before_row x r).deadlines (stepped s now x a r).deadlines
+
+-- where the engine asks nothing, no answer matters
+abbrev pub StepsReadOnlyTheirAnswer : Type 0
+StepsReadOnlyTheirAnswer =
+    (s : SourceSettings) (now : ℕ) (x : Stimulus) (a b : Option Answer) (r : SourceRecord) →
+    query_of s x r ≡ None →
+    (stepped s now x a r ≡ stepped s now x b r) × (acts_of s now x a r ≡ acts_of s now x b r)
+
+-- a hold is at least the floor
+abbrev pub HoldsKeepTheFloor : Type 0
+HoldsKeepTheFloor = (s : SourceSettings) (floor : ℕ) (r : SourceRecord) → floor ≤ hold_of s floor r
+
+-- a detached port holds its floor
+abbrev pub HoldsOfDetachedAreFloors : Type 0
+HoldsOfDetachedAreFloors = (s : SourceSettings) (floor : ℕ) → hold_of s floor (off s) ≡ floor
+
+-- a hold within the free power is still within it after a step with an answer that this power allows
+abbrev pub HoldsStayAllowed : Type 0
+HoldsStayAllowed =
+    (s : SourceSettings) (floor free now : ℕ) (x : Stimulus) (a : Option Answer) (r : SourceRecord) →
+    hold_of s floor r ≤ free → IsAllowed free (query_of s x r) a → hold_of s floor (stepped s now x a r) ≤ free
+
+-- An object of Source_Capabilities offers a supply at a current in mA: a fixed supply, of its voltage and this current.
+-- Bit 27 tells whether the power is unconstrained; no other flag is set, and there is no peak current.
+pub record Offers (w : ℕ) (unconstrained : Bool) (supply : SupplyData) (ma : ℕ) : Type 0 where
+  pub fixed : field w 31 30 ≡ 0
+  pub no_dual_role_no_suspend : field w 29 28 ≡ 0
+  pub unconstrained_power : field w 27 27 ≡ (if unconstrained then 1 else 0)
+  pub no_other_flag : field w 26 22 ≡ 0
+  pub no_peak_current : field w 21 20 ≡ 0
+  pub voltage : field w 19 10 * 50 ≡ supply.mv
+  pub current : field w 9 0 * 10 ≡ ma
+
+-- what is sent for a supply offers it, at each current up to its greatest, in steps of 10 mA
+abbrev pub ObjectsOfferTheirSupplies : Type 0
+ObjectsOfferTheirSupplies =
+    (unconstrained : Bool) (supply : SupplyData) (ma : ℕ) →
+    IsSupply supply → ma ≤ supply.ma → ma % 10 ≡ 0 → Offers (object_of unconstrained supply ma) unconstrained supply ma

@@ -1,0 +1,10 @@
+//! The source's policy engine.
+#![tactic(auto)]
+
+mod engine;
+mod kinds;
+pub mod laws;
+mod rows;
+
+pub use engine::Source;
+pub use kinds::{Act, Sending, State, Stimulus};
