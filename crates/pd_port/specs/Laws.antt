@@ -1,8 +1,10 @@
 -- What the run of a charger relies on of a port's step.
-use Rattle.std.specs.Prelude.{◌≡◌, ◌⊎◌, ℕ, ◌+◌, ◌≤◌, ◌<◌, nat_le, if◌then◌else◌, Bool, true, false, List, [], ◌∷◌, Option, Some, None}
-use Rattle.pd_header.specs.declared.side.Side.{Side}
+use Rattle.std.specs.Prelude.{◌≡◌, ◌⊎◌, ℕ, ◌+◌, ◌≤◌, nat_le, if◌then◌else◌, false, List, [], ◌∷◌, Option, Some, None}
 use Rattle.pd_header.specs.declared.side.Side.TheVariants.{Source, Sink, Plug}
 use Rattle.pd_objects.specs.declared.query.Answer.{Answer}
+use Rattle.pd_source.specs.Record.{SourceSettings, SourceRecord}
+use Rattle.pd_source.specs.Step as source
+use Rattle.pd_source.specs.declared.kinds.Stimulus.{Stimulus}
 use Rattle.pd_timers.specs.declared.Timer.{Timer}
 use Rattle.pd_timers.specs.Deadlines.{timers, deadline, stopped}
 use Rattle.pd_line.specs.Record.{PortRecord}
@@ -12,7 +14,7 @@ use Rattle.pd_port.specs.declared.due.What.{What}
 use Rattle.pd_port.specs.declared.due.What.TheVariants as what
 use Rattle.pd_port.specs.Events.{EventData}
 use Rattle.pd_port.specs.Settings.{SettingsData}
-use Rattle.pd_port.specs.Port.{dues, due, is_before, record_after}
+use Rattle.pd_port.specs.Port.{dues, due, is_before, whole, source_settings, source_told, ask, record_after, entry_of}
 
 -- the next event isn't before t
 abbrev pub NotBefore : ℕ → Option EventData → Type 0
@@ -63,3 +65,21 @@ pub record IsEarliest (d : Due) (ds : List (Option Due)) : Type 0 where
 
 abbrev pub DuesAreEarliest : Type 0
 DuesAreEarliest = (r : PortRecord) (next : Option EventData) (d : Due) → due r next ≡ Some d → IsEarliest d (dues r next)
+
+-- the source after a step at t, with what it is told and with the answer. Where it is told nothing, it takes no step
+abbrev pub source_after_told : SourceSettings → ℕ → Option Stimulus → Option Answer → SourceRecord → SourceRecord
+source_after_told s t None given r = r
+source_after_told s t (Some x) given r = source.stepped s t x given r
+
+-- in a step of the port the source takes one step, with what `source_told` says and with the answer, and none where it
+-- says nothing
+abbrev pub SourceStepsOnce : Type 0
+SourceStepsOnce =
+    (s : SettingsData) (r : PortRecord) (d : Due) (given : Option Answer) →
+    (record_after s r d given).source ≡ source_after_told (source_settings s) d.time (source_told d.what (whole s r)) given r.source
+
+-- where the port asks nothing, no answer matters: not to what it becomes, and not to what is read of its step
+abbrev pub AnswersMatterOnlyWhereAsked : Type 0
+AnswersMatterOnlyWhereAsked =
+    (s : SettingsData) (r : PortRecord) (d : Due) (a b : Option Answer) → ask s r d ≡ None →
+    (record_after s r d a ≡ record_after s r d b) × (entry_of s r d a ≡ entry_of s r d b)
