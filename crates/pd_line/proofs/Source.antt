@@ -415,8 +415,3 @@ line_starts_spares t w =
     (chooses (is_waiting w.port.sink_waits) w _ _ _ _ (side_starts_spares Sink t w)
     (chooses (is_waiting w.port.plug_waits) w _ _ _ _ (side_starts_spares Plug t w) (none w))))
     (none w)
-
--- while the line is busy, nothing starts
-pub line_starts-busy : (t : ℕ) (w : Work) → is_idle w.port.line ≡ false → line_starts t w ≡ w
-unfolding line_starts
-line_starts-busy t w h = rw h refl

@@ -1,5 +1,5 @@
 -- What the run of a charger relies on of a port's step.
-use Rattle.std.specs.Prelude.{◌≡◌, ◌⊎◌, ℕ, ◌+◌, ◌≤◌, nat_le, if◌then◌else◌, false, List, [], ◌∷◌, Option, Some, None}
+use Rattle.std.specs.Prelude.{◌≡◌, ◌⊎◌, ℕ, ◌+◌, ◌≤◌, nat_le, if◌then◌else◌, Bool, true, false, List, [], ◌∷◌, Option, Some, None}
 use Rattle.pd_header.specs.declared.side.Side.TheVariants.{Source, Sink, Plug}
 use Rattle.pd_objects.specs.declared.query.Answer.{Answer}
 use Rattle.pd_source.specs.Record.{SourceSettings, SourceRecord}
@@ -7,14 +7,16 @@ use Rattle.pd_source.specs.Step as source
 use Rattle.pd_source.specs.declared.kinds.Stimulus.{Stimulus}
 use Rattle.pd_timers.specs.declared.Timer.{Timer}
 use Rattle.pd_timers.specs.Deadlines.{timers, deadline, stopped}
+use Rattle.pd_line.specs.declared.record.Record.{Record}
 use Rattle.pd_line.specs.Record.{PortRecord}
+use Rattle.pd_line.specs.Lines.{is_idle}
 use Rattle.pd_line.specs.Later.{Times, times_of, Later}
 use Rattle.pd_port.specs.declared.due.Due.{Due}
 use Rattle.pd_port.specs.declared.due.What.{What}
 use Rattle.pd_port.specs.declared.due.What.TheVariants as what
 use Rattle.pd_port.specs.Events.{EventData}
 use Rattle.pd_port.specs.Settings.{SettingsData}
-use Rattle.pd_port.specs.Port.{dues, due, is_before, whole, source_settings, source_told, ask, record_after, entry_of}
+use Rattle.pd_port.specs.Port.{dues, due, is_before, begun, happens, portstep, whole, source_settings, source_told, ask, record_after, entry_of}
 
 -- the next event isn't before t
 abbrev pub NotBefore : ℕ → Option EventData → Type 0
@@ -83,3 +85,21 @@ abbrev pub AnswersMatterOnlyWhereAsked : Type 0
 AnswersMatterOnlyWhereAsked =
     (s : SettingsData) (r : PortRecord) (d : Due) (a b : Option Answer) → ask s r d ≡ None →
     (record_after s r d a ≡ record_after s r d b) × (entry_of s r d a ≡ entry_of s r d b)
+
+-- where what falls due leaves the line busy, the step does no more: nothing that waits starts
+abbrev pub WaitsWhileBusy : Type 0
+WaitsWhileBusy =
+    (r : Record) (d : Due) (given : Option Answer) →
+    is_idle (happens d.what d.time (begun r given)).port.line ≡ false →
+    portstep r d given ≡ happens d.what d.time (begun r given)
+
+-- whether the end of what is on the line falls due
+abbrev pub is_line : What → Bool
+is_line what.Line = true
+is_line _ = false
+
+-- while something is on the line, its own end alone changes the line, and starts anything
+abbrev pub BusyLinesAreLeft : Type 0
+BusyLinesAreLeft =
+    (s : SettingsData) (r : PortRecord) (d : Due) (given : Option Answer) → is_idle r.line ≡ false → is_line d.what ≡ false →
+    ((record_after s r d given).line ≡ r.line) × ((entry_of s r d given).start ≡ None)

@@ -1,6 +1,6 @@
 //! Laws of a port's step. They run nothing.
 
-ghost use Rattle.pd_port.specs.Laws.{StepsSetLater, DuesAreEarliest, SourceStepsOnce, AnswersMatterOnlyWhereAsked};
+ghost use Rattle.pd_port.specs.Laws.{StepsSetLater, DuesAreEarliest, SourceStepsOnce, AnswersMatterOnlyWhereAsked, WaitsWhileBusy, BusyLinesAreLeft};
 
 /// Each deadline and each line's end that a step sets is later than the step.
 pub fn later()
@@ -21,4 +21,11 @@ pub fn steps_once()
 /// Where the port asks nothing, no answer matters.
 pub fn answered()
     ensures { AnswersMatterOnlyWhereAsked }
+{}
+
+/// What waits starts only while the line is idle, and while something is on the line, its own end alone changes the line
+/// and starts anything.
+pub fn busy()
+    ensures waits { WaitsWhileBusy }
+    ensures left { BusyLinesAreLeft }
 {}
