@@ -1,11 +1,11 @@
 -- While the line is busy, nothing but its own end starts anything.
-use Rattle.std.proofs.Common.{◌≡◌, ℕ, Bool, true, false, is_some, if◌then◌else◌, Option, None, ◌∙◌, ap}
+use Rattle.std.proofs.Common.{◌≡◌, ◌⊎◌, inl, inr, ℕ, Bool, true, false, is_some, if◌then◌else◌, Option, None, refl, ◌∙◌, ap, sym}
 use Rattle.pd_objects.specs.declared.query.Answer.{Answer}
 use Rattle.pd_line.specs.declared.notes.Fault.TheVariants.{Ignored}
 use Rattle.pd_line.specs.declared.record.Record.{Record}
 use Rattle.pd_line.specs.declared.work.Work.{Work}
 use Rattle.pd_line.specs.Lines.{is_idle}
-use Rattle.pd_line.proofs.Busy.{LeavesLine, line_starts-busy, noted_line, tells_timer_line, tells_attach_line}
+use Rattle.pd_line.proofs.Busy.{LeavesLine, StartsOne, line_ends_one, line_starts-busy, noted_line, tells_timer_line, tells_attach_line}
 use Rattle.pd_port.specs.declared.due.Due.{Due}
 use Rattle.pd_port.specs.declared.due.What.{What}
 use Rattle.pd_port.specs.declared.due.What.TheVariants as what
@@ -52,3 +52,18 @@ pub entry_of-start : (s : SettingsData) (r : PortRecord) (d : Due) (given : Opti
     (entry_of s r d given).start ≡ None
 unfolding entry_of
 entry_of-start s r d given h n = (portstep_line (whole s r) d given h n).start
+
+happens_one : (x : What) (t : ℕ) (w : Work) → StartsOne w (happens x t w)
+happens_one (what.Event e) t w = inl (event_line e.id e.kind t w).start
+happens_one what.Line t w = line_ends_one t w
+happens_one (what.Timer side timer) t w = inl (tells_timer_line side timer t w).start
+
+one_of : (r : Record) (d : Due) (given : Option Answer) (v : Work) → v ≡ happens d.what d.time (begun r given) → StartsOne (begun r given) v →
+    (v.start ≡ None) ⊎ (portstep r d given ≡ v)
+one_of r d given v e (inl h) = inl h
+one_of r d given v e (inr h) = inr (portstep-busy r d given (ap (λ (w : Work). is_idle w.port.line) (sym e) ∙ h) ∙ sym e)
+
+-- what falls due starts nothing, or else nothing that waits starts
+pub portstep-one : (r : Record) (d : Due) (given : Option Answer) →
+    ((happens d.what d.time (begun r given)).start ≡ None) ⊎ (portstep r d given ≡ happens d.what d.time (begun r given))
+portstep-one r d given = one_of r d given (happens d.what d.time (begun r given)) refl (happens_one d.what d.time (begun r given))

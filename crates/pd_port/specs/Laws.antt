@@ -93,6 +93,12 @@ WaitsWhileBusy =
     is_idle (happens d.what d.time (begun r given)).port.line ≡ false →
     portstep r d given ≡ happens d.what d.time (begun r given)
 
+-- what falls due starts no packet, or else the step does no more: no step starts two
+abbrev pub StartsNoTwo : Type 0
+StartsNoTwo =
+    (r : Record) (d : Due) (given : Option Answer) →
+    ((happens d.what d.time (begun r given)).start ≡ None) ⊎ (portstep r d given ≡ happens d.what d.time (begun r given))
+
 -- whether the end of what is on the line falls due
 abbrev pub is_line : What → Bool
 is_line what.Line = true

@@ -1,6 +1,6 @@
 //! Laws of a port's step. They run nothing.
 
-ghost use Rattle.pd_port.specs.Laws.{StepsSetLater, DuesAreEarliest, SourceStepsOnce, AnswersMatterOnlyWhereAsked, WaitsWhileBusy, BusyLinesAreLeft};
+ghost use Rattle.pd_port.specs.Laws.{StepsSetLater, DuesAreEarliest, SourceStepsOnce, AnswersMatterOnlyWhereAsked, WaitsWhileBusy, StartsNoTwo, BusyLinesAreLeft};
 
 /// Each deadline and each line's end that a step sets is later than the step.
 pub fn later()
@@ -23,9 +23,10 @@ pub fn answered()
     ensures { AnswersMatterOnlyWhereAsked }
 {}
 
-/// What waits starts only while the line is idle, and while something is on the line, its own end alone changes the line
-/// and starts anything.
+/// What waits starts only while the line is idle, and in no step in which what falls due starts a packet. While
+/// something is on the line, its own end alone changes the line and starts anything.
 pub fn busy()
     ensures waits { WaitsWhileBusy }
+    ensures no_two { StartsNoTwo }
     ensures left { BusyLinesAreLeft }
 {}
