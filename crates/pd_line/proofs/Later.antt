@@ -117,8 +117,8 @@ leaves t w v e f g =
       later = rw g (later_kept t (times w.port));
       stays_bounded = λ free floor h. bounded_along free floor w v e f h;
     } where
-  bounded_along : (free floor : ℕ) (w v : Work) → v.port.source ≡ w.port.source → v.answer ≡ w.answer → IsBounded free floor w → IsBounded free floor v
-  bounded_along free floor w v e f h = record { answer = rw (e, f) h.answer; held = rw e h.held }
+      bounded_along : (free floor : ℕ) (w v : Work) → v.port.source ≡ w.port.source → v.answer ≡ w.answer → IsBounded free floor w → IsBounded free floor v
+      bounded_along free floor w v e f h = record { answer = rw (e, f) h.answer; held = rw e h.held }
 
 -- one after the other
 pub joins : (t : ℕ) (s : SourceSettings) (a : Times) (bounded : ℕ → ℕ → Type 0) (b c : Work) → Leads t s a bounded b → LeadsOn t b c →
@@ -189,11 +189,11 @@ unfolding sink_steps
 sink_steps_lead t x w =
     let v = with_port (record w.port { sink = sink.stepped t x w.port.sink }) w in
     let h : Leads t w.port.source.settings (sink_before x w.port) (bounds w) v =
-      record {
-        settings_are = refl;
-        later = record { source = sets_kept t _; sink = sink_later t x w.port.sink; plug = sets_kept t _; line = line_kept t _ };
-        stays_bounded = λ free floor g. record { answer = g.answer; held = g.held };
-      } in
+    record {
+      settings_are = refl;
+      later = record { source = sets_kept t _; sink = sink_later t x w.port.sink; plug = sets_kept t _; line = line_kept t _ };
+      stays_bounded = λ free floor g. record { answer = g.answer; held = g.held };
+    } in
     let acts = sink.acts_of t x w.port.sink in
     joins t _ (sink_before x w.port) _ v (sink_acts acts v) h (sink_acts_lead acts t v)
 
@@ -213,11 +213,11 @@ unfolding plug_steps
 plug_steps_lead t x w =
     let v = with_port (record w.port { plug = plug.stepped t x w.port.plug }) w in
     let h : Leads t w.port.source.settings (plug_before x w.port) (bounds w) v =
-      record {
-        settings_are = refl;
-        later = record { source = sets_kept t _; sink = sets_kept t _; plug = plug_later t x w.port.plug; line = line_kept t _ };
-        stays_bounded = λ free floor g. record { answer = g.answer; held = g.held };
-      } in
+    record {
+      settings_are = refl;
+      later = record { source = sets_kept t _; sink = sets_kept t _; plug = plug_later t x w.port.plug; line = line_kept t _ };
+      stays_bounded = λ free floor g. record { answer = g.answer; held = g.held };
+    } in
     let acts = plug.acts_of t x w.port.plug in
     joins t _ (plug_before x w.port) _ v (plug_acts acts v) h (plug_acts_lead acts t v)
 
@@ -243,14 +243,14 @@ source_steps_lead t x w =
     let v = source_after t x w in
     let s = w.port.source in
     let h : Leads t s.settings (source_before x w.port) (bounds w) v =
-      record {
-        settings_are = refl;
-        later = record { source = source_later s.settings t x w.answer s.record; sink = sets_kept t _; plug = sets_kept t _; line = line_kept t _ };
-        stays_bounded = λ free floor g. record {
-          answer = safe-None s.settings floor free;
-          held = hold_of-safe s.settings floor free t x w.answer s.record g.held g.answer;
-        };
-      } in
+    record {
+      settings_are = refl;
+      later = record { source = source_later s.settings t x w.answer s.record; sink = sets_kept t _; plug = sets_kept t _; line = line_kept t _ };
+      stays_bounded = λ free floor g. record {
+        answer = safe-None s.settings floor free;
+        held = hold_of-safe s.settings floor free t x w.answer s.record g.held g.answer;
+      };
+    } in
     let acts = source.acts_of s.settings t x w.answer s.record in
     joins t _ (source_before x w.port) _ v (source_acts t acts v) h (source_acts_lead acts t v)
 

@@ -186,14 +186,7 @@ impl Work {
 
     /// A GoodCRC has ended, for the sender.
     #[tactic(auto, unfolding(crate::specs::Lines::with_line))]
-    fn acknowledged(
-        &mut self,
-        side: Side,
-        packet: &Packet,
-        answer: &Packet,
-        fate: Fate,
-        t: u64,
-    )
+    fn acknowledged(&mut self, side: Side, packet: &Packet, answer: &Packet, fate: Fate, t: u64)
         requires { t ≤ 120000000 }
         ensures after { self.new ≡ acknowledged side packet.now t (heard answer.now fate) self.old }
         ensures faults { self.new.faults ≡ self.old.faults }
@@ -217,14 +210,7 @@ impl Work {
 
     /// A GoodCRC has ended.
     #[tactic(auto, unfolding(crate::specs::Lines::good_crc_ends))]
-    fn good_crc_ends(
-        &mut self,
-        side: Side,
-        packet: &Packet,
-        answer: &Packet,
-        fate: Fate,
-        t: u64,
-    )
+    fn good_crc_ends(&mut self, side: Side, packet: &Packet, answer: &Packet, fate: Fate, t: u64)
         requires { t ≤ 120000000 }
         ensures after { self.new ≡ good_crc_ends side packet.now answer.now fate t self.old }
         ensures faults { self.new.faults ≡ self.old.faults }
@@ -263,7 +249,10 @@ impl Work {
         match mem::replace(&mut self.port.line, Line::Idle) {
             Line::Idle => {}
             Line::Message {
-                side, packet, fate, ..
+                side,
+                packet,
+                fate,
+                ..
             } => self.message_ends(side, packet, fate, t),
             Line::Pause { side, packet, .. } => self.good_crc_starts(side, packet, t),
             Line::GoodCrc {

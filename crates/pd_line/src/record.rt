@@ -36,7 +36,11 @@ pub enum Line {
         end: u64,
     },
     /// A side's message was heard, and its GoodCRC comes next.
-    Pause { side: Side, packet: Packet, end: u64 },
+    Pause {
+        side: Side,
+        packet: Packet,
+        end: u64,
+    },
     /// The GoodCRC for a side's message is sent.
     GoodCrc {
         side: Side,
@@ -46,7 +50,11 @@ pub enum Line {
         end: u64,
     },
     /// No GoodCRC for a side's message has come, or it was disturbed.
-    NoAnswer { side: Side, packet: Packet, end: u64 },
+    NoAnswer {
+        side: Side,
+        packet: Packet,
+        end: u64,
+    },
 }
 
 /// All that a port keeps from step to step: its cable, the engines, the layers, what waits, what is on the line, and

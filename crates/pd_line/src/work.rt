@@ -10,14 +10,10 @@ use pd_header::Side;
 use pd_identity::Cable;
 use pd_objects::Answer;
 use pd_packet::Packet;
-use pd_plug::Act as PlugAct;
-use pd_plug::Stimulus as PlugStimulus;
+use pd_plug::{Act as PlugAct, Stimulus as PlugStimulus};
 use pd_protocol::{LayerAct, Message};
-use pd_sink::Act as SinkAct;
-use pd_sink::SinkSettings;
-use pd_sink::Stimulus as SinkStimulus;
-use pd_source::Act as SourceAct;
-use pd_source::Stimulus as SourceStimulus;
+use pd_sink::{Act as SinkAct, SinkSettings, Stimulus as SinkStimulus};
+use pd_source::{Act as SourceAct, Stimulus as SourceStimulus};
 use pd_symbols::Channel;
 use pd_timers::Timer;
 
@@ -205,10 +201,7 @@ impl Work {
         ensures after { self.new ≡ source_steps t stimulus.now self.old }
         ensures faults { self.new.faults ≡ self.old.faults }
     {
-        let acts = self
-            .port
-            .source
-            .step(t, stimulus, self.answer.take());
+        let acts = self.port.source.step(t, stimulus, self.answer.take());
         self.source_acts(t, acts);
     }
 

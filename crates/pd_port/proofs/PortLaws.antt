@@ -322,7 +322,7 @@ hold_fits s r d x f h i =
     let set = source_settings s in
     let least = hold_of-floor set (floor_of s) r.source in
     let begin : IsBounded f (floor_of s) (begun (whole s r) x) =
-      record { answer = safe_told set r.source (floor_of s) f (source_told d.what (whole s r)) x (omega arith) i; held = h } in
+    record { answer = safe_told set r.source (floor_of s) f (source_told d.what (whole s r)) x (omega arith) i; held = h } in
     let end = (portstep-bounded (whole s r) d x f (floor_of s) begin).held in
     let same = portstep-settings (whole s r) d x in
     subst (λ (z : SourceSettings). hold_of z (floor_of s) (portstep (whole s r) d x).port.source.record ≤ f) same end
