@@ -170,3 +170,49 @@ fn answers_without_memory(rt: HostRuntime) -> Result<(), Fail> {
     }
     Ok(())
 }
+
+const EDITS: &[u8] = b"show transcript 1
+move 1 1
+show transcript 1
+move 2 5
+remove 1
+show transcript 1
+insert 1 0 1 attach thin phone
+insert 1 0 1 attach thin phone
+show transcript 1
+";
+
+const REPLIES: &[u8] = b"= transcript 1
+    50000 src SOP Source_Capabilities 0: 18 18 18 11 09 16 09 09 1A 14 09 13 09 1E 1E 1E 16 1B 1C 14 1A 14 09 15 0D
+    50730 snk SOP GoodCRC 0: 18 18 18 11 09 12 1E 1E 0B 1D 17 17 09 0A 15 0E 0D
+ok
+= transcript 1
+    50001 src SOP Source_Capabilities 0: 18 18 18 11 09 16 09 09 1A 14 09 13 09 1E 1E 1E 16 1B 1C 14 1A 14 09 15 0D
+    50731 snk SOP GoodCRC 0: 18 18 18 11 09 12 1E 1E 0B 1D 17 17 09 0A 15 0E 0D
+refused 22
+ok
+= transcript 1
+ok
+refused 21
+= transcript 1
+    50000 src SOP Source_Capabilities 0: 18 18 18 11 09 16 09 09 1A 14 09 13 09 1E 1E 1E 16 1B 1C 14 1A 14 09 15 0D
+    50730 snk SOP GoodCRC 0: 18 18 18 11 09 12 1E 1E 0B 1D 17 17 09 0A 15 0E 0D
+done 3 edits 2 refused 4 shows
+";
+
+#[test]
+fn refuses_and_goes_on(rt: HostRuntime) -> Result<(), Fail> {
+    let mut page = Page::new(600, 0, false);
+    let _ = run(rt.alloc(), &mut Script::new(EDITS, 600, 0), &mut page)?;
+    assert_eq!(rt; page.text(), REPLIES);
+    Ok(())
+}
+
+#[test]
+fn answers_an_empty_script(rt: HostRuntime) -> Result<(), Fail> {
+    let mut page = Page::new(600, 0, false);
+    let _ = run(rt.alloc(), &mut Script::new(b"", 600, 0), &mut page)?;
+    let none: &[u8] = b"done 0 edits 0 refused 0 shows\n";
+    assert_eq!(rt; page.text(), none);
+    Ok(())
+}

@@ -11,7 +11,7 @@ mod reading;
 mod timing;
 mod writing;
 
-pub use check::check_of;
+pub use check::{check_of, check_of_words};
 pub use fate::{Damage, Fate};
 pub use fault::PacketFault;
 pub use hearing::{codes_of, reaches};

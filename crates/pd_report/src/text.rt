@@ -3,11 +3,12 @@
 ghost use Rattle.std.specs.Prelude.{◌≡◌, ◌+◌, ◌-◌, ◌*◌, ◌≤◌, ◌<◌, ◌^◌, ◌++◌, ◌∷◌, [], List, ℕ, length, decimal};
 ghost use Rattle.std.specs.List.{flat_map};
 ghost use Rattle.pd_report.specs.Device.{CountsFailure, Writes};
-ghost use Rattle.pd_report.specs.Text.{code_text, digit, right};
+ghost use Rattle.pd_report.specs.Text.{code_text, right};
 
 use crate::{BenchFault, TextOut, write_all};
 use arrayvec::ArrayVec;
 use itoa::Buffer;
+use pd_symbols::hex_digits;
 use std::marker::Model;
 
 /// At most `CAP` bytes of text, which take no memory.
@@ -90,8 +91,7 @@ impl<const CAP: usize> Text<CAP> {
         ensures grows { length self.new ≡ length self.old + 3 }
     {
         self.push(b' ');
-        self.push(digit(code / 16));
-        self.push(digit(code % 16));
+        self.push_all(&hex_digits::<2>(u32::from(code)));
     }
 
     /// Each code after a space.
@@ -103,17 +103,6 @@ impl<const CAP: usize> Text<CAP> {
         for code in codes {
             self.push_code(*code);
         }
-    }
-}
-
-fn digit(value: u8) -> u8
-    requires { value < 16 }
-    ensures { result ≡ digit value }
-{
-    if value < 10 {
-        b'0' + value
-    } else {
-        b'A' + (value - 10)
     }
 }
 

@@ -1,12 +1,15 @@
-//! The bench as a program: `pdbench run SCENARIO EDITS`.
+//! The bench as a program: `pdbench run SCENARIO EDITS` and `pdbench decode SYMBOLS`.
 #![tactic(auto)]
 
+mod decode;
 mod devices;
+mod fault;
 mod files;
 mod run;
 mod words;
 
 use clap::error::ErrorKind;
+use decode::decode;
 use run::run;
 use std::alloc::{AllocError, Global};
 use std::process::ExitCode;
@@ -44,7 +47,7 @@ fn refuse_words(rt: &impl Eprint, kind: ErrorKind) -> Ending {
         let _ = eprintln!(rt; "fault 42");
         return Ending::Fault;
     }
-    let _ = eprintln!(rt; "usage: pdbench run SCENARIO EDITS");
+    let _ = eprintln!(rt; "usage: pdbench run SCENARIO EDITS | check SCENARIO | decode SYMBOLS");
     Ending::Usage
 }
 
@@ -60,6 +63,9 @@ fn obey<R: Files + Print + Eprint + Alloc<A = Global>>(rt: &R, words: &[String])
     let Some((_, matches)) = matches.subcommand() else {
         return refuse_words(rt, ErrorKind::MissingSubcommand);
     };
+    if let Some(symbols) = matches.get_str("SYMBOLS") {
+        return decode(rt, symbols);
+    }
     match (matches.get_str("SCENARIO"), matches.get_str("EDITS")) {
         (Some(scenario), Some(edits)) => run(rt, scenario, edits),
         _ => refuse_words(rt, ErrorKind::MissingRequiredArgument),

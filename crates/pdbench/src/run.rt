@@ -2,6 +2,7 @@
 
 use crate::Ending;
 use crate::devices::{Input, Output};
+use crate::fault::tell;
 use crate::files::read_whole;
 use pd_bench::session;
 use pd_port::Meter;
@@ -11,12 +12,6 @@ use pd_scenario::first;
 use std::alloc::Global;
 use std::io;
 use std::rt::Files;
-
-/// Tells a fault of a session.
-fn fault(rt: &impl Eprint, fault: BenchFault) -> Ending {
-    let _ = eprintln!(rt; "fault {}", fault.number());
-    Ending::Fault
-}
 
 /// Runs a session over an edit script, for a scenario of a name. The one scenario that there is yet is `first`.
 pub fn run<R: Files + Print + Eprint + Alloc<A = Global>>(
@@ -31,11 +26,11 @@ pub fn run<R: Files + Print + Eprint + Alloc<A = Global>>(
     if scenario != "first" {
         return match rt.println("input refused") {
             Ok(()) => Ending::Refused,
-            Err(_) => fault(rt, BenchFault::WriteFailed),
+            Err(_) => tell(rt, BenchFault::WriteFailed),
         };
     }
     let Ok(scenario) = first(rt.alloc()) else {
-        return fault(rt, BenchFault::Memory);
+        return tell(rt, BenchFault::Memory);
     };
     let mut runner = Plain::<1>::empty(rt.alloc());
     let mut reader = Input::new(edits.as_slice());
@@ -49,6 +44,6 @@ pub fn run<R: Files + Print + Eprint + Alloc<A = Global>>(
         &mut Meter::new(),
     ) {
         Ok(_) => Ending::Done,
-        Err(error) => fault(rt, error),
+        Err(error) => tell(rt, error),
     }
 }

@@ -1,0 +1,5 @@
+pub mod Argument
+pub mod Decoding
+pub mod Laws
+pub mod Lines
+pub mod Printing
