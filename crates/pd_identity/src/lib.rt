@@ -1,5 +1,10 @@
-//! Cables and their plugs.
+//! Cables, and what their plugs answer when they are asked who they are.
 #![tactic(auto)]
+
+mod identity;
+pub mod laws;
+
+pub use identity::{Reply, answer, limit_ma, reply_of, request};
 
 /// What a cable's plug does when it is asked who it is.
 #[derive(Clone, Copy, Debug, PartialEq, Eq)]
@@ -27,3 +32,6 @@ pub struct Cable {
     pub plug: CablePlug,
     pub rating: Rating,
 }
+
+#[cfg(test)]
+mod tests;

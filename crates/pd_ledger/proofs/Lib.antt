@@ -1,2 +1,3 @@
 pub mod Sums
 pub mod Offers
+pub mod Stays

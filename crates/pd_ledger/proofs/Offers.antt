@@ -1,10 +1,11 @@
 -- Offers are within what is free, and the greatest that are.
-use Rattle.std.proofs.Common.{ℕ, ◌*◌, ◌/◌, ◌<◌, ◌≤◌, List, [], ◌∷◌, Option, Some, None, option_map, map, refl, arith}
+use Rattle.std.proofs.Common.{ℕ, ◌*◌, ◌/◌, ◌<◌, ◌≤◌, List, [], ◌∷◌, Option, Some, None, option_map, map, nat_le, refl, arith}
 use Rattle.std.proofs.Math.Nat.{mul-div-le, le-div_iff_mul-le, mul_comm, mul-le-mul_left}
 use Rattle.pd_objects.specs.Supply.{SupplyData, IsSupply}
 use Rattle.pd_objects.specs.Answers.{IsAllowed, AreWithin}
 use Rattle.pd_objects.specs.declared.query.Query.{Query}
 use Rattle.pd_objects.specs.declared.query.Query.TheVariants as query
+use Rattle.pd_ledger.specs.Account.{Account, free_of, total_with}
 use Rattle.pd_ledger.specs.Offer.{offered, answer_of}
 use Rattle.pd_ledger.specs.Laws.{IsOffered}
 
@@ -21,10 +22,11 @@ are_within free limit_ma [] = tt
 are_within free limit_ma (s ∷ rest) = (offered-within free limit_ma s, are_within free limit_ma rest)
 
 -- what is answered is allowed
-pub answer-allowed : (free : ℕ) (query : Option Query) → IsAllowed free query (option_map (answer_of free) query)
-answer-allowed free None = refl
-answer-allowed free (Some (query.Offer supplies limit_ma)) = (map (offered free limit_ma) supplies.items, are_within free limit_ma supplies.items, refl)
-answer-allowed free (Some (query.Fits power)) = refl
+pub answer-allowed : (a : Account) (p : ℕ) (query : Option Query) → IsAllowed (free_of a p) query (option_map (answer_of a p) query)
+answer-allowed a p None = refl
+answer-allowed a p (Some (query.Offer supplies limit_ma)) = (map (offered (free_of a p) limit_ma) supplies.items, are_within (free_of a p) limit_ma supplies.items, refl)
+answer-allowed a p (Some (query.Fits power)) = refl
+answer-allowed a p (Some (query.Keep power)) = (nat_le (total_with a p power) a.budget, refl)
 
 -- a current within the power is within what the power gives
 in_quotient : (free mv ma : ℕ) → 0 < mv → mv * ma ≤ free → ma ≤ free / mv

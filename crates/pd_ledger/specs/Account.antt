@@ -1,5 +1,5 @@
 -- The budget that ports share, in microwatts.
-use Rattle.std.specs.Prelude.{◌≡◌, ℕ, ◌-◌, ◌<◌, ◌≤◌, ◌^◌, List, length, sum, slice_index, slice_set}
+use Rattle.std.specs.Prelude.{◌≡◌, ℕ, suc, ◌+◌, ◌-◌, ◌<◌, ◌≤◌, ◌^◌, List, length, sum, take, drop, slice_index, slice_set}
 
 -- a budget, what each port may not fall below, and what it holds
 pub record Account : Type 0 where
@@ -10,6 +10,10 @@ pub record Account : Type 0 where
 -- the budget less the other ports' holds, the ports being numbered from 0 here
 abbrev pub free_of : Account → ℕ → ℕ
 free_of a p = a.budget - sum (slice_set a.holds p 0)
+
+-- so much power of a port, the lower ports' holds and the higher ports' floors
+abbrev pub total_with : Account → ℕ → ℕ → ℕ
+total_with a p power = power + (sum (take p a.holds) + sum (drop (suc p) a.floors))
 
 -- What a ledger of n ports keeps: no floor is below half a watt, no hold is below its port's floor, and the holds, whose
 -- total is kept, add to at most the budget.

@@ -3,11 +3,13 @@ use Rattle.std.specs.Prelude.{◌≡◌, ℕ, ◌*◌, ◌%◌, ◌≤◌, Optio
 use Rattle.pd_objects.specs.Supply.{SupplyData, IsSupply}
 use Rattle.pd_objects.specs.Answers.{IsAllowed}
 use Rattle.pd_objects.specs.declared.query.Query.{Query}
+use Rattle.pd_ledger.specs.Account.{Account, free_of}
 use Rattle.pd_ledger.specs.Offer.{offered, answer_of}
 
 -- what is answered is allowed by the power that is free
 abbrev pub AnswersAreAllowed : Type 0
-AnswersAreAllowed = (free : ℕ) (query : Option Query) → IsAllowed free query (option_map (answer_of free) query)
+AnswersAreAllowed =
+    (a : Account) (p : ℕ) (query : Option Query) → IsAllowed (free_of a p) query (option_map (answer_of a p) query)
 
 -- The current is a multiple of 10 mA within the supply's, the cable's limit and the free power, and none of these is
 -- greater.

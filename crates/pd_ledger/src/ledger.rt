@@ -1,7 +1,7 @@
 //! Who holds how much of the budget.
 
-ghost use Rattle.std.specs.Prelude.{◌≡◌, ℕ, ◌+◌, ◌-◌, ◌<◌, ◌≤◌, length, sum, slice_index, slice_set, All};
-ghost use Rattle.pd_ledger.specs.Account.{Account, free_of};
+ghost use Rattle.std.specs.Prelude.{◌≡◌, ℕ, ◌+◌, ◌-◌, ◌<◌, ◌≤◌, ◌^◌, length, sum, slice_index, slice_set, All, nat_le};
+ghost use Rattle.pd_ledger.specs.Account.{Account, free_of, total_with};
 ghost use Rattle.pd_ledger.specs.Offer.{answer_of};
 
 use crate::offer::offer;
@@ -47,7 +47,7 @@ impl<const N: usize> Ledger<N> {
             budget,
             floors: kept,
             holds: kept,
-            total: floors.iter().sum(),
+            total: total(floors),
         }
     }
 
@@ -62,18 +62,19 @@ impl<const N: usize> Ledger<N> {
         self.budget - (self.total - self.holds[port - 1])
     }
 
-    /// What a port is answered: the current of each supply that it asks for, or whether a power is free.
+    /// What a port is answered: the current of each supply that it asks for, whether a power is free, or whether its hold
+    /// may stay.
     pub fn answer(&self, port: usize, query: &Query) -> Answer
         requires first { 1 ≤ port }
         requires last { port ≤ N }
-        ensures { result ≡ answer_of (free_of self.now (port - 1)) query.now }
+        ensures { result ≡ answer_of self.now (port - 1) query.now }
     {
-        let free = self.free(port);
         match query {
             Query::Offer { supplies, limit_ma } => {
-                Answer::Offer(offer(free, *limit_ma, supplies))
+                Answer::Offer(offer(self.free(port), *limit_ma, supplies))
             }
-            Query::Fits { power } => Answer::Fits(*power <= free),
+            Query::Fits { power } => Answer::Fits(*power <= self.free(port)),
+            Query::Keep { power } => Answer::Fits(self.stays(port, *power)),
         }
     }
 
@@ -88,4 +89,23 @@ impl<const N: usize> Ledger<N> {
         self.total = self.total - self.holds[port - 1] + hold;
         self.holds[port - 1] = hold;
     }
+
+    /// Whether so much power of a port, the lower ports' holds and the higher ports' floors fit the budget.
+    fn stays(&self, port: usize, power: u64) -> bool
+        requires first { 1 ≤ port }
+        requires last { port ≤ N }
+        ensures { result ≡ nat_le (total_with self.now (port - 1) power) self.now.budget }
+    {
+        let lower = total(&self.holds[..port - 1]);
+        let higher = total(&self.floors[port..N]);
+        power <= self.budget - (lower + higher)
+    }
+}
+
+/// What these powers add to.
+fn total(powers: &[u64]) -> u64
+    requires { sum powers.now < 2 ^ 64 }
+    ensures { result ≡ sum powers.now }
+{
+    powers.iter().sum()
 }

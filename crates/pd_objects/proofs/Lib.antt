@@ -1,1 +1,3 @@
 pub mod FixedSupplies
+pub mod SinkSupplies
+pub mod Requests

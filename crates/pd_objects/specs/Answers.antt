@@ -1,5 +1,5 @@
 -- What a port asks of the shared budget, and what it may be answered.
-use Rattle.std.specs.Prelude.{◌≡◌, ℕ, ◌*◌, ◌≤◌, nat_le, List, [], ◌∷◌, Option, Some, None}
+use Rattle.std.specs.Prelude.{◌≡◌, ℕ, Bool, ◌*◌, ◌≤◌, nat_le, List, [], ◌∷◌, Option, Some, None}
 use Rattle.pd_objects.specs.Supply.{SupplyData}
 use Rattle.pd_objects.specs.declared.query.Query.{Query}
 use Rattle.pd_objects.specs.declared.query.Query.TheVariants as query
@@ -13,9 +13,10 @@ AreWithin power (s ∷ supplies) (ma ∷ currents) = (s.mv * ma ≤ power) × Ar
 AreWithin power _ _ = ⊥
 
 -- The answers that so much free power allows: to no query none, to an offer a current for each supply within it, to a
--- power whether it is within it.
+-- power whether it is within it. Whether a hold may stay isn't told by the free power.
 abbrev pub IsAllowed : ℕ → Option Query → Option Answer → Type 0
 IsAllowed free None x = x ≡ None
 IsAllowed free (Some (query.Offer supplies limit_ma)) x =
     (currents : List ℕ) × AreWithin free supplies.items currents × (x ≡ Some (answer.Offer (record { items = currents })))
 IsAllowed free (Some (query.Fits power)) x = x ≡ Some (answer.Fits (nat_le power free))
+IsAllowed free (Some (query.Keep power)) x = (stays : Bool) × (x ≡ Some (answer.Fits stays))

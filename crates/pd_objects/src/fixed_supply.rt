@@ -4,6 +4,7 @@ ghost use Rattle.std.specs.Prelude.{⊤, ◌≡◌, ℕ, ◌+◌, ◌<◌, ◌�
 ghost use Rattle.pd_symbols.specs.Words as words;
 ghost use Rattle.pd_objects.specs.FixedSupply.{FixedSupplyData, IsFixedSupply, HasFields, word_of, fixed_supply_of};
 
+use crate::word::field;
 use bitflags::{Flag, Flags, bitflag_items};
 use std::marker::Model;
 
@@ -138,14 +139,4 @@ impl FixedSupply {
         let _voltage = self.voltage;
         self.current
     }
-}
-
-/// Bits `high` to `low` of an object.
-fn field(word: u32, high: u32, low: u32) -> u32
-    requires order { low ≤ high }
-    requires width { high < low + 16 }
-    requires place { high < 32 }
-    ensures { result ≡ words.field word high low }
-{
-    (word >> low) % (1 << (high - low + 1))
 }

@@ -17,6 +17,11 @@ pub enum Query {
     Fits {
         power: u64,
     },
+    /// Whether the port's hold of so many microwatts may stay, now that the budget has changed: beside the holds of the
+    /// lower ports and the floors of the higher ports.
+    Keep {
+        power: u64,
+    },
 }
 
 impl Query {
@@ -34,6 +39,7 @@ impl Query {
                 }
             }
             Query::Fits { power } => Query::Fits { power: *power },
+            Query::Keep { power } => Query::Keep { power: *power },
         }
     }
 }
@@ -43,6 +49,6 @@ impl Query {
 pub enum Answer {
     /// The current of each supply in mA, in their order.
     Offer(ArrayVec<u32, 7>),
-    /// Whether the power may be held.
+    /// Whether the power may be held, or the hold may stay.
     Fits(bool),
 }

@@ -1,18 +1,22 @@
 -- What the run of a charger relies on of a port's step.
-use Rattle.std.specs.Prelude.{◌≡◌, ◌⊎◌, ℕ, ◌+◌, ◌≤◌, ◌<◌, nat_le, if◌then◌else◌, Bool, true, false, List, [], ◌∷◌, Option, Some, None}
-use Rattle.pd_header.specs.declared.side.Side.{Side}
+use Rattle.std.specs.Prelude.{◌≡◌, ◌⊎◌, ℕ, ◌+◌, ◌≤◌, nat_le, if◌then◌else◌, Bool, true, false, List, [], ◌∷◌, Option, Some, None}
 use Rattle.pd_header.specs.declared.side.Side.TheVariants.{Source, Sink, Plug}
 use Rattle.pd_objects.specs.declared.query.Answer.{Answer}
+use Rattle.pd_source.specs.Record.{SourceSettings, SourceRecord}
+use Rattle.pd_source.specs.Step as source
+use Rattle.pd_source.specs.declared.kinds.Stimulus.{Stimulus}
 use Rattle.pd_timers.specs.declared.Timer.{Timer}
 use Rattle.pd_timers.specs.Deadlines.{timers, deadline, stopped}
+use Rattle.pd_line.specs.declared.record.Record.{Record}
 use Rattle.pd_line.specs.Record.{PortRecord}
+use Rattle.pd_line.specs.Lines.{is_idle}
 use Rattle.pd_line.specs.Later.{Times, times_of, Later}
 use Rattle.pd_port.specs.declared.due.Due.{Due}
 use Rattle.pd_port.specs.declared.due.What.{What}
 use Rattle.pd_port.specs.declared.due.What.TheVariants as what
 use Rattle.pd_port.specs.Events.{EventData}
 use Rattle.pd_port.specs.Settings.{SettingsData}
-use Rattle.pd_port.specs.Port.{dues, due, is_before, record_after}
+use Rattle.pd_port.specs.Port.{dues, due, is_before, begun, happens, portstep, whole, source_settings, source_told, ask, record_after, entry_of}
 
 -- the next event isn't before t
 abbrev pub NotBefore : ℕ → Option EventData → Type 0
@@ -63,3 +67,45 @@ pub record IsEarliest (d : Due) (ds : List (Option Due)) : Type 0 where
 
 abbrev pub DuesAreEarliest : Type 0
 DuesAreEarliest = (r : PortRecord) (next : Option EventData) (d : Due) → due r next ≡ Some d → IsEarliest d (dues r next)
+
+-- the source after a step at t, with what it is told and with the answer. Where it is told nothing, it takes no step
+abbrev pub source_after_told : SourceSettings → ℕ → Option Stimulus → Option Answer → SourceRecord → SourceRecord
+source_after_told s t None given r = r
+source_after_told s t (Some x) given r = source.stepped s t x given r
+
+-- in a step of the port the source takes one step, with what `source_told` says and with the answer, and none where it
+-- says nothing
+abbrev pub SourceStepsOnce : Type 0
+SourceStepsOnce =
+    (s : SettingsData) (r : PortRecord) (d : Due) (given : Option Answer) →
+    (record_after s r d given).source ≡ source_after_told (source_settings s) d.time (source_told d.what (whole s r)) given r.source
+
+-- where the port asks nothing, no answer matters: not to what it becomes, and not to what is read of its step
+abbrev pub AnswersMatterOnlyWhereAsked : Type 0
+AnswersMatterOnlyWhereAsked =
+    (s : SettingsData) (r : PortRecord) (d : Due) (a b : Option Answer) → ask s r d ≡ None →
+    (record_after s r d a ≡ record_after s r d b) × (entry_of s r d a ≡ entry_of s r d b)
+
+-- where what falls due leaves the line busy, the step does no more: nothing that waits starts
+abbrev pub WaitsWhileBusy : Type 0
+WaitsWhileBusy =
+    (r : Record) (d : Due) (given : Option Answer) →
+    is_idle (happens d.what d.time (begun r given)).port.line ≡ false →
+    portstep r d given ≡ happens d.what d.time (begun r given)
+
+-- what falls due starts no packet, or else the step does no more: no step starts two
+abbrev pub StartsNoTwo : Type 0
+StartsNoTwo =
+    (r : Record) (d : Due) (given : Option Answer) →
+    ((happens d.what d.time (begun r given)).start ≡ None) ⊎ (portstep r d given ≡ happens d.what d.time (begun r given))
+
+-- whether the end of what is on the line falls due
+abbrev pub is_line : What → Bool
+is_line what.Line = true
+is_line _ = false
+
+-- while something is on the line, its own end alone changes the line, and starts anything
+abbrev pub BusyLinesAreLeft : Type 0
+BusyLinesAreLeft =
+    (s : SettingsData) (r : PortRecord) (d : Due) (given : Option Answer) → is_idle r.line ≡ false → is_line d.what ≡ false →
+    ((record_after s r d given).line ≡ r.line) × ((entry_of s r d given).start ≡ None)

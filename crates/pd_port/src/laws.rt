@@ -1,6 +1,6 @@
 //! Laws of a port's step. They run nothing.
 
-ghost use Rattle.pd_port.specs.Laws.{StepsSetLater, DuesAreEarliest};
+ghost use Rattle.pd_port.specs.Laws.{StepsSetLater, DuesAreEarliest, SourceStepsOnce, AnswersMatterOnlyWhereAsked, WaitsWhileBusy, StartsNoTwo, BusyLinesAreLeft};
 
 /// Each deadline and each line's end that a step sets is later than the step.
 pub fn later()
@@ -10,4 +10,23 @@ pub fn later()
 /// What falls due next is one of the dues, and none of them is before it.
 pub fn earliest_first()
     ensures { DuesAreEarliest }
+{}
+
+/// In a step of the port the source takes one step, with what the port says before it that the source is told, and with
+/// the answer. Where it is told nothing, it takes none.
+pub fn steps_once()
+    ensures { SourceStepsOnce }
+{}
+
+/// Where the port asks nothing, no answer matters.
+pub fn answered()
+    ensures { AnswersMatterOnlyWhereAsked }
+{}
+
+/// What waits starts only while the line is idle, and in no step in which what falls due starts a packet. While
+/// something is on the line, its own end alone changes the line and starts anything.
+pub fn busy()
+    ensures waits { WaitsWhileBusy }
+    ensures no_two { StartsNoTwo }
+    ensures left { BusyLinesAreLeft }
 {}

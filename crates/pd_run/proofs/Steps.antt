@@ -61,7 +61,7 @@ hold_after-fits plan past live p d s lt =
     let within = subst (λ (l : Account). sum l.holds ≤ l.budget) s.account_is s.funded in
     let old = hold-free (account_after plan past) p inside within in
     let held : hold (settings_of plan p) (standing plan past p).state ≤ free_of (account_after plan past) p = omega (arith, hold_known plan past p lt) in
-    let fits = hold_fits (settings_of plan p) (standing plan past p).state d (reply_after plan past p (ask (settings_of plan p) (standing plan past p).state d)) (free_of (account_after plan past) p) held (answer-allowed _ _) in
+    let fits = hold_fits (settings_of plan p) (standing plan past p).state d (reply_after plan past p (ask (settings_of plan p) (standing plan past p).state d)) (free_of (account_after plan past) p) held (answer-allowed (account_after plan past) p _) in
     subst (λ (l : Account). hold (settings_of plan p) (after plan (next_move plan past p d)) ≤ free_of l p) (sym s.account_is) fits
 
 -- all of it after one more move
@@ -136,8 +136,8 @@ Stands-start n plan ports taken is ports_is taken_is =
 -- the answer by the ports is the answer after the moves
 pub reply_known : (plan : Plan) (past : List Move) (live : LiveData) (p : ℕ) (d : Due) → Stands plan past live → p < count plan → reply_at live p d ≡ (next_move plan past p d).answer
 reply_known plan past live p d s lt =
-    ap (λ (x : PortData). option_map (answer_of (free_of live.account p)) (ask x.settings x.«record» d)) (s.ports_are p lt)
-    ∙ ap (λ (l : Account). option_map (answer_of (free_of l p)) (ask (settings_of plan p) (standing plan past p).state d)) s.account_is
+    ap (λ (x : PortData). option_map (answer_of live.account p) (ask x.settings x.«record» d)) (s.ports_are p lt)
+    ∙ ap (λ (l : Account). option_map (answer_of l p) (ask (settings_of plan p) (standing plan past p).state d)) s.account_is
 
 -- the port as its move leaves it, by the moves
 pub moved_known : (plan : Plan) (past : List Move) (live : LiveData) (p : ℕ) (d : Due) → Stands plan past live → p < count plan → moved_port live p d ≡ port_after plan (past ++ next_move plan past p d ∷ []) p

@@ -27,7 +27,7 @@ fits_step plan past m fit goes answered =
     let free = free_of (account_after plan past) p in
     let held : hold (settings_of plan p) m.before ≤ free =
     omega (arith, hold-free (account_after plan past) p inside fit.within, hold_known plan past p goes.known, ap (hold (settings_of plan p)) goes.before_is) in
-    let allowed : IsAllowed free (ask (settings_of plan p) m.before m.due) m.answer = subst (λ (a : Option Answer). IsAllowed free (ask (settings_of plan p) m.before m.due) a) (sym answered) (answer-allowed free (ask (settings_of plan p) m.before m.due)) in
+    let allowed : IsAllowed free (ask (settings_of plan p) m.before m.due) m.answer = subst (λ (a : Option Answer). IsAllowed free (ask (settings_of plan p) m.before m.due) a) (sym answered) (answer-allowed (account_after plan past) p (ask (settings_of plan p) m.before m.due)) in
     let fits = hold_fits (settings_of plan p) m.before m.due m.answer free held allowed in
     let table : slice_set (holds_after plan past) p (hold (settings_of plan p) (after plan m)) ≡ holds_after plan (past ++ m ∷ []) =
     table-set _ _ (count plan) p _ goes.known

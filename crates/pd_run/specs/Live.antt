@@ -3,7 +3,7 @@ use Rattle.std.specs.Prelude.{◌≡◌, ℕ, ◌-◌, ◌<◌, ◌≤◌, List,
 use Rattle.pd_objects.specs.declared.query.Answer.{Answer}
 use Rattle.pd_port.specs.declared.due.Due.{Due}
 use Rattle.pd_port.specs.Port.{PortData, due, ask, entry_of, record_after}
-use Rattle.pd_ledger.specs.Account.{Account, free_of}
+use Rattle.pd_ledger.specs.Account.{Account}
 use Rattle.pd_ledger.specs.Offer.{answer_of}
 use Rattle.pd_scenario.specs.Plan.{Plan, count, settings_of, script_of}
 use Rattle.pd_run.specs.Order.{IsNoLater}
@@ -69,7 +69,7 @@ IsSoFar plan live n (Some r) = IsFirstOf plan live n r.0 r.1
 
 -- the answer that the port gets for a due
 abbrev pub reply_at : LiveData → ℕ → Due → Option Answer
-reply_at live p d = option_map (answer_of (free_of live.account p)) (ask (port_at live p).settings (port_at live p).«record» d)
+reply_at live p d = option_map (answer_of live.account p) (ask (port_at live p).settings (port_at live p).«record» d)
 
 -- the port as its move for a due leaves it
 abbrev pub moved_port : LiveData → ℕ → Due → PortData

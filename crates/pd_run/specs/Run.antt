@@ -6,7 +6,7 @@ use Rattle.pd_objects.specs.declared.query.Answer.{Answer}
 use Rattle.pd_port.specs.declared.due.Due.{Due}
 use Rattle.pd_port.specs.declared.entry.Entry.{Entry}
 use Rattle.pd_port.specs.Port.{PortRecord, is_event, detached, due, ask, record_after, entry_of, hold}
-use Rattle.pd_ledger.specs.Account.{Account, free_of}
+use Rattle.pd_ledger.specs.Account.{Account}
 use Rattle.pd_ledger.specs.Offer.{answer_of}
 use Rattle.pd_scenario.specs.Plan.{Plan, count, settings_of, script_of, floors_of}
 use Rattle.pd_run.specs.Order.{EachAfter, IsNoLater}
@@ -84,7 +84,7 @@ IsInOrder past m = NoneLater m.due.time m.port past
 
 -- the answer to a port's query, by the holds that the moves before have left
 abbrev pub reply_after : Plan → List Move → ℕ → Option Query → Option Answer
-reply_after plan past p query = option_map (answer_of (free_of (account_after plan past) p)) query
+reply_after plan past p query = option_map (answer_of (account_after plan past) p) query
 
 -- the move has the answer to its query, and none where it asks nothing
 abbrev pub IsAnswered : Plan → List Move → Move → Type 0

@@ -2,7 +2,6 @@
 
 ghost use Rattle.std.specs.Prelude.{◌≡◌, ℕ, ◌+◌, ◌-◌, ◌<◌, ◌≤◌, ◌∷◌, ◌++◌, ◌↔◌, List, [], IfOk, MatchOption, IsTrue, ⊤, option_map};
 ghost use Rattle.pd_port.specs.Port.{is_event};
-ghost use Rattle.pd_ledger.specs.Account.{free_of};
 ghost use Rattle.pd_ledger.specs.Offer.{answer_of};
 ghost use Rattle.pd_scenario.specs.Plan.{Plan, IsPlan, count};
 ghost use Rattle.pd_run.specs.Run.{Move};
@@ -144,7 +143,7 @@ impl<const N: usize> Live<N> {
 fn reply<const N: usize>(ledger: &Ledger<N>, port: usize, query: Option<Query>) -> Option<Answer>
     requires first { 1 ≤ port }
     requires last { port ≤ N }
-    ensures { result ≡ option_map (answer_of (free_of ledger.now (port - 1))) query }
+    ensures { result ≡ option_map (answer_of ledger.now (port - 1)) query }
 {
     match query {
         Some(query) => Some(ledger.answer(port, &query)),

@@ -1,4 +1,5 @@
 pub mod Contents
+pub mod First
 pub mod Laws
 pub mod Limits
 pub mod Names

@@ -5,8 +5,10 @@ mod contents;
 pub mod laws;
 mod name;
 mod order;
+mod samples;
 mod scenario;
 
 pub use contents::{NamedCable, NamedSink, ScenarioEvent, ScenarioEventKind};
 pub use name::{Name, is_name};
+pub use samples::first;
 pub use scenario::Scenario;

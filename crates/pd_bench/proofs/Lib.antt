@@ -1,0 +1,3 @@
+pub mod PendingLemmas
+pub mod Refusals
+pub mod SessionLemmas

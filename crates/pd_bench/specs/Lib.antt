@@ -1,0 +1,5 @@
+pub mod Device
+pub mod Laws
+pub mod Pending
+pub mod Session
+pub mod Stream
