@@ -20,3 +20,18 @@ fn names(rt: HostRuntime) {
     assert_eq!(rt; kind_of(4, 1).name().as_str(), "Sink_Capabilities");
     assert_eq!(rt; kind_of(31, 0).name().as_str(), "Type31");
 }
+
+/// Headers of a revision 2.0 charger, as sniffers commonly show them: an offer of six supplies, Accept and PS_RDY.
+#[test]
+fn headers_of_chargers(rt: HostRuntime) {
+    let offer = Header::unpack(0x6161);
+    assert_eq!(rt;
+        (offer.count(), offer.id(), offer.revision(), offer.kind()),
+        (6, 0, 1, 1)
+    );
+    assert_eq!(rt; header_kind(0x6161), Kind::SourceCapabilities);
+    assert_eq!(rt; header_kind(0x0363), Kind::Accept);
+    assert_eq!(rt; header_id(0x0363), 1);
+    assert_eq!(rt; header_kind(0x0566), Kind::PsRdy);
+    assert_eq!(rt; header_id(0x0566), 2);
+}

@@ -32,3 +32,11 @@ fn other_objects(rt: HostRuntime) {
     assert!(rt; limit_ma(&[0xFF00_A041, 0x1800_FFFF, 0, 0, 0x0008_2060]) == 3_000);
     assert!(rt; reply_of(&[0xFF00_A001]) == Reply::Nak);
 }
+
+/// A cable of revision 2.0 with modes of its own, and a vendor's number: still passive, and of 5 A.
+#[test]
+fn cable_of_a_vendor(rt: HostRuntime) {
+    let objects = [0xFF00_8041, 0x1C00_2B1D, 0, 0x1500_0097, 0x1108_2042];
+    assert!(rt; reply_of(&objects) == Reply::Ack);
+    assert!(rt; limit_ma(&objects) == 5_000);
+}

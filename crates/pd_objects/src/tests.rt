@@ -60,3 +60,18 @@ fn sink_supplies(rt: HostRuntime) {
     }
     assert!(rt; SinkSupply::unpack(0x4001_912C).is_none());
 }
+
+/// A request as phones commonly send it: the first supply, 3 A, without USB suspend, and capable of USB communications.
+#[test]
+fn request_of_a_phone(rt: HostRuntime) {
+    let read = RequestObject::unpack(0x1304_B12C);
+    assert!(rt; read.is_some());
+    if let Some(request) = read {
+        assert!(rt; request.position() == 1);
+        assert!(rt;
+            request.flags()
+                == RequestFlags::USB_COMMUNICATIONS_CAPABLE | RequestFlags::NO_USB_SUSPEND
+        );
+        assert!(rt; request.operating_current() == 300 && request.maximum_current() == 300);
+    }
+}
