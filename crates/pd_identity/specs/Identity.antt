@@ -47,7 +47,7 @@ pub record IsIdHeader (w : ℕ) : Type 0 where
 unfoldable pub id_header : ℕ
 id_header = 3 * 2 ^ 27 + 0xFFFF
 
--- the object of a passive cable (section 6.4.4.3.1.6): USB Type-C, of the least latency, with this number for its current
+-- the object of a passive cable (section 6.4.4.3.1): USB Type-C, of the least latency, with this number for its current
 pub record IsPassiveCable (w c : ℕ) : Type 0 where
   pub versions : field w 31 20 ≡ 0
   pub plug_type : field w 19 18 ≡ 2
