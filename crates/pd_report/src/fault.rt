@@ -12,7 +12,7 @@ pub enum BenchFault {
     ReadFailed,
     #[error("a text could not be written")]
     WriteFailed,
-    #[error("there was no memory for the first run")]
+    #[error("there was no memory")]
     Memory,
     #[error("the edit script has more than 16,777,216 bytes")]
     ReaderTooLong,
