@@ -1,5 +1,5 @@
 -- What a step at t sets falls due later than t, and it leaves what the source is set to.
-use Rattle.std.proofs.Common.{◌≡◌, ◌⊎◌, ℕ, ◌+◌, ◌<◌, ◌≤◌, inl, inr, Bool, true, false, if◌then◌else◌, length, Option, Some, None, Result, Ok, Err, refl, ◌∙◌, sym, ap, List, [], ◌∷◌, arith, lit<}
+use Rattle.std.proofs.Common.{◌≡◌, ℕ, ◌+◌, ◌<◌, ◌≤◌, inl, inr, Bool, true, false, if◌then◌else◌, Option, Some, None, Result, Ok, Err, refl, ◌∙◌, ap, List, [], ◌∷◌, arith, lit<}
 use Rattle.pd_symbols.specs.declared.channel.Channel.{Channel}
 use Rattle.pd_symbols.specs.declared.channel.Channel.TheVariants.{Sop, SopPrime}
 use Rattle.pd_header.specs.declared.side.Side.{Side}
@@ -14,13 +14,13 @@ use Rattle.pd_packet.specs.Timing.{duration_of}
 use Rattle.pd_packet.specs.Hearing.{heard}
 use Rattle.pd_packet.specs.declared.fate.Fate.{Fate}
 use Rattle.pd_timers.specs.declared.Timer.{Timer}
-use Rattle.pd_timers.specs.Deadlines.{SetsLater, deadline, stopped}
+use Rattle.pd_timers.specs.Deadlines.{SetsLater, stopped}
 use Rattle.pd_protocol.specs.Messages.{MessageData}
 use Rattle.pd_protocol.specs.LayerRecord.{LayerRecord}
 use Rattle.pd_protocol.specs.Messages.{acknowledges}
 use Rattle.pd_protocol.specs.declared.layer.LayerAct.{LayerAct}
 use Rattle.pd_protocol.specs.declared.layer.LayerAct.TheVariants as answer
-use Rattle.pd_source.specs.Record.{SourceSettings, SourceRecord, SourceData}
+use Rattle.pd_source.specs.Record.{SourceSettings, SourceData}
 use Rattle.pd_source.proofs.Holds.{IsSafe, safe-None, hold_of-safe}
 use Rattle.pd_source.specs.Step as source
 use Rattle.pd_source.specs.declared.kinds.Act.{Act as SourceAct}
@@ -51,11 +51,11 @@ use Rattle.pd_line.specs.declared.record.Line.TheVariants.{Idle, Message, Pause,
 use Rattle.pd_line.specs.declared.record.Waiting.{Waiting}
 use Rattle.pd_line.specs.declared.record.Waiting.TheVariants as waits
 use Rattle.pd_line.specs.declared.work.Work.{Work}
-use Rattle.pd_line.specs.Record.{PortRecord, without_settings}
+use Rattle.pd_line.specs.Record.{without_settings}
 use Rattle.pd_line.specs.Told.{sink_hears_as}
 use Rattle.pd_line.specs.Later.{Times, times_of, line_end, KeptOrLater, Later}
-use Rattle.pd_line.specs.Work.{with_port, noted, wait, layer_on, with_layer, submit_on, good_crc_on, timed_out_on, received_on, sink_act, sink_acts, sink_steps, plug_act, plug_acts, plug_steps, source_act, source_acts, source_after, source_steps, tells_sent, tells_failed, tells_message, tells_timer, tells_attach}
-use Rattle.pd_line.specs.Lines.{time_out, pause, rest_of_time_out, lasts, with_line, started, receiver, hears, taken_from, taken, packet_starts, good_crc_starts, message_heard, message_ends, told_sent, acknowledged, told_message, goes_up, good_crc_ends, after_time_out, times_out, line_ends_at, line_ends, submitted, message_starts, waiting_starts, waiting_on, side_starts, is_idle, is_waiting, line_starts, channel_for}
+use Rattle.pd_line.specs.Work.{with_port, noted, wait, with_layer, submit_on, good_crc_on, timed_out_on, received_on, sink_acts, sink_steps, plug_acts, plug_steps, source_act, source_acts, source_after, source_steps, tells_sent, tells_failed, tells_message, tells_timer, tells_attach}
+use Rattle.pd_line.specs.Lines.{time_out, pause, rest_of_time_out, lasts, with_line, started, receiver, taken_from, taken, packet_starts, good_crc_starts, message_heard, message_ends, told_sent, acknowledged, told_message, goes_up, good_crc_ends, after_time_out, times_out, line_ends_at, line_ends, submitted, message_starts, waiting_starts, waiting_on, side_starts, is_idle, is_waiting, line_starts, channel_for}
 
 -- the times of a port's record
 abbrev pub times : Record → Times

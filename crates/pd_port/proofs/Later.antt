@@ -1,20 +1,19 @@
 -- Each deadline and each line's end that a step sets is later than the step.
-use Rattle.std.proofs.Common.{◌≡◌, ℕ, Bool, true, false, is_some, if◌then◌else◌, Option, Some, None, refl}
+use Rattle.std.proofs.Common.{◌≡◌, ℕ, is_some, Option}
 use Rattle.pd_header.specs.declared.side.Side.{Side}
 use Rattle.pd_header.specs.declared.side.Side.TheVariants.{Source, Sink, Plug}
 use Rattle.pd_identity.specs.declared.Cable.{Cable}
 use Rattle.pd_sink.specs.Settings.{SinkData}
 use Rattle.pd_timers.specs.declared.Timer.{Timer}
 use Rattle.pd_objects.specs.declared.query.Answer.{Answer}
-use Rattle.pd_source.specs.Record.{SourceSettings}
 use Rattle.pd_line.specs.declared.notes.Fault.TheVariants.{Ignored}
 use Rattle.pd_line.specs.declared.record.Record.{Record}
 use Rattle.pd_line.specs.declared.work.Work.{Work}
-use Rattle.pd_line.specs.Record.{PortRecord, without_settings}
-use Rattle.pd_line.specs.Later.{Times, times_of, Later}
-use Rattle.pd_line.specs.Work.{noted, tells_attach, tells_timer}
-use Rattle.pd_line.specs.Lines.{line_ends, line_starts}
-use Rattle.pd_line.proofs.Later.{times, Leads, LeadsOn, bounds, IsBounded, joins, chooses, noted_leads, tells_attach_leads, without_timer, tells_timer_leads, line_ends_leads, line_starts_leads}
+use Rattle.pd_line.specs.Record.{PortRecord}
+use Rattle.pd_line.specs.Later.{times_of, Later}
+use Rattle.pd_line.specs.Work.{tells_timer}
+use Rattle.pd_line.specs.Lines.{line_starts}
+use Rattle.pd_line.proofs.Later.{times, Leads, LeadsOn, bounds, IsBounded, joins, chooses, noted_leads, tells_attach_leads, tells_timer_leads, line_ends_leads, line_starts_leads}
 use Rattle.pd_port.specs.declared.due.Due.{Due}
 use Rattle.pd_port.specs.declared.due.What.{What}
 use Rattle.pd_port.specs.declared.due.What.TheVariants as what
@@ -22,7 +21,7 @@ use Rattle.pd_port.specs.declared.event.EventKind.{EventKind}
 use Rattle.pd_port.specs.declared.event.EventKind.TheVariants.{Attach}
 use Rattle.pd_port.specs.Settings.{SettingsData}
 use Rattle.pd_port.specs.Laws.{without}
-use Rattle.pd_port.specs.Port.{attaches, event_happens, happens, begun, portstep, whole, source_settings, record_after}
+use Rattle.pd_port.specs.Port.{attaches, event_happens, happens, begun, portstep, whole, record_after}
 
 attaches_leads : (id : ℕ) (cable : Cable) (device : SinkData) (t : ℕ) (w : Work) → LeadsOn t w (attaches id cable device t w)
 unfolding attaches

@@ -1,5 +1,5 @@
 -- How many deadlines are pending.
-use Rattle.std.proofs.Common.{◌≡◌, ◌⊎◌, ℕ, ◌+◌, ◌<◌, ◌≤◌, zero, suc, Bool, true, false, nat_le, cond, if◌then◌else◌, length, List, [], ◌∷◌, Option, Some, None, refl, ◌∙◌, sym, ap, inl, inr, get_or, set, arith}
+use Rattle.std.proofs.Common.{◌≡◌, ◌⊎◌, ℕ, ◌<◌, ◌≤◌, zero, suc, length, List, [], ◌∷◌, Option, Some, None, refl, sym, inl, inr, get_or, set, arith}
 use Rattle.std.proofs.lemmas.Bool.Decides.{nat_tests}
 use Rattle.pd_timers.specs.declared.Timer.{Timer}
 use Rattle.pd_timers.specs.declared.Timer.TheVariants.{Delay, SenderResponse, VdmResponse, SourceCapability, SinkWaitCap, DiscoverIdentity, SrcTransition, Settling, PsTransition, PsHardReset, SrcRecover, TurnOn, SinkRequest, OfferPoll}

@@ -1,13 +1,12 @@
 -- What the run of a charger relies on of a port's step.
-use Rattle.std.proofs.Common.{◌≡◌, ◌⊎◌, ℕ, ◌+◌, ◌<◌, ◌≤◌, Bool, true, false, if◌then◌else◌, List, [], ◌∷◌, Option, Some, None, refl, ◌∙◌, sym, ap, subst, inl, inr, arith}
+use Rattle.std.proofs.Common.{◌≡◌, ◌⊎◌, ℕ, ◌<◌, ◌≤◌, true, false, List, Option, Some, None, refl, ◌∙◌, sym, ap, subst, inl, inr, arith}
 use Rattle.std.specs.Option.{option_and_then}
 use Rattle.pd_header.specs.declared.side.Side.{Side}
 use Rattle.pd_header.specs.declared.side.Side.TheVariants.{Source, Sink, Plug}
-use Rattle.pd_objects.specs.declared.query.Query.{Query}
 use Rattle.pd_objects.specs.declared.query.Answer.{Answer}
 use Rattle.pd_objects.specs.Answers.{IsAllowed}
 use Rattle.pd_timers.specs.declared.Timer.{Timer}
-use Rattle.pd_timers.specs.Deadlines.{deadline, stopped, first_of, IsFirst}
+use Rattle.pd_timers.specs.Deadlines.{deadline, first_of, IsFirst}
 use Rattle.pd_timers.proofs.FirstLemmas.{first_of-IsFirst}
 use Rattle.pd_timers.proofs.LaterLemmas.{SetsLater-same}
 use Rattle.pd_source.specs.Record.{SourceSettings, SourceRecord}
@@ -23,7 +22,7 @@ use Rattle.pd_port.specs.declared.due.What.TheVariants as what
 use Rattle.pd_port.specs.Events.{EventData}
 use Rattle.pd_port.specs.Settings.{SettingsData, floor_of}
 use Rattle.pd_port.specs.Laws.{NotBefore, pending_at, pending, without, IsOneOf, IsEarliest}
-use Rattle.pd_port.specs.Port.{is_before, is_event, event_due, line_due, timer_due, dues, due, detached, source_settings, whole, begun, portstep, source_told, query, ask, record_after, hold}
+use Rattle.pd_port.specs.Port.{is_event, event_due, line_due, timer_due, dues, due, detached, source_settings, whole, begun, portstep, source_told, query, ask, record_after, hold}
 use Rattle.pd_port.proofs.Earliest.{is_before-time, due-IsEarliest}
 use Rattle.pd_port.proofs.Later.{record_after-later, portstep-bounded, portstep-settings}
 use Rattle.pd_port.proofs.Pending.{stopped-later, pending_at-few, pending_at-falls, pending_at-line, pending_at-source, pending_at-sink, pending_at-plug}

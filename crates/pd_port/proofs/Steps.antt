@@ -1,5 +1,5 @@
 -- How a step of a port is put together.
-use Rattle.std.proofs.Common.{◌≡◌, ℕ, List, [], ◌∷◌, Option, Some, None, refl, ap, sym, subst, ◌∙◌}
+use Rattle.std.proofs.Common.{◌≡◌, List, [], Option, Some, None, refl, ap, sym, subst, ◌∙◌}
 use Rattle.pd_objects.specs.declared.query.Answer.{Answer}
 use Rattle.pd_objects.specs.declared.query.Query.{Query}
 use Rattle.pd_source.specs.Record.{SourceSettings}
@@ -10,7 +10,6 @@ use Rattle.pd_line.specs.declared.record.Record.{Record}
 use Rattle.pd_line.specs.declared.work.Work.{Work}
 use Rattle.pd_line.specs.Record.{PortRecord, with_settings, without_settings}
 use Rattle.pd_line.specs.Lines.{line_starts}
-use Rattle.pd_line.specs.Work.{with_port}
 use Rattle.pd_port.specs.declared.due.Due.{Due}
 use Rattle.pd_port.specs.declared.entry.Entry.{Entry}
 use Rattle.pd_port.specs.Settings.{SettingsData}

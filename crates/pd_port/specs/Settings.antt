@@ -1,5 +1,5 @@
 -- What a port is set to: this product's own ranges.
-use Rattle.std.specs.Prelude.{◌≡◌, ℕ, ◌≤◌, ◌<◌, ◌*◌, Bool, List, [], ◌∷◌, length, Option, Some, slice_get, option_map}
+use Rattle.std.specs.Prelude.{◌≡◌, ℕ, ◌≤◌, ◌<◌, ◌*◌, Bool, List, [], ◌∷◌, length, Some, slice_get, option_map}
 use Rattle.pd_objects.specs.Supply.{SupplyData}
 
 -- the floor in mW, the supplies, how often the cable is asked who it is, and whether the power is unconstrained

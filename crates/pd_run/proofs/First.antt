@@ -4,8 +4,7 @@ use Rattle.std.specs.Prelude.{⊤}
 use Rattle.std.proofs.lemmas.Bool.{cases_lt}
 use Rattle.pd_port.specs.declared.due.Due.{Due}
 use Rattle.pd_scenario.specs.Plan.{Plan, count}
-use Rattle.pd_run.specs.Order.{IsNoLater}
-use Rattle.pd_run.specs.Live.{LiveData, IsFirstOf, IsNext, IsOver, IsSoFar, due_at}
+use Rattle.pd_run.specs.Live.{LiveData, IsFirstOf, IsNext, IsSoFar, due_at}
 
 below_more : (k n : ℕ) → k < n + 1 → (k < n) ⊎ (k ≡ n)
 below_more zero zero h = inr refl

@@ -1,4 +1,4 @@
-use Rattle.std.proofs.Common.{◌≡◌, refl, rules}
+use Rattle.std.proofs.Common.{◌≡◌}
 use Rattle.pd_port.specs.Port.{portstep, whole}
 use Rattle.pd_port.proofs.Steps.{worked, after_is, settings_are, entry_is}
 use Rattle.pd_port.proofs.port.Port.step.Goals as goal

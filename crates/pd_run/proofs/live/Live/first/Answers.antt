@@ -1,4 +1,4 @@
-use Rattle.std.proofs.Common.{◌≡◌, ℕ, ◌≤◌, arith, subst, sym}
+use Rattle.std.proofs.Common.{◌≡◌, ℕ, arith, subst}
 use Rattle.pd_run.specs.Live.{IsSoFar}
 use Rattle.pd_run.proofs.live.Live.first.Goals as goal
 

@@ -1,4 +1,4 @@
-use Rattle.std.proofs.Common.{◌≡◌, ◌<◌, ◌≤◌, sym, ◌∙◌, subst}
+use Rattle.std.proofs.Common.{◌<◌, ◌≤◌, sym, ◌∙◌}
 use Rattle.pd_run.proofs.First.{takes, keeps, passes_late, passes_no_sooner, passes_each, passes_none}
 use Rattle.pd_run.proofs.live.Live.with_port.Goals as goal
 
