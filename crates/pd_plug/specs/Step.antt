@@ -23,11 +23,11 @@ row_at x r = row_of (holds r) r.state x
 
 -- the engine after a step
 unfoldable pub stepped : ℕ → Stimulus → PlugRecord → PlugRecord
-stepped now x r = all_after (deeds_of_row (row_at x (before_row x r))) (before_row x r)
+stepped now x r = all_after (deeds_of_row (row_at x (before_row x r))) now (before_row x r)
 
 -- what a step wants of the port, in order
 unfoldable pub acts_of : ℕ → Stimulus → PlugRecord → List Act
-acts_of now x r = all_wants (deeds_of_row (row_at x (before_row x r))) (before_row x r)
+acts_of now x r = all_wants (deeds_of_row (row_at x (before_row x r))) now (before_row x r)
 
 -- whether messages reach the engine
 abbrev pub hears_in : PlugRecord → Bool

@@ -1,5 +1,8 @@
 -- The plug's state table (the states of USB Power Delivery 3.0, chapter 8; the rows are this product's profile).
 use Rattle.std.specs.Prelude.{ℕ, Bool, true, false, ◌==◌, ◌&&◌, ◌||◌, if◌then◌else◌, List, [], ◌∷◌, Option, Some, None}
+use Rattle.pd_timers.specs.declared.Timer.{Timer}
+use Rattle.pd_timers.specs.declared.Timer.TheVariants as timer
+use Rattle.pd_timers.specs.Timers.{place}
 use Rattle.pd_identity.specs.declared.Cable.{Cable}
 use Rattle.pd_identity.specs.declared.CablePlug.{CablePlug}
 use Rattle.pd_identity.specs.declared.CablePlug.TheVariants as plug
@@ -15,19 +18,36 @@ use Rattle.pd_plug.specs.Record.{PlugRecord}
 abbrev pub state_place : State → ℕ
 state_place state.Off = 0
 state_place state.Ready = 1
+state_place state.GetIdentity = 2
+state_place state.SendIdentity = 3
+
+-- all states but Off
+abbrev pub all_but_off : List State
+all_but_off = state.Ready ∷ state.GetIdentity ∷ state.SendIdentity ∷ []
 
 -- what stands in the column of stimuli
 pub data Cue : Type 0 where
   Attach : Cue
+  Ended : (t : Timer) → Cue
+  DiscoverIdentity : Cue
+  Sent : Cue
+  Failed : Cue
+  HardReset : Cue
 
 abbrev pub matches : Cue → Stimulus → Bool
 matches Attach (stimulus.Attach cable) = true
+matches (Ended t) (stimulus.Ended u) = place t == place u
+matches DiscoverIdentity stimulus.DiscoverIdentity = true
+matches Sent stimulus.Sent = true
+matches Failed stimulus.Failed = true
+matches HardReset stimulus.HardReset = true
 matches _ _ = false
 
 -- what stands in brackets
 pub data Guard : Type 0 where
   Always : Guard
   WithoutPlug : Guard
+  Silent : Guard
 
 -- whether a cable is attached that has no plug that speaks
 abbrev pub has_no_plug : Option Cable → Bool
@@ -37,10 +57,19 @@ has_no_plug (Some cable) = absent cable.plug where
   absent plug.Absent = true
   absent _ = false
 
+-- whether a cable is attached whose plug answers nothing
+abbrev pub is_silent : Option Cable → Bool
+is_silent None = false
+is_silent (Some cable) = silent cable.plug where
+  silent : CablePlug → Bool
+  silent plug.Silent = true
+  silent _ = false
+
 -- whether a guard holds of what the engine keeps
 abbrev pub holds : PlugRecord → Guard → Bool
 holds r Always = true
 holds r WithoutPlug = has_no_plug r.cable
+holds r Silent = is_silent r.cable
 
 -- what stands in the column of next states
 pub data Next : Type 0 where
@@ -62,6 +91,11 @@ abbrev pub table : List Row
 table =
     row 1 (state.Off ∷ []) (Attach ∷ []) WithoutPlug Stay []
     ∷ row 2 (state.Off ∷ []) (Attach ∷ []) Always (To state.Ready) []
+    ∷ row 3 all_but_off (DiscoverIdentity ∷ []) Silent Stay []
+    ∷ row 4 all_but_off (DiscoverIdentity ∷ []) Always (To state.GetIdentity) (deed.Start timer.Delay ∷ [])
+    ∷ row 5 (state.GetIdentity ∷ []) (Ended timer.Delay ∷ []) Always (To state.SendIdentity) (deed.SendIdentity ∷ [])
+    ∷ row 6 (state.SendIdentity ∷ []) (Sent ∷ Failed ∷ []) Always (To state.Ready) []
+    ∷ row 7 all_but_off (HardReset ∷ []) Always (To state.Ready) []
     ∷ []
 
 -- the last row of each state, whatever the stimulus: stay, no act

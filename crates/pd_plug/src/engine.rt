@@ -4,15 +4,15 @@ ghost use Rattle.std.specs.Prelude.{◌≡◌, ◌≤◌, ◌<◌, ◌+◌, ◌+
 ghost use Rattle.arrayvec.specs.ArrayVec.{array_vec_len};
 ghost use Rattle.pd_timers.specs.Deadlines.{first_of};
 ghost use Rattle.pd_plug.specs.Record.{off};
-ghost use Rattle.pd_plug.specs.Table.{has_no_plug};
-ghost use Rattle.pd_plug.specs.Acts.{after, wants, all_after, all_wants};
+ghost use Rattle.pd_plug.specs.Table.{has_no_plug, is_silent};
+ghost use Rattle.pd_plug.specs.Acts.{after, wants, all_after, all_wants, identity_of};
 ghost use Rattle.pd_plug.specs.Step.{before_row, stepped, acts_of, hears_in};
 
 use crate::kinds::{Deed, Facts};
 use crate::rows::choose;
 use crate::{Act, State, Stimulus};
 use arrayvec::ArrayVec;
-use pd_identity::{Cable, CablePlug};
+use pd_identity::{Cable, CablePlug, answer};
 use pd_timers::{Deadlines, Timer};
 use std::marker::Model;
 
@@ -70,7 +70,7 @@ impl Plug {
     {
         self.arrive(stimulus);
         let deeds = choose(self.state, *stimulus, self.facts());
-        self.run(deeds)
+        self.run(deeds, now)
     }
 
     /// A timer that falls due has ended, Sent sets the mark, and a cable that is attached is known.
@@ -87,33 +87,52 @@ impl Plug {
 
     /// What the guards of the rows ask.
     fn facts(&self) -> Facts
-        ensures { result ≡ record { without_plug = has_no_plug self.now.cable } }
+        ensures { result ≡ record { without_plug = has_no_plug self.now.cable; silent = is_silent self.now.cable } }
     {
         let without_plug = match &self.cable {
             Some(cable) => matches!(cable.plug, CablePlug::Absent),
             None => false,
         };
-        Facts { without_plug }
+        let silent = match &self.cable {
+            Some(cable) => matches!(cable.plug, CablePlug::Silent),
+            None => false,
+        };
+        Facts {
+            without_plug,
+            silent,
+        }
+    }
+
+    /// The objects that the attached cable answers.
+    fn identity(&self) -> ArrayVec<u32, 7>
+        ensures { result.items ≡ identity_of self.now.cable }
+    {
+        match &self.cable {
+            Some(cable) => answer(cable),
+            None => ArrayVec::new(),
+        }
     }
 
     /// Takes the acts of a row, in order.
-    fn run(&mut self, deeds: &[Deed]) -> ArrayVec<Act, 8>
-        requires { length deeds.now ≤ 6 }
-        ensures after { self.new ≡ all_after deeds.now self.old }
-        ensures acts { result.items ≡ all_wants deeds.now self.old }
+    fn run(&mut self, deeds: &[Deed], now: u64) -> ArrayVec<Act, 8>
+        requires time { now ≤ 120000000 }
+        requires few { length deeds.now ≤ 6 }
+        ensures after { self.new ≡ all_after deeds.now now self.old }
+        ensures acts { result.items ≡ all_wants deeds.now now self.old }
         ensures few { length result.items ≤ 6 }
     {
         let mut acts = ArrayVec::new();
         for deed in deeds {
-            self.take(*deed, &mut acts);
+            self.take(*deed, now, &mut acts);
         }
         acts
     }
 
     /// Takes one act of a row.
-    fn take(&mut self, deed: Deed, acts: &mut ArrayVec<Act, 8>)
-        requires { array_vec_len acts.old < 8 }
-        ensures after { self.new ≡ after deed self.old }
+    fn take(&mut self, deed: Deed, now: u64, acts: &mut ArrayVec<Act, 8>)
+        requires time { now ≤ 120000000 }
+        requires room { array_vec_len acts.old < 8 }
+        ensures after { self.new ≡ after deed now self.old }
         ensures few { array_vec_len acts.new ≤ array_vec_len acts.old + 1 }
         ensures acts { acts.new.items ≡ acts.old.items ++ wants deed self.old }
     {
@@ -124,6 +143,8 @@ impl Plug {
                 self.sent = false;
                 acts.push(Act::DropWaiting);
             }
+            Deed::Start(timer) => self.deadlines.start(now, timer),
+            Deed::SendIdentity => acts.push(Act::SendIdentity(self.identity())),
         }
     }
 

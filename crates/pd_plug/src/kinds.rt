@@ -1,5 +1,6 @@
 //! States, stimuli and acts.
 
+use arrayvec::ArrayVec;
 use pd_identity::Cable;
 use pd_timers::Timer;
 
@@ -9,6 +10,8 @@ use pd_timers::Timer;
 pub enum State {
     Off,
     Ready,
+    GetIdentity,
+    SendIdentity,
 }
 
 /// What the engine is stepped with.
@@ -18,10 +21,13 @@ pub enum Stimulus {
     Attach(Cable),
     /// A timer fell due.
     Ended(Timer),
+    /// The source asks who the cable is.
+    DiscoverIdentity,
     /// The message that was sent last was acknowledged.
     Sent,
     /// The message that was sent last was not acknowledged, however often it was tried.
     Failed,
+    HardReset,
     /// What no row speaks of.
     Other,
 }
@@ -32,6 +38,8 @@ pub enum Act {
     /// What waits to be sent on this side is dropped.
     #[default]
     DropWaiting,
+    /// The answer to Discover Identity is sent, with these objects.
+    SendIdentity(ArrayVec<u32, 7>),
 }
 
 /// What a row of the state table does.
@@ -39,10 +47,13 @@ pub enum Act {
 pub(crate) enum Deed {
     /// Enters a state: no timer runs, nothing waits on this side, and nothing was sent.
     Enter(State),
+    Start(Timer),
+    SendIdentity,
 }
 
 /// What the guards of the rows ask.
 #[derive(Clone, Copy, Debug)]
 pub(crate) struct Facts {
     pub without_plug: bool,
+    pub silent: bool,
 }

@@ -6,6 +6,7 @@ ghost use Rattle.pd_plug.specs.Facts.{told};
 
 use crate::kinds::{Deed, Facts};
 use crate::{State, Stimulus};
+use pd_timers::Timer;
 
 macro_rules! rows {
     ($state:ident, $stimulus:ident, $facts:ident; each $($any:ident)|+; $($number:ident: $($s:ident)|+, $c:pat $(if $g:ident)? => $next:ident $(($to:ident))? [$($deed:expr),*];)*) => {
@@ -28,8 +29,13 @@ pub(crate) fn choose(state: State, stimulus: Stimulus, facts: Facts) -> &'static
     ensures few { length result.now ≤ 6 }
 {
     rows! { state, stimulus, facts;
-        each Off | Ready;
+        each Off | Ready | GetIdentity | SendIdentity;
         C1: Off, Stimulus::Attach(_) if without_plug => stay [];
         C2: Off, Stimulus::Attach(_) => to(Ready) [];
+        C3: Ready | GetIdentity | SendIdentity, Stimulus::DiscoverIdentity if silent => stay [];
+        C4: Ready | GetIdentity | SendIdentity, Stimulus::DiscoverIdentity => to(GetIdentity) [Deed::Start(Timer::Delay)];
+        C5: GetIdentity, Stimulus::Ended(Timer::Delay) => to(SendIdentity) [Deed::SendIdentity];
+        C6: SendIdentity, Stimulus::Sent | Stimulus::Failed => to(Ready) [];
+        C7: Ready | GetIdentity | SendIdentity, Stimulus::HardReset => to(Ready) [];
     }
 }

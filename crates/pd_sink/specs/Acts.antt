@@ -1,5 +1,5 @@
 -- What each act of a row does to the engine, and what it wants of the port.
-use Rattle.std.specs.Prelude.{ℕ, false, List, [], ◌∷◌, ◌++◌}
+use Rattle.std.specs.Prelude.{ℕ, ◌+◌, false, List, [], ◌∷◌, ◌++◌}
 use Rattle.pd_timers.specs.Deadlines.{idle, started}
 use Rattle.pd_sink.specs.declared.kinds.Stimulus.{Stimulus}
 use Rattle.pd_sink.specs.declared.kinds.Stimulus.TheVariants as stimulus
@@ -34,3 +34,12 @@ all_after (d ∷ ds) now x r = all_after ds now x (after d now x r)
 abbrev pub all_wants : List Deed → ℕ → Stimulus → SinkRecord → List Act
 all_wants [] now x r = []
 all_wants (d ∷ ds) now x r = wants d r ++ all_wants ds now x (after d now x r)
+
+-- how many faults an act brings
+abbrev pub noise_of : Act → ℕ
+noise_of (act.Note n) = 1
+noise_of _ = 0
+
+abbrev pub noise : List Act → ℕ
+noise [] = 0
+noise (a ∷ acts) = noise_of a + noise acts

@@ -19,6 +19,15 @@ state_place state.Disabled = 1
 state_place state.Discovery = 2
 state_place state.WaitForCapabilities = 3
 state_place state.EvaluateCapability = 4
+state_place state.SelectCapability = 5
+state_place state.TransitionSink = 6
+state_place state.Ready = 7
+state_place state.GiveSinkCap = 8
+state_place state.GetSourceCap = 9
+state_place state.SendSoftReset = 10
+state_place state.SoftReset = 11
+state_place state.HardReset = 12
+state_place state.TransitionToDefault = 13
 
 -- what stands in the column of stimuli
 pub data Cue : Type 0 where

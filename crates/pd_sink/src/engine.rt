@@ -5,12 +5,12 @@ ghost use Rattle.arrayvec.specs.ArrayVec.{array_vec_len};
 ghost use Rattle.pd_timers.specs.Deadlines.{first_of};
 ghost use Rattle.pd_sink.specs.Record.{off};
 ghost use Rattle.pd_sink.specs.Table.{is_plain};
-ghost use Rattle.pd_sink.specs.Acts.{after, wants, all_after, all_wants};
-ghost use Rattle.pd_sink.specs.Step.{before_row, stepped, acts_of, hears_in};
+ghost use Rattle.pd_sink.specs.Acts.{after, wants, all_after, all_wants, noise};
+ghost use Rattle.pd_sink.specs.Step.{before_row, stepped, acts_of, hears_in, is_ready, revision_bits, demanding};
 
 use crate::kinds::{Deed, Facts};
 use crate::rows::choose;
-use crate::{Act, SinkMode, SinkSettings, State, Stimulus};
+use crate::{Act, Demand, SinkMode, SinkRevision, SinkSettings, State, Stimulus};
 use arrayvec::ArrayVec;
 use pd_timers::{Deadlines, Timer};
 use std::marker::Model;
@@ -71,9 +71,41 @@ impl Sink {
         !matches!(self.state, State::Off | State::Disabled)
     }
 
+    /// Whether the engine is in Ready.
+    pub fn ready(&self) -> bool
+        ensures { result ≡ is_ready self.now }
+    {
+        matches!(self.state, State::Ready)
+    }
+
+    /// The revision bits of what the sink sends.
+    pub fn revision(&self) -> u8
+        ensures value { result ≡ revision_bits self.now }
+        ensures fits { result < 4 }
+    {
+        match &self.sink {
+            Some(sink) => match sink.revision() {
+                SinkRevision::Revision2 => 1,
+                SinkRevision::Revision3 => 2,
+            },
+            None => 2,
+        }
+    }
+
     /// One step at a time in microseconds: the first row that fits, and its acts.
-    #[tactic(auto, unfolding(crate::specs::Step::stepped, crate::specs::Step::acts_of))]
     pub fn step(&mut self, now: u64, stimulus: &Stimulus) -> ArrayVec<Act, 8>
+        requires { now ≤ 120000000 }
+        ensures after { self.new ≡ stepped now stimulus.now self.old }
+        ensures acts { result.items ≡ acts_of now stimulus.now self.old }
+        ensures few { length result.items ≤ 6 }
+        ensures quiet { noise result.items ≤ 1 }
+    {
+        self.take_row(now, stimulus)
+    }
+
+    /// Takes the first row that fits.
+    #[tactic(auto, unfolding(crate::specs::Step::stepped, crate::specs::Step::acts_of))]
+    fn take_row(&mut self, now: u64, stimulus: &Stimulus) -> ArrayVec<Act, 8>
         requires { now ≤ 120000000 }
         ensures after { self.new ≡ stepped now stimulus.now self.old }
         ensures acts { result.items ≡ acts_of now stimulus.now self.old }
@@ -92,6 +124,7 @@ impl Sink {
             Stimulus::Attach(sink) => self.sink = Some(*sink),
             Stimulus::Sent => self.sent = true,
             Stimulus::Ended(timer) => self.deadlines.stop(*timer),
+            Stimulus::Demand(demand) => self.sink = demanding(&self.sink, *demand),
             _ => {}
         }
     }
@@ -168,6 +201,16 @@ impl Sink {
             sink: self.sink,
             offer: copied(self.offer.as_slice()),
         }
+    }
+}
+
+/// The sink with another demand.
+fn demanding(sink: &Option<SinkSettings>, demand: Demand) -> Option<SinkSettings>
+    ensures { result ≡ demanding demand sink.now }
+{
+    match sink {
+        Some(sink) => Some(sink.with_demand(demand)),
+        None => None,
     }
 }
 

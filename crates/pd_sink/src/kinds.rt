@@ -1,11 +1,11 @@
 //! States, stimuli and acts.
 
-use crate::SinkSettings;
+use crate::{Demand, SinkSettings};
 use arrayvec::ArrayVec;
 use pd_timers::Timer;
 
 /// The states of the sink's policy engine (USB Power Delivery 3.0, section 8.3.3.3), Off while nothing is attached, and
-/// Disabled where the sink doesn't speak USB Power Delivery.
+/// Disabled where the sink doesn't speak USB Power Delivery, or no longer.
 #[derive(Clone, Copy, Debug, PartialEq, Eq)]
 pub enum State {
     Off,
@@ -13,6 +13,15 @@ pub enum State {
     Discovery,
     WaitForCapabilities,
     EvaluateCapability,
+    SelectCapability,
+    TransitionSink,
+    Ready,
+    GiveSinkCap,
+    GetSourceCap,
+    SendSoftReset,
+    SoftReset,
+    HardReset,
+    TransitionToDefault,
 }
 
 /// What the engine is stepped with.
@@ -26,12 +35,42 @@ pub enum Stimulus {
     Ended(Timer),
     /// An offer came, with these objects.
     SourceCapabilities(ArrayVec<u32, 7>),
-    /// The message that was sent last was acknowledged.
+    Accept,
+    Reject,
+    Wait,
+    PsRdy,
+    GetSinkCap,
+    SoftReset,
+    HardReset,
+    /// The message that was sent last was acknowledged, or the Hard Reset has ended.
     Sent,
     /// The message that was sent last was not acknowledged, however often it was tried.
     Failed,
+    /// The sink wants another power from now on.
+    Demand(Demand),
+    /// The source is to be asked for its capabilities.
+    GetSource,
     /// What no row speaks of.
     Other,
+}
+
+/// A message of the sink, with its objects.
+#[derive(Debug, Drop, PartialEq)]
+pub enum Sending {
+    Request(u32),
+    GetSourceCap,
+    SinkCapabilities(ArrayVec<u32, 7>),
+    Accept,
+    SoftReset,
+}
+
+/// What the engine notes.
+#[derive(Clone, Copy, Debug, PartialEq, Eq)]
+pub enum Note {
+    SoftReset,
+    HardReset,
+    Disabled,
+    Mismatch,
 }
 
 /// What the engine wants of its port.
@@ -40,6 +79,11 @@ pub enum Act {
     /// What waits to be sent on this side is dropped.
     #[default]
     DropWaiting,
+    /// The sink's layer is reset.
+    ResetLayer,
+    Note(Note),
+    Send(Sending),
+    SendHardReset,
 }
 
 /// What a row of the state table does.

@@ -8,5 +8,5 @@ mod rows;
 mod settings;
 
 pub use engine::Sink;
-pub use kinds::{Act, State, Stimulus};
-pub use settings::{SinkMode, SinkRevision, SinkSettings};
+pub use kinds::{Act, Note, Sending, State, Stimulus};
+pub use settings::{Demand, SinkMode, SinkRevision, SinkSettings};

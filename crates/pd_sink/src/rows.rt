@@ -28,7 +28,7 @@ pub(crate) fn choose(state: State, stimulus: &Stimulus, facts: Facts) -> &'stati
     ensures few { length result.now ≤ 6 }
 {
     rows! { state, stimulus, facts;
-        each Off | Disabled | Discovery | WaitForCapabilities | EvaluateCapability;
+        each Off | Disabled | Discovery | WaitForCapabilities | EvaluateCapability | SelectCapability | TransitionSink | Ready | GiveSinkCap | GetSourceCap | SendSoftReset | SoftReset | HardReset | TransitionToDefault;
         K1: Off, Stimulus::Attach(_) if plain => to(Disabled) [];
         K2: Off, Stimulus::Attach(_) => to(Discovery) [];
         K3: Discovery, Stimulus::Vbus => to(WaitForCapabilities) [Deed::Start(Timer::SinkWaitCap)];

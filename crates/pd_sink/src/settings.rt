@@ -1,7 +1,7 @@
 //! What a sink is set to.
 
 ghost use Rattle.std.specs.Prelude.{◌≡◌, ℕ, ◌↔◌, IsTrue};
-ghost use Rattle.pd_sink.specs.Settings.{SinkData, IsSink};
+ghost use Rattle.pd_sink.specs.Settings.{SinkData, IsSink, IsDemand};
 
 use std::marker::Model;
 
@@ -21,6 +21,47 @@ pub enum SinkMode {
 pub enum SinkRevision {
     Revision2,
     Revision3,
+}
+
+/// A power that a sink wants, in mW, 50 to 100,000.
+#[derive(Clone, Copy, Debug, PartialEq, Eq)]
+pub struct Demand {
+    mw: u32,
+}
+
+impl Model for Demand {
+    ghost Value = { ℕ };
+
+    ghost view = { λ d. d.mw };
+
+    ghost invariant = { λ d. IsDemand d.mw };
+
+    ghost inverse = { λ v. record { mw = v } };
+}
+
+impl Demand {
+    /// A demand of so many mW.
+    pub fn new(mw: u32) -> Demand
+        requires { IsDemand mw }
+        ensures { result ≡ mw }
+    {
+        Demand { mw }
+    }
+
+    /// The power in mW.
+    pub fn mw(&self) -> u32
+        ensures value { result ≡ self.now }
+        ensures is_demand { IsDemand self.now }
+    {
+        self.mw
+    }
+
+    /// Whether both are the same.
+    pub fn same(&self, other: &Demand) -> bool
+        ensures { IsTrue result ↔ (self.now ≡ other.now) }
+    {
+        self.mw == other.mw
+    }
 }
 
 /// What a sink is set to: its greatest voltage in mV, 5,000 to 20,000 in steps of 50, its demand in mW, 50 to
@@ -87,6 +128,18 @@ impl SinkSettings {
         ensures { result ≡ self.now.revision }
     {
         self.revision
+    }
+
+    /// The same sink with another demand.
+    pub fn with_demand(&self, demand: Demand) -> SinkSettings
+        ensures { result ≡ record self.now { demand_mw = demand } }
+    {
+        SinkSettings {
+            max_mv: self.max_mv,
+            demand_mw: demand.mw,
+            mode: self.mode,
+            revision: self.revision,
+        }
     }
 
     /// Whether both are the same.

@@ -48,7 +48,7 @@ held-all_after s floor free [] now a r g h = h
 held-all_after s floor free (d ∷ ds) now a r g h = held-all_after s floor free ds now a (after d now a r) g (held-after s floor free d now a r g h)
 
 held-before : (s : SourceSettings) (floor free : ℕ) (x : Stimulus) (r : SourceRecord) → held s floor r.draft_offer ≤ free → held s floor (before_row x r).draft_offer ≤ free
-held-before s floor free stimulus.Sent r h = h
+held-before s floor free (stimulus.Sent m) r h = h
 held-before s floor free (stimulus.Ended t) r h = h
 held-before s floor free _ r h = h
 

@@ -3,3 +3,4 @@ pub mod Later
 pub mod Answered
 pub mod Holds
 pub mod Objects
+pub mod Quiet

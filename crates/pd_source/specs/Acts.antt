@@ -71,3 +71,13 @@ all_after (d ∷ ds) now a r = all_after ds now a (after d now a r)
 abbrev pub all_wants : SourceSettings → List Deed → ℕ → Option Answer → SourceRecord → List Act
 all_wants s [] now a r = []
 all_wants s (d ∷ ds) now a r = wants s d r ++ all_wants s ds now a (after d now a r)
+
+-- How many faults an act may bring: one of its own, or one of the sink's, which is stepped where the power is switched on.
+abbrev pub noise_of : Act → ℕ
+noise_of (act.Note n) = 1
+noise_of act.On = 1
+noise_of _ = 0
+
+abbrev pub noise : List Act → ℕ
+noise [] = 0
+noise (a ∷ acts) = noise_of a + noise acts

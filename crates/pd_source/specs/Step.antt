@@ -16,7 +16,7 @@ use Rattle.pd_source.specs.Acts.{all_after, all_wants}
 
 -- before the row is taken, a timer that falls due has ended, and Sent has set the mark
 abbrev pub before_row : Stimulus → SourceRecord → SourceRecord
-before_row stimulus.Sent r = record r { sent = true }
+before_row (stimulus.Sent m) r = record r { sent = true }
 before_row (stimulus.Ended t) r = record r { deadlines = stopped r.deadlines t }
 before_row _ r = r
 
@@ -45,7 +45,19 @@ abbrev pub hears_in : SourceRecord → Bool
 hears_in r = hears r.state where
   hears : State → Bool
   hears state.Off = false
+  hears state.Disabled = false
   hears _ = true
+
+-- whether the engine is in Ready
+abbrev pub is_ready : SourceRecord → Bool
+is_ready r = ready r.state where
+  ready : State → Bool
+  ready state.Ready = true
+  ready _ = false
+
+-- the revision bits of what the source sends on SOP: 10, USB Power Delivery 3.0
+abbrev pub revision_bits : SourceRecord → ℕ
+revision_bits r = 2
 
 -- the powers in microwatts of an offer's currents
 abbrev pub powers : List SupplyData → List ℕ → List ℕ

@@ -17,7 +17,21 @@ use Rattle.pd_source.specs.Record.{SourceSettings, SourceRecord}
 abbrev pub state_place : State → ℕ
 state_place state.Off = 0
 state_place state.Startup = 1
-state_place state.SendCapabilities = 2
+state_place state.VdmIdentityRequest = 2
+state_place state.SendCapabilities = 3
+state_place state.Discovery = 4
+state_place state.NegotiateCapability = 5
+state_place state.CapabilityResponse = 6
+state_place state.TransitionSupply = 7
+state_place state.Ready = 8
+state_place state.WaitNewCapabilities = 9
+state_place state.GetSinkCap = 10
+state_place state.SendSoftReset = 11
+state_place state.SoftReset = 12
+state_place state.HardReset = 13
+state_place state.HardResetReceived = 14
+state_place state.TransitionToDefault = 15
+state_place state.Disabled = 16
 
 -- what stands in the column of stimuli
 pub data Cue : Type 0 where
@@ -28,7 +42,7 @@ pub data Cue : Type 0 where
 abbrev pub matches : Cue → Stimulus → Bool
 matches Attach stimulus.Attach = true
 matches (Ended t) (stimulus.Ended u) = place t == place u
-matches Sent stimulus.Sent = true
+matches Sent (stimulus.Sent m) = true
 matches _ _ = false
 
 -- what stands in brackets

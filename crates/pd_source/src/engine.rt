@@ -6,8 +6,8 @@ ghost use Rattle.pd_timers.specs.Deadlines.{first_of};
 ghost use Rattle.pd_source.specs.Record.{new_source};
 ghost use Rattle.pd_source.specs.Table.{holds};
 ghost use Rattle.pd_source.specs.Facts.{told};
-ghost use Rattle.pd_source.specs.Acts.{after, wants, all_after, all_wants, capabilities, object_of};
-ghost use Rattle.pd_source.specs.Step.{before_row, stepped, acts_of, query_of, offer_query, hears_in, hold_of, powers};
+ghost use Rattle.pd_source.specs.Acts.{after, wants, all_after, all_wants, capabilities, object_of, noise};
+ghost use Rattle.pd_source.specs.Step.{before_row, stepped, acts_of, query_of, offer_query, hears_in, is_ready, revision_bits, hold_of, powers};
 
 use crate::kinds::{Deed, Facts, Message};
 use crate::rows::choose;
@@ -100,7 +100,22 @@ impl Source {
     pub fn hears(&self) -> bool
         ensures { result ≡ hears_in self.now.record }
     {
-        !matches!(self.state, State::Off)
+        !matches!(self.state, State::Off | State::Disabled)
+    }
+
+    /// Whether the engine is in Ready.
+    pub fn ready(&self) -> bool
+        ensures { result ≡ is_ready self.now.record }
+    {
+        matches!(self.state, State::Ready)
+    }
+
+    /// The revision bits of what the source sends on SOP.
+    pub fn revision(&self) -> u8
+        ensures value { result ≡ revision_bits self.now.record }
+        ensures fits { result < 4 }
+    {
+        2
     }
 
     /// What the port holds of the shared budget in microwatts, with a floor of so many.
@@ -116,7 +131,7 @@ impl Source {
     pub fn ask(&self, stimulus: &Stimulus) -> Option<Query>
         ensures { result ≡ query_of self.now.settings stimulus.now self.now.record }
     {
-        if choose(self.state, *stimulus, self.facts()).asks_offer {
+        if choose(self.state, stimulus, self.facts()).asks_offer {
             Some(self.offer_query())
         } else {
             None
@@ -134,8 +149,24 @@ impl Source {
     }
 
     /// One step at a time in microseconds: the first row that fits, and its acts. The answer is that to `ask`.
-    #[tactic(auto, unfolding(crate::specs::Step::stepped, crate::specs::Step::acts_of))]
     pub fn step(
+        &mut self,
+        now: u64,
+        stimulus: &Stimulus,
+        answer: Option<Answer>,
+    ) -> ArrayVec<Act, 8>
+        requires { now ≤ 120000000 }
+        ensures after { self.new ≡ record self.old { «record» = stepped self.old.settings now stimulus.now answer self.old.record } }
+        ensures acts { result.items ≡ acts_of self.old.settings now stimulus.now answer self.old.record }
+        ensures few { length result.items ≤ 6 }
+        ensures quiet { noise result.items ≤ 2 }
+    {
+        self.take_row(now, stimulus, answer)
+    }
+
+    /// Takes the first row that fits.
+    #[tactic(auto, unfolding(crate::specs::Step::stepped, crate::specs::Step::acts_of))]
+    fn take_row(
         &mut self,
         now: u64,
         stimulus: &Stimulus,
@@ -147,7 +178,7 @@ impl Source {
         ensures few { length result.items ≤ 6 }
     {
         self.arrive(stimulus);
-        let plan = choose(self.state, *stimulus, self.facts());
+        let plan = choose(self.state, stimulus, self.facts());
         self.run(plan.deeds, now, &answer)
     }
 
@@ -156,7 +187,7 @@ impl Source {
         ensures { self.new ≡ record self.old { «record» = before_row stimulus.now self.old.record } }
     {
         match stimulus {
-            Stimulus::Sent => self.sent = true,
+            Stimulus::Sent(_) => self.sent = true,
             Stimulus::Ended(timer) => self.deadlines.stop(*timer),
             _ => {}
         }

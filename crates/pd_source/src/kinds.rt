@@ -9,27 +9,81 @@ use pd_timers::Timer;
 pub enum State {
     Off,
     Startup,
+    VdmIdentityRequest,
     SendCapabilities,
+    Discovery,
+    NegotiateCapability,
+    CapabilityResponse,
+    TransitionSupply,
+    Ready,
+    WaitNewCapabilities,
+    GetSinkCap,
+    SendSoftReset,
+    SoftReset,
+    HardReset,
+    HardResetReceived,
+    TransitionToDefault,
+    Disabled,
+}
+
+/// Which message was acknowledged, as far as a row asks.
+#[derive(Clone, Copy, Debug, PartialEq, Eq)]
+pub enum Sent {
+    Accept,
+    PsRdy,
+    /// Another message, or a Hard Reset.
+    Other,
 }
 
 /// What the engine is stepped with.
-#[derive(Clone, Copy, Debug)]
+#[derive(Drop)]
 pub enum Stimulus {
     Attach,
     /// A timer fell due.
     Ended(Timer),
-    /// The message that was sent last was acknowledged.
-    Sent,
+    /// What was sent last was acknowledged, or the Hard Reset has ended.
+    Sent(Sent),
     /// The message that was sent last was not acknowledged, however often it was tried.
     Failed,
+    /// The plug answered Discover Identity with these objects.
+    Identity(ArrayVec<u32, 7>),
+    /// A Request came: its object, and the revision bits of its header.
+    Request { object: u32, revision: u8 },
+    GetSourceCap,
+    SinkCapabilities,
+    Accept,
+    SoftReset,
+    HardReset,
+    /// The sink is to be asked for its capabilities.
+    GetSink,
+    /// The port's hold no longer fits the budget.
+    Shed,
     /// What no row speaks of.
     Other,
 }
 
-/// A message of the source, with its objects.
+/// A message of the source, with its objects where it has some of its own.
 #[derive(Debug, Drop, PartialEq)]
 pub enum Sending {
+    DiscoverIdentity,
     SourceCapabilities(ArrayVec<u32, 7>),
+    Accept,
+    Reject,
+    Wait,
+    PsRdy,
+    GetSinkCap,
+    SoftReset,
+}
+
+/// What the engine notes.
+#[derive(Clone, Copy, Debug, PartialEq, Eq)]
+pub enum Note {
+    SoftReset,
+    HardReset,
+    Disabled,
+    CableUnread,
+    Reject,
+    Wait,
 }
 
 /// What the engine wants of its port.
@@ -40,7 +94,13 @@ pub enum Act {
     DropWaiting,
     /// The power is switched on.
     On,
+    /// The power is switched off.
+    Off,
+    /// The source's layer on SOP is reset.
+    ResetLayer,
+    Note(Note),
     Send(Sending),
+    SendHardReset,
 }
 
 /// Which message a row sends.

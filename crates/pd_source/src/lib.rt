@@ -7,4 +7,4 @@ pub mod laws;
 mod rows;
 
 pub use engine::Source;
-pub use kinds::{Act, Sending, State, Stimulus};
+pub use kinds::{Act, Note, Sending, Sent, State, Stimulus};

@@ -34,15 +34,15 @@ macro_rules! plan {
 
 /// The first row that fits, as a plan.
 #[tactic(auto, unfolding(crate::specs::Table::row_of))]
-pub(crate) fn choose(state: State, stimulus: Stimulus, facts: Facts) -> Plan
-    ensures deeds { result.deeds.now ≡ deeds_of_row (row_of (told facts) state stimulus) }
-    ensures asks { result.asks_offer ≡ asks_offer (row_of (told facts) state stimulus).next }
+pub(crate) fn choose(state: State, stimulus: &Stimulus, facts: Facts) -> Plan
+    ensures deeds { result.deeds.now ≡ deeds_of_row (row_of (told facts) state stimulus.now) }
+    ensures asks { result.asks_offer ≡ asks_offer (row_of (told facts) state stimulus.now).next }
     ensures few { length result.deeds.now ≤ 6 }
 {
     rows! { state, stimulus, facts;
-        each Off | Startup | SendCapabilities;
+        each Off | Startup | VdmIdentityRequest | SendCapabilities | Discovery | NegotiateCapability | CapabilityResponse | TransitionSupply | Ready | WaitNewCapabilities | GetSinkCap | SendSoftReset | SoftReset | HardReset | HardResetReceived | TransitionToDefault | Disabled;
         S1: Off, Stimulus::Attach => to(Startup) [Deed::Start(Timer::TurnOn)];
         S2: Startup, Stimulus::Ended(Timer::TurnOn) if limit_known => sc [Deed::On];
-        S10: SendCapabilities, Stimulus::Sent => stay [Deed::CapsZero, Deed::Settle, Deed::Start(Timer::SenderResponse)];
+        S10: SendCapabilities, Stimulus::Sent(_) => stay [Deed::CapsZero, Deed::Settle, Deed::Start(Timer::SenderResponse)];
     }
 }

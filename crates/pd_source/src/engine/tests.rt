@@ -1,6 +1,7 @@
 //! A test for each row of the state table.
 
 use super::*;
+use crate::Sent;
 
 /// A source of 5 V and 20 V that asks its cable so often who it is.
 fn detached(identity_tries: u8) -> Source {
@@ -79,7 +80,7 @@ fn s2_needs_the_limit(rt: HostRuntime) {
 fn s10_sent_settles_the_offer(rt: HostRuntime) {
     let mut source = at_send_capabilities();
     let mut want = at_send_capabilities();
-    let acts = source.step(60_000, &Stimulus::Sent, None);
+    let acts = source.step(60_000, &Stimulus::Sent(Sent::Other), None);
     want.sent = true;
     want.caps = 0;
     want.delivered_offer = currents();
