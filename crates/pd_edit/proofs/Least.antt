@@ -2,11 +2,12 @@
 use Rattle.std.proofs.Common.{◌≡◌, ℕ, ◌<◌, ◌⊎◌, Bool, true, false, List, [], ◌∷◌, find, refl, ap, inl, inr, arith, lit<, Some, Err}
 use Rattle.std.proofs.lemmas.Bool.{cases_Bool}
 use Rattle.pd_scenario.specs.Contents.{Contents}
-use Rattle.pd_edit.specs.declared.fault.EditFault.{EditFault}
-use Rattle.pd_edit.specs.declared.fault.EditFault.TheVariants.{Syntax, IdTaken, NoSuchId, NoSuchPort, NoSuchName, Range, Limit, Memory}
-use Rattle.pd_edit.specs.declared.line.Edit.{Edit}
-use Rattle.pd_edit.specs.Numbers.{number_of}
-use Rattle.pd_edit.specs.Edits.{refuses, refusals, edited, answered, outcome}
+use Rattle.pd_edit_lines.specs.declared.fault.EditFault.{EditFault}
+use Rattle.pd_edit_lines.specs.declared.fault.EditFault.TheVariants.{Syntax, IdTaken, NoSuchId, NoSuchPort, NoSuchName, InUse, Range, Supplies, Floors, Limit, Memory}
+use Rattle.pd_edit_lines.specs.declared.edit.Edit.{Edit}
+use Rattle.pd_edit_lines.specs.Numbers.{number_of}
+use Rattle.pd_edit.specs.Edits.{outcome}
+use Rattle.pd_edit.specs.Refusals.{refuses, refusals, edited, answered}
 
 abbrev IsIn : EditFault → List EditFault → Type 0
 IsIn fault [] = ⊥
@@ -65,7 +66,7 @@ least applies (first ∷ faults) c fault rising left h =
 
 rising : AreRising refusals
 rising =
-    ((lit< tt, (lit< tt, (lit< tt, (lit< tt, (lit< tt, tt))))), ((lit< tt, (lit< tt, (lit< tt, (lit< tt, tt)))), ((lit< tt, (lit< tt, (lit< tt, tt))), ((lit< tt, (lit< tt, tt)), ((lit< tt, tt), (tt, tt))))))
+    ((lit< tt, (lit< tt, (lit< tt, (lit< tt, (lit< tt, (lit< tt, (lit< tt, (lit< tt, tt)))))))), ((lit< tt, (lit< tt, (lit< tt, (lit< tt, (lit< tt, (lit< tt, (lit< tt, tt))))))), ((lit< tt, (lit< tt, (lit< tt, (lit< tt, (lit< tt, (lit< tt, tt)))))), ((lit< tt, (lit< tt, (lit< tt, (lit< tt, (lit< tt, tt))))), ((lit< tt, (lit< tt, (lit< tt, (lit< tt, tt)))), ((lit< tt, (lit< tt, (lit< tt, tt))), ((lit< tt, (lit< tt, tt)), ((lit< tt, tt), (tt, tt)))))))))
 
 listed : (n : ℕ) (c : Contents) (edit : Edit) (fault : EditFault) → (refuses fault n c edit ≡ false) ⊎ IsIn fault refusals
 listed n c edit Syntax = inl refl
@@ -73,8 +74,11 @@ listed n c edit IdTaken = inr (inl refl)
 listed n c edit NoSuchId = inr (inr (inl refl))
 listed n c edit NoSuchPort = inr (inr (inr (inl refl)))
 listed n c edit NoSuchName = inr (inr (inr (inr (inl refl))))
-listed n c edit Range = inr (inr (inr (inr (inr (inl refl)))))
-listed n c edit Limit = inr (inr (inr (inr (inr (inr (inl refl))))))
+listed n c edit InUse = inr (inr (inr (inr (inr (inl refl)))))
+listed n c edit Range = inr (inr (inr (inr (inr (inr (inl refl))))))
+listed n c edit Supplies = inr (inr (inr (inr (inr (inr (inr (inl refl)))))))
+listed n c edit Floors = inr (inr (inr (inr (inr (inr (inr (inr (inl refl))))))))
+listed n c edit Limit = inr (inr (inr (inr (inr (inr (inr (inr (inr (inl refl)))))))))
 listed n c edit Memory = inl refl
 
 pub least_refusal : (n : ℕ) (c : Contents) (edit : Edit) (fault : EditFault) → edited n c edit ≡ Err fault

@@ -1,5 +1,11 @@
 pub mod Accepted
-pub mod FirstWord
-pub mod Inserts
-pub mod Kept
+pub mod Cables
+pub mod Events
+pub mod Floors
 pub mod Least
+pub mod Listed
+pub mod Named
+pub mod Parts
+pub mod Ports
+pub mod Settings
+pub mod Sinks

@@ -1,58 +1,131 @@
--- What a scenario is after an edit, and what an edit is refused for.
-use Rattle.std.specs.Prelude.{◌≡◌, ℕ, Bool, false, not, ◌||◌, ◌==◌, nat_le, List, [], ◌∷◌, ◌++◌, length, filter, map, find, Option, Some, None, Result, Ok, Err, IsOk, if◌then◌else◌}
+-- What a scenario is after an edit.
+use Rattle.std.specs.Prelude.{◌≡◌, ℕ, ◌≤◌, ◌+◌, Bool, not, ◌==◌, List, [], ◌∷◌, ◌++◌, filter, map, length, slice_get, option_map, Option, Some, None, unwrap_or, bytes_eq, is_some, if◌then◌else◌}
+use Rattle.pd_objects.specs.Supply.{SupplyData}
+use Rattle.pd_identity.specs.declared.CablePlug.{CablePlug}
+use Rattle.pd_identity.specs.declared.Rating.{Rating}
+use Rattle.pd_identity.specs.declared.Rating.TheVariants.{ThreeAmperes, FiveAmperes}
+use Rattle.pd_sink.specs.declared.settings.SinkMode.{SinkMode}
+use Rattle.pd_sink.specs.declared.settings.SinkRevision.{SinkRevision}
+use Rattle.pd_plan.specs.Settings.{SettingsData, AreRising}
+use Rattle.pd_scenario.specs.declared.contents.NamedCable.{NamedCable}
+use Rattle.pd_scenario.specs.declared.contents.NamedSink.{NamedSink}
 use Rattle.pd_scenario.specs.declared.contents.ScenarioEvent.{ScenarioEvent}
 use Rattle.pd_scenario.specs.declared.contents.ScenarioEventKind.{ScenarioEventKind}
 use Rattle.pd_scenario.specs.declared.contents.ScenarioEventKind.TheVariants as scenario_event
-use Rattle.pd_scenario.specs.Contents.{Contents, has_id, names_are_known}
-use Rattle.pd_scenario.specs.Limits.{is_id, is_time, is_port, most_events}
-use Rattle.pd_edit.specs.declared.fault.EditFault.{EditFault}
-use Rattle.pd_edit.specs.declared.fault.EditFault.TheVariants.{IdTaken, NoSuchId, NoSuchPort, NoSuchName, Range, Limit, Memory}
-use Rattle.pd_edit.specs.declared.line.EditKind.{EditKind}
-use Rattle.pd_edit.specs.declared.line.EditKind.TheVariants.{Attach}
-use Rattle.pd_edit.specs.declared.line.Edit.{Edit}
-use Rattle.pd_edit.specs.declared.line.Edit.TheVariants.{Insert, Remove, Move}
+use Rattle.pd_scenario.specs.declared.contents.ScenarioHappening.{ScenarioHappening}
+use Rattle.pd_scenario.specs.declared.contents.ScenarioHappening.TheVariants as scenario_happening
+use Rattle.pd_scenario.specs.Contents.{Contents, cable_named, sink_named}
+use Rattle.pd_edit_lines.specs.declared.edit.EditKind.{EditKind}
+use Rattle.pd_edit_lines.specs.declared.edit.EditKind.TheVariants.{Attach, Detach, Demand, Lose, Damage, GetSource, GetSink}
+use Rattle.pd_edit_lines.specs.declared.edit.EditHappening.{EditHappening}
+use Rattle.pd_edit_lines.specs.declared.edit.EditHappening.TheVariants as happens
+use Rattle.pd_edit_lines.specs.declared.edit.WrittenSupply.{WrittenSupply}
+use Rattle.pd_edit_lines.specs.declared.edit.Edit.{Edit}
+use Rattle.pd_edit_lines.specs.declared.edit.Edit.TheVariants.{Insert, Remove, Move, Change, Cable, DropCable, Sink, DropSink, Caps, Floor, Budget, End}
 
-abbrev pub kind_of_event : EditKind → ScenarioEventKind
-kind_of_event (Attach cable sink) = scenario_event.Attach cable sink
+-- ---- events
 
--- an edit of a scenario of n ports is refused for this
-abbrev pub refuses : EditFault → ℕ → Contents → Edit → Bool
-refuses IdTaken n c (Insert id at port kind) = has_id c.events id
-refuses NoSuchId n c (Remove id) = not (has_id c.events id)
-refuses NoSuchId n c (Move id at) = not (has_id c.events id)
-refuses NoSuchPort n c (Insert id at port kind) = not (is_port n port)
-refuses NoSuchName n c (Insert id at port kind) = not (names_are_known c.cables c.sinks (kind_of_event kind))
-refuses Range n c (Insert id at port kind) = not (is_id id) || not (is_time at)
-refuses Range n c (Move id at) = not (is_time at)
-refuses Limit n c (Insert id at port kind) = nat_le most_events (length c.events)
-refuses _ n c _ = false
+abbrev pub event_kind_of : EditKind → ScenarioEventKind
+event_kind_of (Attach cable sink) = scenario_event.Attach cable sink
+event_kind_of Detach = scenario_event.Detach
+event_kind_of (Demand mw) = scenario_event.Demand mw
+event_kind_of Lose = scenario_event.Lose
+event_kind_of (Damage place mask) = scenario_event.Damage (record { place = place; mask = mask })
+event_kind_of GetSource = scenario_event.GetSource
+event_kind_of GetSink = scenario_event.GetSink
 
--- what an edit may be refused for, in the order of the numbers
-abbrev pub refusals : List EditFault
-refusals = IdTaken ∷ NoSuchId ∷ NoSuchPort ∷ NoSuchName ∷ Range ∷ Limit ∷ []
+abbrev pub event_happening_of : EditHappening → ScenarioHappening
+event_happening_of (happens.OnPort port kind) = scenario_happening.OnPort port (event_kind_of kind)
+event_happening_of (happens.Budget mw) = scenario_happening.Budget mw
+
+abbrev pub inserted_event : ℕ → ℕ → EditHappening → ScenarioEvent
+inserted_event id at happening = record { id = id; at = at; happening = event_happening_of happening }
 
 -- an event, at another time where it has the id
 abbrev pub moved_event : ℕ → ℕ → ScenarioEvent → ScenarioEvent
 moved_event id at e = if e.id == id then record e { at = at } else e
 
--- the events after an edit: a new one stands last
-abbrev pub edited_events : List ScenarioEvent → Edit → List ScenarioEvent
-edited_events events (Insert id at port kind) = events ++ record { id = id; at = at; port = port; kind = kind_of_event kind } ∷ []
-edited_events events (Remove id) = filter (λ (e : ScenarioEvent). not (e.id == id)) events
-edited_events events (Move id at) = map (moved_event id at) events
+-- the same port with another kind of event; a change of the budget stays as it is
+abbrev pub with_kind : ScenarioEventKind → ScenarioHappening → ScenarioHappening
+with_kind kind (scenario_happening.OnPort port old) = scenario_happening.OnPort port kind
+with_kind kind (scenario_happening.Budget mw) = scenario_happening.Budget mw
 
+-- an event, of another kind where it has the id
+abbrev pub changed_event : ℕ → ScenarioEventKind → ScenarioEvent → ScenarioEvent
+changed_event id kind e = if e.id == id then record e { happening = with_kind kind e.happening } else e
+
+-- ---- cables and sinks
+
+abbrev pub has_cable : List NamedCable → List ℕ → Bool
+has_cable cables name = is_some (cable_named cables name)
+
+abbrev pub has_sink : List NamedSink → List ℕ → Bool
+has_sink sinks name = is_some (sink_named sinks name)
+
+-- the ratings of cables, in mA
+abbrev pub rating_of : ℕ → Option Rating
+rating_of rating = if rating == 3000 then Some ThreeAmperes else if rating == 5000 then Some FiveAmperes else None
+
+abbrev pub written_cable : List ℕ → CablePlug → ℕ → NamedCable
+written_cable name plug rating = record { name = name; cable = record { plug = plug; rating = unwrap_or (rating_of rating) ThreeAmperes } }
+
+abbrev pub written_sink : List ℕ → ℕ → ℕ → SinkMode → SinkRevision → NamedSink
+written_sink name max_mv demand_mw mode revision = record { name = name; sink = record { max_mv = max_mv; demand_mw = demand_mw; mode = mode; revision = revision } }
+
+-- in place of the one of its name, else behind the others
+abbrev pub with_cable : NamedCable → List NamedCable → List NamedCable
+with_cable new cables =
+    if has_cable cables new.name then map (λ (old : NamedCable). if bytes_eq old.name new.name then new else old) cables else cables ++ new ∷ []
+
+abbrev pub with_sink : NamedSink → List NamedSink → List NamedSink
+with_sink new sinks =
+    if has_sink sinks new.name then map (λ (old : NamedSink). if bytes_eq old.name new.name then new else old) sinks else sinks ++ new ∷ []
+
+abbrev pub without_cable : List ℕ → List NamedCable → List NamedCable
+without_cable name cables = filter (λ (cable : NamedCable). not (bytes_eq cable.name name)) cables
+
+abbrev pub without_sink : List ℕ → List NamedSink → List NamedSink
+without_sink name sinks = filter (λ (sink : NamedSink). not (bytes_eq sink.name name)) sinks
+
+-- ---- ports
+
+-- the settings with those of one port changed; the ports are numbered from a first one
+abbrev pub changed_from : ℕ → ℕ → (SettingsData → SettingsData) → List SettingsData → List SettingsData
+changed_from first port change [] = []
+changed_from first port change (s ∷ settings) = (if first == port then change s else s) ∷ changed_from (first + 1) port change settings
+
+abbrev pub changed_port : ℕ → (SettingsData → SettingsData) → List SettingsData → List SettingsData
+changed_port port change settings = changed_from 1 port change settings
+
+abbrev pub supply_of : WrittenSupply → SupplyData
+supply_of written = record { mv = written.mv; ma = written.ma }
+
+-- what the supplies of each port keep
+pub record AreSupplies (supplies : List SupplyData) : Type 0 where
+  pub some : 1 ≤ length supplies
+  pub few : length supplies ≤ 7
+  pub first : option_map (λ (supply : SupplyData). supply.mv) (slice_get supplies 0) ≡ Some 5000
+  pub rising : AreRising supplies
+
+abbrev pub with_supplies : List WrittenSupply → SettingsData → SettingsData
+with_supplies supplies s = record s { supplies = map supply_of supplies }
+
+abbrev pub with_floor : ℕ → SettingsData → SettingsData
+with_floor mw s = record s { floor_mw = mw }
+
+-- ---- the whole
+
+-- the scenario after an edit: what is new stands last
 abbrev pub outcome : Contents → Edit → Contents
-outcome c edit = record c { events = edited_events c.events edit }
-
--- the first refusal that applies, or the edited scenario
-abbrev pub answered : Option EditFault → Contents → Result Contents EditFault
-answered None c = Ok c
-answered (Some fault) c = Err fault
-
-abbrev pub edited : ℕ → Contents → Edit → Result Contents EditFault
-edited n c edit = answered (find (λ fault. refuses fault n c edit) refusals) (outcome c edit)
-
--- What an edit answers: that, and want of memory only where none of the refusals applies.
-abbrev pub Applies : Result Contents EditFault → Result Contents EditFault → Type 0
-Applies (Err Memory) expected = IsOk expected
-Applies answer expected = expected ≡ answer
+outcome c (Insert id at happening) = record c { events = c.events ++ inserted_event id at happening ∷ [] }
+outcome c (Remove id) = record c { events = filter (λ (e : ScenarioEvent). not (e.id == id)) c.events }
+outcome c (Move id at) = record c { events = map (moved_event id at) c.events }
+outcome c (Change id kind) = record c { events = map (changed_event id (event_kind_of kind)) c.events }
+outcome c (Cable name plug rating) = record c { cables = with_cable (written_cable name plug rating) c.cables }
+outcome c (DropCable name) = record c { cables = without_cable name c.cables }
+outcome c (Sink name max_mv demand_mw mode revision) = record c { sinks = with_sink (written_sink name max_mv demand_mw mode revision) c.sinks }
+outcome c (DropSink name) = record c { sinks = without_sink name c.sinks }
+outcome c (Caps port supplies) = record c { settings = changed_port port (with_supplies supplies.items) c.settings }
+outcome c (Floor port mw) = record c { settings = changed_port port (with_floor mw) c.settings }
+outcome c (Budget mw) = record c { budget_mw = mw }
+outcome c (End at) = record c { end_us = at }

@@ -1,10 +1,10 @@
 -- What is proved of the definitions alone.
 use Rattle.std.specs.Prelude.{◌≡◌, ℕ, ◌<◌, true, false, Err}
 use Rattle.pd_scenario.specs.Contents.{Contents}
-use Rattle.pd_edit.specs.declared.fault.EditFault.{EditFault}
-use Rattle.pd_edit.specs.declared.line.Edit.{Edit}
-use Rattle.pd_edit.specs.Numbers.{number_of}
-use Rattle.pd_edit.specs.Edits.{refuses, edited}
+use Rattle.pd_edit_lines.specs.declared.fault.EditFault.{EditFault}
+use Rattle.pd_edit_lines.specs.declared.edit.Edit.{Edit}
+use Rattle.pd_edit_lines.specs.Numbers.{number_of}
+use Rattle.pd_edit.specs.Refusals.{refuses, edited}
 
 -- a refusal of an edit applies to it, and none of a lesser number does
 abbrev pub LeastRefusal : Type 0

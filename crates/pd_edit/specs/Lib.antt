@@ -1,5 +1,3 @@
 pub mod Edits
-pub mod Grammar
 pub mod Laws
-pub mod Numbers
-pub mod Words
+pub mod Refusals

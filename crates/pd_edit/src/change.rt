@@ -1,13 +1,19 @@
-//! Lists of events with one changed.
+//! Lists of events, cables, sinks and settings with one changed.
 
-ghost use Rattle.std.specs.Prelude.{◌≡◌, ◌==◌, not, [], ◌∷◌, ◌++◌, filter, map, IfOk};
-ghost use Rattle.pd_edit.specs.Edits.{moved_event};
+ghost use Rattle.std.specs.Prelude.{◌≡◌, ◌≤◌, ◌==◌, ℕ, true, not, [], ◌∷◌, ◌++◌, filter, map, bytes_eq, IfOk, if◌then◌else◌};
+ghost use Rattle.pd_edit.specs.Edits.{moved_event, changed_event, event_kind_of, without_cable, without_sink, changed_port, with_floor, AreSupplies};
+ghost use Rattle.pd_edit.specs.Refusals.{kind_in_range};
 
-use pd_scenario::ScenarioEvent;
+use crate::made::{changed_event, with_floor_at, with_supplies_at};
+use arrayvec::ArrayVec;
+use pd_edit_lines::EditKind;
+use pd_objects::Supply;
+use pd_plan::Settings;
+use pd_scenario::{Name, NamedCable, NamedSink, ScenarioEvent};
 use std::alloc::{AllocError, Global};
 
 /// The events and one more.
-pub fn with_event(
+pub(crate) fn with_event(
     alloc: Global,
     events: &[ScenarioEvent],
     event: ScenarioEvent,
@@ -23,7 +29,7 @@ pub fn with_event(
 }
 
 /// The events without the one of an id.
-pub fn without(
+pub(crate) fn without_event(
     alloc: Global,
     events: &[ScenarioEvent],
     id: u64,
@@ -40,7 +46,7 @@ pub fn without(
 }
 
 /// The events with the one of an id at another time, in microseconds.
-pub fn moved(
+pub(crate) fn with_time(
     alloc: Global,
     events: &[ScenarioEvent],
     id: u64,
@@ -55,6 +61,156 @@ pub fn moved(
             copy.at = at;
         }
         copies.push(copy)?;
+    }
+    Ok(copies)
+}
+
+/// The events with another kind of the one of an id.
+pub(crate) fn with_kind(
+    alloc: Global,
+    events: &[ScenarioEvent],
+    id: u64,
+    kind: &EditKind,
+) -> Result<Vec<ScenarioEvent>, AllocError>
+    requires { kind_in_range kind.now ≡ true }
+    ensures { IfOk result (λ v. v.items ≡ map (changed_event id (event_kind_of kind.now)) events.now) }
+{
+    let mut copies = Vec::new(alloc);
+    for event in events {
+        copies.push(changed_event(id, kind, event))?;
+    }
+    Ok(copies)
+}
+
+/// The cables and one more.
+pub(crate) fn with_new_cable(
+    alloc: Global,
+    cables: &[NamedCable],
+    cable: NamedCable,
+) -> Result<Vec<NamedCable>, AllocError>
+    ensures { IfOk result (λ v. v.items ≡ cables.now ++ cable ∷ []) }
+{
+    let mut copies = Vec::new(alloc);
+    for other in cables {
+        copies.push(other.copy())?;
+    }
+    copies.push(cable)?;
+    Ok(copies)
+}
+
+/// The cables with another in place of the one of its name.
+pub(crate) fn with_other_cable(
+    alloc: Global,
+    cables: &[NamedCable],
+    new: &NamedCable,
+) -> Result<Vec<NamedCable>, AllocError>
+    ensures { IfOk result (λ v. v.items ≡ map (λ old. if bytes_eq old.name new.now.name then new.now else old) cables.now) }
+{
+    let mut copies = Vec::new(alloc);
+    for old in cables {
+        let is_old = old.name.as_str() == new.name.as_str();
+        copies.push(if is_old { new.copy() } else { old.copy() })?;
+    }
+    Ok(copies)
+}
+
+/// The cables without the one of a name.
+pub(crate) fn without_cable(
+    alloc: Global,
+    cables: &[NamedCable],
+    name: &Name,
+) -> Result<Vec<NamedCable>, AllocError>
+    ensures { IfOk result (λ v. v.items ≡ without_cable name.now cables.now) }
+{
+    let mut others = Vec::new(alloc);
+    for cable in cables {
+        if cable.name.as_str() != name.as_str() {
+            others.push(cable.copy())?;
+        }
+    }
+    Ok(others)
+}
+
+/// The sinks and one more.
+pub(crate) fn with_new_sink(
+    alloc: Global,
+    sinks: &[NamedSink],
+    sink: NamedSink,
+) -> Result<Vec<NamedSink>, AllocError>
+    ensures { IfOk result (λ v. v.items ≡ sinks.now ++ sink ∷ []) }
+{
+    let mut copies = Vec::new(alloc);
+    for other in sinks {
+        copies.push(other.copy())?;
+    }
+    copies.push(sink)?;
+    Ok(copies)
+}
+
+/// The sinks with another in place of the one of its name.
+pub(crate) fn with_other_sink(
+    alloc: Global,
+    sinks: &[NamedSink],
+    new: &NamedSink,
+) -> Result<Vec<NamedSink>, AllocError>
+    ensures { IfOk result (λ v. v.items ≡ map (λ old. if bytes_eq old.name new.now.name then new.now else old) sinks.now) }
+{
+    let mut copies = Vec::new(alloc);
+    for old in sinks {
+        let is_old = old.name.as_str() == new.name.as_str();
+        copies.push(if is_old { new.copy() } else { old.copy() })?;
+    }
+    Ok(copies)
+}
+
+/// The sinks without the one of a name.
+pub(crate) fn without_sink(
+    alloc: Global,
+    sinks: &[NamedSink],
+    name: &Name,
+) -> Result<Vec<NamedSink>, AllocError>
+    ensures { IfOk result (λ v. v.items ≡ without_sink name.now sinks.now) }
+{
+    let mut others = Vec::new(alloc);
+    for sink in sinks {
+        if sink.name.as_str() != name.as_str() {
+            others.push(sink.copy())?;
+        }
+    }
+    Ok(others)
+}
+
+/// The settings with another floor of one port, in mW.
+pub(crate) fn with_port_floor(
+    alloc: Global,
+    settings: &[Settings],
+    port: u64,
+    mw: u32,
+) -> Result<Vec<Settings>, AllocError>
+    requires least { 500 ≤ mw }
+    requires most { mw ≤ 100000 }
+    ensures { IfOk result (λ v. v.items ≡ changed_port port (with_floor mw) settings.now) }
+{
+    let mut copies = Vec::new(alloc);
+    for (i, own) in settings.iter().enumerate() {
+        copies.push(with_floor_at(i as u64 + 1, port, own, mw))?;
+    }
+    Ok(copies)
+}
+
+/// The settings with other supplies of one port.
+pub(crate) fn with_port_supplies(
+    alloc: Global,
+    settings: &[Settings],
+    port: u64,
+    supplies: &ArrayVec<Supply, 7>,
+) -> Result<Vec<Settings>, AllocError>
+    requires { AreSupplies supplies.now.items }
+    ensures { IfOk result (λ v. v.items ≡ changed_port port (λ s. record s { supplies = supplies.now.items }) settings.now) }
+{
+    let mut copies = Vec::new(alloc);
+    for (i, own) in settings.iter().enumerate() {
+        copies.push(with_supplies_at(i as u64 + 1, port, own, supplies))?;
     }
     Ok(copies)
 }

@@ -1,118 +1,256 @@
 //! Edits of a scenario.
 
-ghost use Rattle.std.specs.Prelude.{◌≡◌, ℕ, ◌≤◌, ◌==◌, not, [], ◌∷◌, ◌++◌, filter, map, IfOk, find};
-ghost use Rattle.pd_scenario.specs.Contents.{Contents, IsValid, names_are_known};
-ghost use Rattle.pd_scenario.specs.Limits.{is_id, is_time, is_port};
-ghost use Rattle.pd_edit.specs.Edits.{Applies, refuses, refusals, edited, edited_events, outcome, kind_of_event};
+ghost use Rattle.std.specs.Prelude.{◌≡◌, IfOk};
+ghost use Rattle.pd_scenario.specs.Contents.{Contents, IsValid};
+ghost use Rattle.pd_edit_lines.specs.declared.edit.Edit.TheVariants as edits;
+ghost use Rattle.pd_edit.specs.Edits.{outcome, with_cable, with_sink, written_cable, written_sink};
+ghost use Rattle.pd_edit.specs.Refusals.{Applies, IsAccepted, edited};
 
-use crate::change::{moved, with_event, without};
-use crate::{Edit, EditFault, EditKind};
-use pd_scenario::{Scenario, ScenarioEvent, ScenarioEventKind};
+use crate::change::{
+    with_event, with_kind, with_new_cable, with_new_sink, with_other_cable, with_other_sink,
+    with_port_floor, with_port_supplies, with_time, without_cable, without_event, without_sink,
+};
+use crate::made::{inserted_event, supplies_of, written_cable, written_sink};
+use crate::refusals::first_refusal;
+use arrayvec::ArrayVec;
+use pd_edit_lines::{Edit, EditFault, EditHappening, EditKind, WrittenSupply};
+use pd_identity::CablePlug;
+use pd_scenario::{Name, NamedCable, NamedSink, Scenario};
+use pd_sink::{SinkMode, SinkRevision};
 use std::alloc::{AllocError, Global};
 
-/// The greatest id of an event, the latest time in microseconds, and the most events.
-const MOST_ID: u64 = 1_000_000;
-
-const LATEST: u64 = 120_000_000;
-
-const MOST_EVENTS: usize = 4_096;
-
-/// What an edit may be refused for, the least number first.
-const REFUSALS: [EditFault; 6] = [
-    EditFault::IdTaken,
-    EditFault::NoSuchId,
-    EditFault::NoSuchPort,
-    EditFault::NoSuchName,
-    EditFault::Range,
-    EditFault::Limit,
-];
-
-fn is_id(id: u64) -> bool
-    ensures { result ≡ is_id id }
+fn insert<const N: usize>(
+    alloc: Global,
+    scenario: &Scenario<N>,
+    id: u64,
+    at: u64,
+    happening: &EditHappening,
+) -> Result<Scenario<N>, AllocError>
+    requires { IsAccepted N scenario.now (edits.Insert id at happening.now) }
+    ensures { IfOk result (λ s. s ≡ outcome scenario.now (edits.Insert id at happening.now)) }
 {
-    1 <= id && id <= MOST_ID
+    let events = scenario.events();
+    let event = inserted_event(N, id, at, happening);
+    let edited = with_event(alloc, events, event)?;
+    Ok(scenario.copy(alloc)?.with_events(edited))
 }
 
-fn is_time(at: u64) -> bool
-    ensures { result ≡ is_time at }
+fn remove<const N: usize>(
+    alloc: Global,
+    scenario: &Scenario<N>,
+    id: u64,
+) -> Result<Scenario<N>, AllocError>
+    requires { IsAccepted N scenario.now (edits.Remove id) }
+    ensures { IfOk result (λ s. s ≡ outcome scenario.now (edits.Remove id)) }
 {
-    at <= LATEST
+    let events = scenario.events();
+    let edited = without_event(alloc, events, id)?;
+    Ok(scenario.copy(alloc)?.with_events(edited))
 }
 
-fn is_port(ports: usize, port: u64) -> bool
-    ensures { result ≡ is_port ports port }
+fn move_event<const N: usize>(
+    alloc: Global,
+    scenario: &Scenario<N>,
+    id: u64,
+    at: u64,
+) -> Result<Scenario<N>, AllocError>
+    requires { IsAccepted N scenario.now (edits.Move id at) }
+    ensures { IfOk result (λ s. s ≡ outcome scenario.now (edits.Move id at)) }
 {
-    1 <= port && port <= ports as u64
+    let events = scenario.events();
+    let edited = with_time(alloc, events, id, at as u32)?;
+    Ok(scenario.copy(alloc)?.with_events(edited))
 }
 
-fn kind_of_event(kind: &EditKind) -> ScenarioEventKind
-    ensures { result ≡ kind_of_event kind.now }
+fn change<const N: usize>(
+    alloc: Global,
+    scenario: &Scenario<N>,
+    id: u64,
+    kind: &EditKind,
+) -> Result<Scenario<N>, AllocError>
+    requires { IsAccepted N scenario.now (edits.Change id kind.now) }
+    ensures { IfOk result (λ s. s ≡ outcome scenario.now (edits.Change id kind.now)) }
 {
-    let EditKind::Attach { cable, sink } = kind;
-    ScenarioEventKind::Attach {
-        cable: cable.copy(),
-        sink: sink.copy(),
+    let events = scenario.events();
+    let edited = with_kind(alloc, events, id, kind)?;
+    Ok(scenario.copy(alloc)?.with_events(edited))
+}
+
+/// The cables of a scenario with a new one, or with another in place of the one of its name.
+fn put_cable<const N: usize>(
+    alloc: Global,
+    scenario: &Scenario<N>,
+    cable: NamedCable,
+) -> Result<Vec<NamedCable>, AllocError>
+    ensures { IfOk result (λ v. v.items ≡ with_cable cable scenario.now.cables) }
+{
+    let cables = scenario.cables();
+    if scenario.cable(&cable.name).is_some() {
+        with_other_cable(alloc, cables, &cable)
+    } else {
+        with_new_cable(alloc, cables, cable)
     }
 }
 
-fn names_are_known<const N: usize>(scenario: &Scenario<N>, kind: &EditKind) -> bool
-    ensures { result ≡ names_are_known scenario.now.cables scenario.now.sinks (kind_of_event kind.now) }
+fn cable<const N: usize>(
+    alloc: Global,
+    scenario: &Scenario<N>,
+    name: &Name,
+    plug: CablePlug,
+    rating: u64,
+) -> Result<Scenario<N>, AllocError>
+    requires { IsAccepted N scenario.now (edits.Cable name.now plug rating) }
+    ensures { IfOk result (λ s. s ≡ outcome scenario.now (edits.Cable name.now plug rating)) }
 {
-    let EditKind::Attach { cable, sink } = kind;
-    scenario.cable(cable).is_some() && scenario.sink(sink).is_some()
+    let _cables = scenario.cables();
+    let _text = name.as_str();
+    let new = written_cable(name, plug, rating);
+    let edited = put_cable(alloc, scenario, new)?;
+    Ok(scenario.copy(alloc)?.with_cables(edited))
 }
 
-/// Whether an edit of a scenario is refused for this.
-fn refuses<const N: usize>(fault: EditFault, scenario: &Scenario<N>, edit: &Edit) -> bool
-    ensures { result ≡ refuses fault N scenario.now edit.now }
+fn drop_cable<const N: usize>(
+    alloc: Global,
+    scenario: &Scenario<N>,
+    name: &Name,
+) -> Result<Scenario<N>, AllocError>
+    requires { IsAccepted N scenario.now (edits.DropCable name.now) }
+    ensures { IfOk result (λ s. s ≡ outcome scenario.now (edits.DropCable name.now)) }
 {
-    match (fault, edit) {
-        (EditFault::IdTaken, Edit::Insert { id, .. }) => scenario.has_id(*id),
-        (EditFault::NoSuchId, Edit::Remove { id }) => !scenario.has_id(*id),
-        (EditFault::NoSuchId, Edit::Move { id, .. }) => !scenario.has_id(*id),
-        (EditFault::NoSuchPort, Edit::Insert { port, .. }) => !is_port(N, *port),
-        (EditFault::NoSuchName, Edit::Insert { kind, .. }) => !names_are_known(scenario, kind),
-        (EditFault::Range, Edit::Insert { id, at, .. }) => !is_id(*id) || !is_time(*at),
-        (EditFault::Range, Edit::Move { at, .. }) => !is_time(*at),
-        (EditFault::Limit, Edit::Insert { .. }) => scenario.events().len() >= MOST_EVENTS,
-        _ => false,
+    let cables = scenario.cables();
+    let edited = without_cable(alloc, cables, name)?;
+    Ok(scenario.copy(alloc)?.with_cables(edited))
+}
+
+/// The sinks of a scenario with a new one, or with another in place of the one of its name.
+fn put_sink<const N: usize>(
+    alloc: Global,
+    scenario: &Scenario<N>,
+    sink: NamedSink,
+) -> Result<Vec<NamedSink>, AllocError>
+    ensures { IfOk result (λ v. v.items ≡ with_sink sink scenario.now.sinks) }
+{
+    let sinks = scenario.sinks();
+    if scenario.sink(&sink.name).is_some() {
+        with_other_sink(alloc, sinks, &sink)
+    } else {
+        with_new_sink(alloc, sinks, sink)
     }
 }
 
-/// The first refusal that applies.
-fn first_refusal<const N: usize>(scenario: &Scenario<N>, edit: &Edit) -> Option<EditFault>
-    ensures { result ≡ find (λ fault. refuses fault N scenario.now edit.now) refusals }
+fn sink<const N: usize>(
+    alloc: Global,
+    scenario: &Scenario<N>,
+    name: &Name,
+    max_mv: u64,
+    demand_mw: u64,
+    mode: SinkMode,
+    revision: SinkRevision,
+) -> Result<Scenario<N>, AllocError>
+    requires { IsAccepted N scenario.now (edits.Sink name.now max_mv demand_mw mode revision) }
+    ensures { IfOk result (λ s. s ≡ outcome scenario.now (edits.Sink name.now max_mv demand_mw mode revision)) }
 {
-    REFUSALS.iter().copied().find(
-        |fault| -> bool
-            ensures { result ≡ refuses fault.now N scenario.entry.now edit.entry.now }
-        { refuses(*fault, scenario, edit) },
-    )
+    let _sinks = scenario.sinks();
+    let _text = name.as_str();
+    let new = written_sink(name, max_mv, demand_mw, mode, revision);
+    let edited = put_sink(alloc, scenario, new)?;
+    Ok(scenario.copy(alloc)?.with_sinks(edited))
 }
 
-/// The events of an edited scenario.
-fn edited_events<const N: usize>(
+fn drop_sink<const N: usize>(
+    alloc: Global,
+    scenario: &Scenario<N>,
+    name: &Name,
+) -> Result<Scenario<N>, AllocError>
+    requires { IsAccepted N scenario.now (edits.DropSink name.now) }
+    ensures { IfOk result (λ s. s ≡ outcome scenario.now (edits.DropSink name.now)) }
+{
+    let sinks = scenario.sinks();
+    let edited = without_sink(alloc, sinks, name)?;
+    Ok(scenario.copy(alloc)?.with_sinks(edited))
+}
+
+fn caps<const N: usize>(
+    alloc: Global,
+    scenario: &Scenario<N>,
+    port: u64,
+    supplies: &ArrayVec<WrittenSupply, 7>,
+) -> Result<Scenario<N>, AllocError>
+    requires { IsAccepted N scenario.now (edits.Caps port supplies.now) }
+    ensures { IfOk result (λ s. s ≡ outcome scenario.now (edits.Caps port supplies.now)) }
+{
+    let settings = scenario.all_settings();
+    let supplies = supplies_of(supplies);
+    let edited = with_port_supplies(alloc, settings, port, &supplies)?;
+    Ok(scenario.copy(alloc)?.with_settings(edited))
+}
+
+fn floor<const N: usize>(
+    alloc: Global,
+    scenario: &Scenario<N>,
+    port: u64,
+    mw: u64,
+) -> Result<Scenario<N>, AllocError>
+    requires { IsAccepted N scenario.now (edits.Floor port mw) }
+    ensures { IfOk result (λ s. s ≡ outcome scenario.now (edits.Floor port mw)) }
+{
+    let settings = scenario.all_settings();
+    let edited = with_port_floor(alloc, settings, port, mw as u32)?;
+    Ok(scenario.copy(alloc)?.with_settings(edited))
+}
+
+fn budget<const N: usize>(
+    alloc: Global,
+    scenario: &Scenario<N>,
+    mw: u64,
+) -> Result<Scenario<N>, AllocError>
+    requires { IsAccepted N scenario.now (edits.Budget mw) }
+    ensures { IfOk result (λ s. s ≡ outcome scenario.now (edits.Budget mw)) }
+{
+    let _settings = scenario.all_settings();
+    Ok(scenario.copy(alloc)?.with_budget(mw as u32))
+}
+
+fn end<const N: usize>(
+    alloc: Global,
+    scenario: &Scenario<N>,
+    at: u64,
+) -> Result<Scenario<N>, AllocError>
+    requires { IsAccepted N scenario.now (edits.End at) }
+    ensures { IfOk result (λ s. s ≡ outcome scenario.now (edits.End at)) }
+{
+    let _settings = scenario.all_settings();
+    Ok(scenario.copy(alloc)?.with_end(at as u32))
+}
+
+/// The scenario after an edit for which no refusal applies.
+fn edited<const N: usize>(
     alloc: Global,
     scenario: &Scenario<N>,
     edit: &Edit,
-) -> Result<Vec<ScenarioEvent>, AllocError>
-    requires { find (λ fault. refuses fault N scenario.now edit.now) refusals ≡ None }
-    ensures value { IfOk result (λ v. v.items ≡ edited_events scenario.now.events edit.now) }
-    ensures is_valid { IsValid N (outcome scenario.now edit.now) }
+) -> Result<Scenario<N>, AllocError>
+    requires { IsAccepted N scenario.now edit.now }
+    ensures { IfOk result (λ s. s ≡ outcome scenario.now edit.now) }
 {
-    let events = scenario.events();
     match edit {
-        Edit::Insert { id, at, port, kind } => {
-            let event = ScenarioEvent {
-                id: *id as u32,
-                at: *at as u32,
-                port: *port as u32,
-                kind: kind_of_event(kind),
-            };
-            with_event(alloc, events, event)
-        }
-        Edit::Remove { id } => without(alloc, events, *id),
-        Edit::Move { id, at } => moved(alloc, events, *id, *at as u32),
+        Edit::Insert { id, at, happening } => insert(alloc, scenario, *id, *at, happening),
+        Edit::Remove { id } => remove(alloc, scenario, *id),
+        Edit::Move { id, at } => move_event(alloc, scenario, *id, *at),
+        Edit::Change { id, kind } => change(alloc, scenario, *id, kind),
+        Edit::Cable { name, plug, rating } => cable(alloc, scenario, name, *plug, *rating),
+        Edit::DropCable { name } => drop_cable(alloc, scenario, name),
+        Edit::Sink {
+            name,
+            max_mv,
+            demand_mw,
+            mode,
+            revision,
+        } => sink(alloc, scenario, name, *max_mv, *demand_mw, *mode, *revision),
+        Edit::DropSink { name } => drop_sink(alloc, scenario, name),
+        Edit::Caps { port, supplies } => caps(alloc, scenario, *port, supplies),
+        Edit::Floor { port, mw } => floor(alloc, scenario, *port, *mw),
+        Edit::Budget { mw } => budget(alloc, scenario, *mw),
+        Edit::End { at } => end(alloc, scenario, *at),
     }
 }
 
@@ -130,10 +268,7 @@ pub fn apply<const N: usize>(
     if let Some(fault) = first_refusal(scenario, edit) {
         return Err(fault);
     }
-    let Ok(events) = edited_events(alloc, scenario, edit) else {
-        return Err(EditFault::Memory);
-    };
-    match scenario.with_events(alloc, events) {
+    match edited(alloc, scenario, edit) {
         Ok(scenario) => Ok(scenario),
         Err(_) => Err(EditFault::Memory),
     }

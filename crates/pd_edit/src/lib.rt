@@ -1,13 +1,11 @@
-//! Lines of an edit script: edits of a scenario, and what is to be shown.
+//! Edits of a scenario.
 #![tactic(auto)]
 
 mod change;
 mod edits;
-mod fault;
 pub mod laws;
-mod line;
-mod words;
+mod made;
+mod numbers;
+mod refusals;
 
 pub use edits::apply;
-pub use fault::EditFault;
-pub use line::{Edit, EditKind, Line, Show};

@@ -115,7 +115,7 @@ impl<const N: usize> Scenario<N> {
         ensures value { result ≡ (plan_of self.now).budget }
         ensures is_plan { IsPlan N (plan_of self.now) }
     {
-        u64::from(self.budget_mw) * 1_000
+        self.budget_mw() * 1_000
     }
 
     /// The changes of the budget, in the order of their making.
@@ -151,6 +151,38 @@ impl<const N: usize> Scenario<N> {
         u64::from(self.end_us)
     }
 
+    /// What the ports are set to, the first port first.
+    pub fn all_settings(&self) -> &[Settings]
+        ensures value { result.now ≡ self.now.settings }
+        ensures is_valid { IsValid N self.now }
+    {
+        self.settings.as_slice()
+    }
+
+    /// The cables, in the order of their making.
+    pub fn cables(&self) -> &[NamedCable]
+        ensures value { result.now ≡ self.now.cables }
+        ensures is_valid { IsValid N self.now }
+    {
+        self.cables.as_slice()
+    }
+
+    /// The sinks, in the order of their making.
+    pub fn sinks(&self) -> &[NamedSink]
+        ensures value { result.now ≡ self.now.sinks }
+        ensures is_valid { IsValid N self.now }
+    {
+        self.sinks.as_slice()
+    }
+
+    /// The budget that the ports share, in mW.
+    pub fn budget_mw(&self) -> u64
+        ensures value { result ≡ self.now.budget_mw }
+        ensures is_valid { IsValid N self.now }
+    {
+        u64::from(self.budget_mw)
+    }
+
     /// The events, in the order of their making.
     pub fn events(&self) -> &[ScenarioEvent]
         ensures value { result.now ≡ self.now.events }
@@ -180,29 +212,70 @@ impl<const N: usize> Scenario<N> {
         sink_named(&self.sinks, name)
     }
 
-    /// The scenario with other events.
+    /// The same scenario.
     ///
     /// # Errors
     /// There is no memory.
-    pub fn with_events(
-        &self,
-        alloc: Global,
-        events: Vec<ScenarioEvent>,
-    ) -> Result<Scenario<N>, AllocError>
-        requires { IsValid N (record self.now { events = events.items }) }
-        ensures { IfOk result (λ s. s ≡ record self.now { events = events.items }) }
+    pub fn copy(&self, alloc: Global) -> Result<Scenario<N>, AllocError>
+        ensures { IfOk result (λ s. s ≡ self.now) }
     {
-        let settings = copy_settings(alloc, &self.settings)?;
-        let cables = copy_cables(alloc, &self.cables)?;
-        let sinks = copy_sinks(alloc, &self.sinks)?;
-        Ok(Scenario {
-            settings,
-            cables,
-            sinks,
-            events,
-            budget_mw: self.budget_mw,
-            end_us: self.end_us,
-        })
+        Scenario::of(
+            alloc,
+            &self.settings,
+            &self.cables,
+            &self.sinks,
+            &self.events,
+            self.budget_mw,
+            self.end_us,
+        )
+    }
+
+    /// The scenario with other settings of its ports.
+    pub fn with_settings(self, settings: Vec<Settings>) -> Scenario<N>
+        requires { IsValid N (record self { settings = settings.items }) }
+        ensures { result ≡ record self.entry { settings = settings.items } }
+    {
+        Scenario { settings, ..self }
+    }
+
+    /// The scenario with other cables.
+    pub fn with_cables(self, cables: Vec<NamedCable>) -> Scenario<N>
+        requires { IsValid N (record self { cables = cables.items }) }
+        ensures { result ≡ record self.entry { cables = cables.items } }
+    {
+        Scenario { cables, ..self }
+    }
+
+    /// The scenario with other sinks.
+    pub fn with_sinks(self, sinks: Vec<NamedSink>) -> Scenario<N>
+        requires { IsValid N (record self { sinks = sinks.items }) }
+        ensures { result ≡ record self.entry { sinks = sinks.items } }
+    {
+        Scenario { sinks, ..self }
+    }
+
+    /// The scenario with other events.
+    pub fn with_events(self, events: Vec<ScenarioEvent>) -> Scenario<N>
+        requires { IsValid N (record self { events = events.items }) }
+        ensures { result ≡ record self.entry { events = events.items } }
+    {
+        Scenario { events, ..self }
+    }
+
+    /// The scenario with another budget, in mW.
+    pub fn with_budget(self, budget_mw: u32) -> Scenario<N>
+        requires { IsValid N (record self { budget_mw = budget_mw }) }
+        ensures { result ≡ record self.entry { budget_mw = budget_mw } }
+    {
+        Scenario { budget_mw, ..self }
+    }
+
+    /// The scenario with another end, in microseconds.
+    pub fn with_end(self, end_us: u32) -> Scenario<N>
+        requires { IsValid N (record self { end_us = end_us }) }
+        ensures { result ≡ record self.entry { end_us = end_us } }
+    {
+        Scenario { end_us, ..self }
     }
 }
 

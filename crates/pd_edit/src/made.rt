@@ -1,0 +1,202 @@
+//! What an edit makes of its numbers and names, where none of its refusals applies.
+
+ghost use Rattle.std.specs.Prelude.{◌≡◌, ◌==◌, ◌≤◌, true, map, is_some, if◌then◌else◌};
+ghost use Rattle.std.specs.List.{list_all};
+ghost use Rattle.pd_sink.specs.Settings.{IsSink};
+ghost use Rattle.pd_scenario.specs.Limits.{allows};
+ghost use Rattle.pd_scenario.specs.declared.limits.Quantity.TheVariants as quantity;
+ghost use Rattle.pd_edit.specs.Edits.{event_kind_of, event_happening_of, inserted_event, changed_event, rating_of, written_cable, written_sink, with_floor, supply_of, AreSupplies};
+ghost use Rattle.pd_edit.specs.Refusals.{kind_in_range, happening_in_range, happens_on_port, supply_in_range};
+
+use crate::numbers::rating_of;
+use arrayvec::ArrayVec;
+use pd_edit_lines::{EditHappening, EditKind, WrittenSupply};
+use pd_identity::{Cable, CablePlug};
+use pd_objects::Supply;
+use pd_packet::Damage;
+use pd_plan::Settings;
+use pd_scenario::{
+    Name, NamedCable, NamedSink, ScenarioEvent, ScenarioEventKind, ScenarioHappening,
+};
+use pd_sink::{Demand, SinkMode, SinkRevision, SinkSettings};
+
+fn event_kind_of(kind: &EditKind) -> ScenarioEventKind
+    requires { kind_in_range kind.now ≡ true }
+    ensures { result ≡ event_kind_of kind.now }
+{
+    match kind {
+        EditKind::Attach { cable, sink } => ScenarioEventKind::Attach {
+            cable: cable.copy(),
+            sink: sink.copy(),
+        },
+        EditKind::Detach => ScenarioEventKind::Detach,
+        EditKind::Demand { mw } => ScenarioEventKind::Demand(Demand::new(*mw as u32)),
+        EditKind::Lose => ScenarioEventKind::Lose,
+        EditKind::Damage { place, mask } => {
+            ScenarioEventKind::Damage(Damage::new(*place as u8, *mask as u8))
+        }
+        EditKind::GetSource => ScenarioEventKind::GetSource,
+        EditKind::GetSink => ScenarioEventKind::GetSink,
+    }
+}
+
+fn event_happening_of(ports: usize, happening: &EditHappening) -> ScenarioHappening
+    requires few { ports ≤ 8 }
+    requires in_range { happening_in_range happening.now ≡ true }
+    requires on_port { happens_on_port ports happening.now ≡ true }
+    ensures { result ≡ event_happening_of happening.now }
+{
+    match happening {
+        EditHappening::OnPort { port, kind } => ScenarioHappening::OnPort {
+            port: *port as u32,
+            kind: event_kind_of(kind),
+        },
+        EditHappening::Budget { mw } => ScenarioHappening::Budget { mw: *mw as u32 },
+    }
+}
+
+/// The event that is inserted into a scenario of so many ports.
+pub(crate) fn inserted_event(
+    ports: usize,
+    id: u64,
+    at: u64,
+    happening: &EditHappening,
+) -> ScenarioEvent
+    requires few { ports ≤ 8 }
+    requires is_id { allows quantity.EventId id ≡ true }
+    requires is_time { allows quantity.Time at ≡ true }
+    requires in_range { happening_in_range happening.now ≡ true }
+    requires on_port { happens_on_port ports happening.now ≡ true }
+    ensures { result ≡ inserted_event id at happening.now }
+{
+    ScenarioEvent {
+        id: id as u32,
+        at: at as u32,
+        happening: event_happening_of(ports, happening),
+    }
+}
+
+/// An event, of another kind where it has the id.
+pub(crate) fn changed_event(id: u64, kind: &EditKind, event: &ScenarioEvent) -> ScenarioEvent
+    requires { kind_in_range kind.now ≡ true }
+    ensures { result ≡ changed_event id (event_kind_of kind.now) event.now }
+{
+    if u64::from(event.id) != id {
+        return event.copy();
+    }
+    match &event.happening {
+        ScenarioHappening::OnPort { port, .. } => ScenarioEvent {
+            id: event.id,
+            at: event.at,
+            happening: ScenarioHappening::OnPort {
+                port: *port,
+                kind: event_kind_of(kind),
+            },
+        },
+        ScenarioHappening::Budget { .. } => event.copy(),
+    }
+}
+
+/// The cable of a name, a plug and a rating.
+pub(crate) fn written_cable(name: &Name, plug: CablePlug, rating: u64) -> NamedCable
+    requires { is_some (rating_of rating) ≡ true }
+    ensures { result ≡ written_cable name.now plug rating }
+{
+    NamedCable {
+        name: name.copy(),
+        cable: Cable {
+            plug,
+            rating: rating_of(rating).unwrap(),
+        },
+    }
+}
+
+/// The sink of a name, a greatest voltage in mV, a demand in mW, a mode and a revision.
+pub(crate) fn written_sink(
+    name: &Name,
+    max_mv: u64,
+    demand_mw: u64,
+    mode: SinkMode,
+    revision: SinkRevision,
+) -> NamedSink
+    requires max { allows quantity.Voltage max_mv ≡ true }
+    requires demand { allows quantity.Demand demand_mw ≡ true }
+    ensures value { result ≡ written_sink name.now max_mv demand_mw mode revision }
+    ensures is_sink { IsSink (record { max_mv = max_mv; demand_mw = demand_mw; mode = mode; revision = revision }) }
+{
+    NamedSink {
+        name: name.copy(),
+        sink: SinkSettings::new(max_mv as u32, demand_mw as u32, mode, revision),
+    }
+}
+
+fn port_with_floor(settings: &Settings, mw: u32) -> Settings
+    requires least { 500 ≤ mw }
+    requires most { mw ≤ 100000 }
+    ensures { result ≡ with_floor mw settings.now }
+{
+    let mut supplies = ArrayVec::<Supply, 7>::new();
+    supplies.try_extend_from_slice(settings.supplies()).unwrap();
+    Settings::new(
+        mw,
+        supplies,
+        settings.identity_tries(),
+        settings.unconstrained(),
+    )
+}
+
+/// The settings of a port of this number, with another floor where it is the one that is meant.
+pub(crate) fn with_floor_at(number: u64, port: u64, settings: &Settings, mw: u32) -> Settings
+    requires least { 500 ≤ mw }
+    requires most { mw ≤ 100000 }
+    ensures { result ≡ (if number == port then with_floor mw settings.now else settings.now) }
+{
+    if number == port {
+        port_with_floor(settings, mw)
+    } else {
+        settings.copy()
+    }
+}
+
+fn port_with_supplies(settings: &Settings, supplies: &ArrayVec<Supply, 7>) -> Settings
+    requires { AreSupplies supplies.now.items }
+    ensures { result ≡ record settings.now { supplies = supplies.now.items } }
+{
+    let mut copies = ArrayVec::<Supply, 7>::new();
+    copies.try_extend_from_slice(supplies.as_slice()).unwrap();
+    Settings::new(
+        settings.floor_mw(),
+        copies,
+        settings.identity_tries(),
+        settings.unconstrained(),
+    )
+}
+
+/// The settings of a port of this number, with other supplies where it is the one that is meant.
+pub(crate) fn with_supplies_at(
+    number: u64,
+    port: u64,
+    settings: &Settings,
+    supplies: &ArrayVec<Supply, 7>,
+) -> Settings
+    requires { AreSupplies supplies.now.items }
+    ensures { result ≡ (if number == port then record settings.now { supplies = supplies.now.items } else settings.now) }
+{
+    if number == port {
+        port_with_supplies(settings, supplies)
+    } else {
+        settings.copy()
+    }
+}
+
+/// The supplies that were written.
+pub(crate) fn supplies_of(written: &ArrayVec<WrittenSupply, 7>) -> ArrayVec<Supply, 7>
+    requires { list_all supply_in_range written.now.items ≡ true }
+    ensures { result.items ≡ map supply_of written.now.items }
+{
+    let mut supplies = ArrayVec::<Supply, 7>::new();
+    for supply in written.as_slice() {
+        supplies.push(Supply::new(supply.mv as u32, supply.ma as u32));
+    }
+    supplies
+}

@@ -1,0 +1,4 @@
+pub mod FirstNumber
+pub mod FirstWord
+pub mod Lines
+pub mod Supplies

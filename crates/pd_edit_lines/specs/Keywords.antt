@@ -1,0 +1,76 @@
+-- The words that a command, a kind of event, what is shown, a plug, a mode and a revision are written by.
+use Rattle.std.specs.Prelude.{ℕ, List, codes, Option, Some, None, bytes_eq, if◌then◌else◌}
+use Rattle.pd_identity.specs.declared.CablePlug.{CablePlug}
+use Rattle.pd_identity.specs.declared.CablePlug.TheVariants.{Absent, Ack, Nak, Busy, Silent}
+use Rattle.pd_sink.specs.declared.settings.SinkMode.{SinkMode}
+use Rattle.pd_sink.specs.declared.settings.SinkMode.TheVariants.{PowerDelivery, Plain, Greedy}
+use Rattle.pd_sink.specs.declared.settings.SinkRevision.{SinkRevision}
+use Rattle.pd_sink.specs.declared.settings.SinkRevision.TheVariants.{Revision2, Revision3}
+use Rattle.pd_edit_lines.specs.declared.keywords.Command.{Command}
+use Rattle.pd_edit_lines.specs.declared.keywords.Command.TheVariants as command
+use Rattle.pd_edit_lines.specs.declared.keywords.KindWord.{KindWord}
+use Rattle.pd_edit_lines.specs.declared.keywords.KindWord.TheVariants as kind
+use Rattle.pd_edit_lines.specs.declared.keywords.ShowWord.{ShowWord}
+use Rattle.pd_edit_lines.specs.declared.keywords.ShowWord.TheVariants as shown
+
+-- the word that a command begins with
+abbrev pub command_word : List ℕ → Option Command
+command_word word =
+    if bytes_eq word (codes "insert") then Some command.Insert
+    else if bytes_eq word (codes "remove") then Some command.Remove
+    else if bytes_eq word (codes "move") then Some command.Move
+    else if bytes_eq word (codes "change") then Some command.Change
+    else if bytes_eq word (codes "cable") then Some command.Cable
+    else if bytes_eq word (codes "sink") then Some command.Sink
+    else if bytes_eq word (codes "caps") then Some command.Caps
+    else if bytes_eq word (codes "floor") then Some command.Floor
+    else if bytes_eq word (codes "budget") then Some command.Budget
+    else if bytes_eq word (codes "end") then Some command.End
+    else if bytes_eq word (codes "show") then Some command.Show
+    else None
+
+-- the word that a kind of event begins with
+abbrev pub kind_word : List ℕ → Option KindWord
+kind_word word =
+    if bytes_eq word (codes "attach") then Some kind.Attach
+    else if bytes_eq word (codes "detach") then Some kind.Detach
+    else if bytes_eq word (codes "demand") then Some kind.Demand
+    else if bytes_eq word (codes "lose") then Some kind.Lose
+    else if bytes_eq word (codes "damage") then Some kind.Damage
+    else if bytes_eq word (codes "get_source") then Some kind.GetSource
+    else if bytes_eq word (codes "get_sink") then Some kind.GetSink
+    else None
+
+-- the word that what is to be shown begins with
+abbrev pub show_word : List ℕ → Option ShowWord
+show_word word =
+    if bytes_eq word (codes "transcript") then Some shown.Transcript
+    else if bytes_eq word (codes "contracts") then Some shown.Contracts
+    else if bytes_eq word (codes "faults") then Some shown.Faults
+    else if bytes_eq word (codes "margins") then Some shown.Margins
+    else None
+
+-- the plug of a cable
+abbrev pub plug_word : List ℕ → Option CablePlug
+plug_word word =
+    if bytes_eq word (codes "none") then Some Absent
+    else if bytes_eq word (codes "ack") then Some Ack
+    else if bytes_eq word (codes "nak") then Some Nak
+    else if bytes_eq word (codes "busy") then Some Busy
+    else if bytes_eq word (codes "silent") then Some Silent
+    else None
+
+-- the mode of a sink
+abbrev pub mode_word : List ℕ → Option SinkMode
+mode_word word =
+    if bytes_eq word (codes "pd") then Some PowerDelivery
+    else if bytes_eq word (codes "plain") then Some Plain
+    else if bytes_eq word (codes "greedy") then Some Greedy
+    else None
+
+-- the revision of a sink
+abbrev pub revision_word : List ℕ → Option SinkRevision
+revision_word word =
+    if bytes_eq word (codes "rev2") then Some Revision2
+    else if bytes_eq word (codes "rev3") then Some Revision3
+    else None

@@ -1,0 +1,4 @@
+pub mod Grammar
+pub mod Keywords
+pub mod Numbers
+pub mod Words

@@ -1,0 +1,119 @@
+//! The lines that are about an event.
+
+ghost use Rattle.std.specs.Prelude.{◌≡◌};
+ghost use Rattle.pd_edit_lines.specs.Words.{words};
+ghost use Rattle.pd_edit_lines.specs.Grammar.{attach_of, kind_from, kind_of, on_port_of, happening_of, insert_of, change_of, one_number, two_numbers};
+ghost use Rattle.pd_edit_lines.specs.declared.edit.EditKind.TheVariants as kinds;
+ghost use Rattle.pd_edit_lines.specs.declared.edit.EditHappening.TheVariants as happenings;
+ghost use Rattle.pd_edit_lines.specs.declared.edit.Edit.TheVariants as edits;
+
+use crate::keywords::{KindWord, kind_word};
+use crate::words::{end_of, name_at, next, number, number_at};
+use crate::{Edit, EditHappening, EditKind};
+
+fn attach_of(line: &[u8]) -> Option<EditKind>
+    ensures { result ≡ attach_of (words line.now) }
+{
+    let (cable, line) = name_at(line)?;
+    let (sink, line) = name_at(line)?;
+    end_of(line)?;
+    Some(EditKind::Attach { cable, sink })
+}
+
+fn demand_of(line: &[u8]) -> Option<EditKind>
+    ensures { result ≡ one_number kinds.Demand (words line.now) }
+{
+    let (mw, line) = number_at(line)?;
+    end_of(line)?;
+    Some(EditKind::Demand { mw })
+}
+
+fn damage_of(line: &[u8]) -> Option<EditKind>
+    ensures { result ≡ two_numbers kinds.Damage (words line.now) }
+{
+    let (place, line) = number_at(line)?;
+    let (mask, line) = number_at(line)?;
+    end_of(line)?;
+    Some(EditKind::Damage { place, mask })
+}
+
+fn kind_from(word: KindWord, line: &[u8]) -> Option<EditKind>
+    ensures { result ≡ kind_from word (words line.now) }
+{
+    match word {
+        KindWord::Attach => attach_of(line),
+        KindWord::Detach => end_of(line).map(|_| EditKind::Detach),
+        KindWord::Demand => demand_of(line),
+        KindWord::Lose => end_of(line).map(|_| EditKind::Lose),
+        KindWord::Damage => damage_of(line),
+        KindWord::GetSource => end_of(line).map(|_| EditKind::GetSource),
+        KindWord::GetSink => end_of(line).map(|_| EditKind::GetSink),
+    }
+}
+
+fn kind_of(line: &[u8]) -> Option<EditKind>
+    ensures { result ≡ kind_of (words line.now) }
+{
+    let (word, line) = next(line)?;
+    kind_from(kind_word(word)?, line)
+}
+
+fn on_port_of(port: &[u8], line: &[u8]) -> Option<EditHappening>
+    ensures { result ≡ on_port_of port.now (words line.now) }
+{
+    let port = number(port)?;
+    let kind = kind_of(line)?;
+    Some(EditHappening::OnPort { port, kind })
+}
+
+fn budget_change_of(line: &[u8]) -> Option<EditHappening>
+    ensures { result ≡ one_number happenings.Budget (words line.now) }
+{
+    let (mw, line) = number_at(line)?;
+    end_of(line)?;
+    Some(EditHappening::Budget { mw })
+}
+
+fn happening_of(line: &[u8]) -> Option<EditHappening>
+    ensures { result ≡ happening_of (words line.now) }
+{
+    let (word, line) = next(line)?;
+    if word == b"budget".as_slice() {
+        return budget_change_of(line);
+    }
+    on_port_of(word, line)
+}
+
+pub(crate) fn insert_of(line: &[u8]) -> Option<Edit>
+    ensures { result ≡ insert_of (words line.now) }
+{
+    let (id, line) = number_at(line)?;
+    let (at, line) = number_at(line)?;
+    let happening = happening_of(line)?;
+    Some(Edit::Insert { id, at, happening })
+}
+
+pub(crate) fn remove_of(line: &[u8]) -> Option<Edit>
+    ensures { result ≡ one_number edits.Remove (words line.now) }
+{
+    let (id, line) = number_at(line)?;
+    end_of(line)?;
+    Some(Edit::Remove { id })
+}
+
+pub(crate) fn move_of(line: &[u8]) -> Option<Edit>
+    ensures { result ≡ two_numbers edits.Move (words line.now) }
+{
+    let (id, line) = number_at(line)?;
+    let (at, line) = number_at(line)?;
+    end_of(line)?;
+    Some(Edit::Move { id, at })
+}
+
+pub(crate) fn change_of(line: &[u8]) -> Option<Edit>
+    ensures { result ≡ change_of (words line.now) }
+{
+    let (id, line) = number_at(line)?;
+    let kind = kind_of(line)?;
+    Some(Edit::Change { id, kind })
+}

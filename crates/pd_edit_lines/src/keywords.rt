@@ -1,0 +1,179 @@
+//! The words that a command, a kind of event, what is shown, a plug, a mode and a revision are written by.
+
+ghost use Rattle.std.specs.Prelude.{◌≡◌};
+ghost use Rattle.pd_edit_lines.specs.Keywords.{command_word, kind_word, show_word, plug_word, mode_word, revision_word};
+
+use pd_identity::CablePlug;
+use pd_sink::{SinkMode, SinkRevision};
+
+/// The word that a command begins with.
+#[derive(Clone, Copy)]
+pub(crate) enum Command {
+    Insert,
+    Remove,
+    Move,
+    Change,
+    Cable,
+    Sink,
+    Caps,
+    Floor,
+    Budget,
+    End,
+    Show,
+}
+
+/// The word that a kind of event begins with.
+#[derive(Clone, Copy)]
+pub(crate) enum KindWord {
+    Attach,
+    Detach,
+    Demand,
+    Lose,
+    Damage,
+    GetSource,
+    GetSink,
+}
+
+/// The word that what is to be shown begins with.
+#[derive(Clone, Copy)]
+pub(crate) enum ShowWord {
+    Transcript,
+    Contracts,
+    Faults,
+    Margins,
+}
+
+pub(crate) fn command_word(word: &[u8]) -> Option<Command>
+    ensures { result ≡ command_word word.now }
+{
+    if word == b"insert".as_slice() {
+        return Some(Command::Insert);
+    }
+    if word == b"remove".as_slice() {
+        return Some(Command::Remove);
+    }
+    if word == b"move".as_slice() {
+        return Some(Command::Move);
+    }
+    if word == b"change".as_slice() {
+        return Some(Command::Change);
+    }
+    if word == b"cable".as_slice() {
+        return Some(Command::Cable);
+    }
+    if word == b"sink".as_slice() {
+        return Some(Command::Sink);
+    }
+    if word == b"caps".as_slice() {
+        return Some(Command::Caps);
+    }
+    if word == b"floor".as_slice() {
+        return Some(Command::Floor);
+    }
+    if word == b"budget".as_slice() {
+        return Some(Command::Budget);
+    }
+    if word == b"end".as_slice() {
+        return Some(Command::End);
+    }
+    if word == b"show".as_slice() {
+        return Some(Command::Show);
+    }
+    None
+}
+
+pub(crate) fn kind_word(word: &[u8]) -> Option<KindWord>
+    ensures { result ≡ kind_word word.now }
+{
+    if word == b"attach".as_slice() {
+        return Some(KindWord::Attach);
+    }
+    if word == b"detach".as_slice() {
+        return Some(KindWord::Detach);
+    }
+    if word == b"demand".as_slice() {
+        return Some(KindWord::Demand);
+    }
+    if word == b"lose".as_slice() {
+        return Some(KindWord::Lose);
+    }
+    if word == b"damage".as_slice() {
+        return Some(KindWord::Damage);
+    }
+    if word == b"get_source".as_slice() {
+        return Some(KindWord::GetSource);
+    }
+    if word == b"get_sink".as_slice() {
+        return Some(KindWord::GetSink);
+    }
+    None
+}
+
+pub(crate) fn show_word(word: &[u8]) -> Option<ShowWord>
+    ensures { result ≡ show_word word.now }
+{
+    if word == b"transcript".as_slice() {
+        return Some(ShowWord::Transcript);
+    }
+    if word == b"contracts".as_slice() {
+        return Some(ShowWord::Contracts);
+    }
+    if word == b"faults".as_slice() {
+        return Some(ShowWord::Faults);
+    }
+    if word == b"margins".as_slice() {
+        return Some(ShowWord::Margins);
+    }
+    None
+}
+
+/// The plug of a cable that a word stands for.
+pub(crate) fn plug_word(word: &[u8]) -> Option<CablePlug>
+    ensures { result ≡ plug_word word.now }
+{
+    if word == b"none".as_slice() {
+        return Some(CablePlug::Absent);
+    }
+    if word == b"ack".as_slice() {
+        return Some(CablePlug::Ack);
+    }
+    if word == b"nak".as_slice() {
+        return Some(CablePlug::Nak);
+    }
+    if word == b"busy".as_slice() {
+        return Some(CablePlug::Busy);
+    }
+    if word == b"silent".as_slice() {
+        return Some(CablePlug::Silent);
+    }
+    None
+}
+
+/// The mode of a sink that a word stands for.
+pub(crate) fn mode_word(word: &[u8]) -> Option<SinkMode>
+    ensures { result ≡ mode_word word.now }
+{
+    if word == b"pd".as_slice() {
+        return Some(SinkMode::PowerDelivery);
+    }
+    if word == b"plain".as_slice() {
+        return Some(SinkMode::Plain);
+    }
+    if word == b"greedy".as_slice() {
+        return Some(SinkMode::Greedy);
+    }
+    None
+}
+
+/// The revision of a sink that a word stands for.
+pub(crate) fn revision_word(word: &[u8]) -> Option<SinkRevision>
+    ensures { result ≡ revision_word word.now }
+{
+    if word == b"rev2".as_slice() {
+        return Some(SinkRevision::Revision2);
+    }
+    if word == b"rev3".as_slice() {
+        return Some(SinkRevision::Revision3);
+    }
+    None
+}

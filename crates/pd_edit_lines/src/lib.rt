@@ -1,0 +1,14 @@
+//! The lines of an edit script: what each asks for, and the numbers of the refusals.
+#![tactic(auto)]
+
+mod edit;
+mod event_lines;
+mod fault;
+mod keywords;
+mod line;
+mod setting_lines;
+mod words;
+
+pub use edit::{Edit, EditHappening, EditKind, WrittenSupply};
+pub use fault::EditFault;
+pub use line::{Line, Show, is_offered};

@@ -1,0 +1,221 @@
+use pd_edit::apply;
+use pd_edit_lines::{Edit, EditFault, EditHappening, EditKind, Line};
+use pd_scenario::{Scenario, first};
+use std::alloc::Global;
+use std::test::*;
+
+/// What a line comes to: 0 for an accepted edit, 1 for a skipped line, 2 for a show, else the number of its refusal;
+/// and the scenario afterwards.
+fn answer(alloc: Global, scenario: Scenario<1>, line: &[u8]) -> (Scenario<1>, u8) {
+    match Line::read(line) {
+        Ok(Line::Skip) => (scenario, 1),
+        Ok(Line::Show(_)) => (scenario, 2),
+        Ok(Line::Edit(edit)) => match apply(alloc, &scenario, &edit) {
+            Ok(edited) => (edited, 0),
+            Err(fault) => (scenario, fault.number()),
+        },
+        Err(fault) => (scenario, fault.number()),
+    }
+}
+
+/// Whether two scenarios ask the same of a charger.
+fn same(rt: HostRuntime, scenario: &Scenario<1>, other: &Scenario<1>) -> Result<bool, Fail> {
+    let events = scenario.script(rt.alloc(), 1)?;
+    let others = other.script(rt.alloc(), 1)?;
+    let mut events_same = events.len() == others.len();
+    for (event, other) in events.iter().zip(others.iter()) {
+        events_same = events_same && event.same(other);
+    }
+    Ok(
+        events_same
+            && scenario.settings(1).same(other.settings(1))
+            && scenario.cables().len() == other.cables().len()
+            && scenario.sinks().len() == other.sinks().len()
+            && scenario.budget() == other.budget()
+            && scenario.end_time() == other.end_time(),
+    )
+}
+
+/// Each line on the scenario `first`.
+#[test]
+fn lines_are_answered(rt: HostRuntime) -> Result<(), Fail> {
+    let cases: [(&[u8], u8); 58] = [
+        (b"", 1),
+        (b"    ", 1),
+        (b"# remove 1", 1),
+        (b"show transcript 1", 2),
+        (b"show contracts", 20),
+        (b"insert 2 5 budget 50000", 20),
+        (b"insert 7 0 1 budget 9000", 20),
+        (b"mvoe 1 5", 20),
+        (b" # remove 1", 20),
+        (b"remove\t1", 20),
+        (b"remove 1\r", 20),
+        (b"remove 1 1", 20),
+        (b"remove", 20),
+        (b"remove \xff", 20),
+        (b"change 1 budget 5000", 20),
+        (b"cable thin none", 20),
+        (b"cable thin nonne 3000", 20),
+        (b"cable th-in none 3000", 20),
+        (b"cable thin2345678901234 none 3000", 20),
+        (b"sink phone 5000 15000 fast", 20),
+        (b"sink phone 5000 15000 pd rev4", 20),
+        (b"sink phone 5000 15000 pd rev2 rev2", 20),
+        (b"caps 1", 20),
+        (b"caps 1 5000", 20),
+        (
+            b"caps 1 5000 10 6000 10 7000 10 8000 10 9000 10 10000 10 11000 10 12000 10",
+            20,
+        ),
+        (b"budget 00000050000", 20),
+        (b"end 12345678901", 20),
+        (b"insert 1 0 1 detach", 21),
+        (b"insert 1 999999999 9 attach thin fone", 21),
+        (b"remove 9", 22),
+        (b"remove 0", 22),
+        (b"move 2 999999999", 22),
+        (b"change 0 demand 1", 22),
+        (b"insert 2 0 2 lose", 23),
+        (b"insert 2 0 0 attach thin fone", 23),
+        (b"caps 2 1 1", 23),
+        (b"floor 0 1", 23),
+        (b"insert 2 0 1 attach thin fone", 24),
+        (b"insert 0 0 1 attach thick phone", 24),
+        (b"change 1 attach thick phone", 24),
+        (b"cable thick drop", 24),
+        (b"sink fone drop", 24),
+        (b"cable thin drop", 25),
+        (b"sink phone drop", 25),
+        (b"insert 0 0 1 lose", 26),
+        (b"insert 2 0 1 damage 69 1", 26),
+        (b"insert 2 0 1 damage 0 32", 26),
+        (b"change 1 demand 49", 26),
+        (b"cable thin none 4000", 26),
+        (b"sink phone 5025 15000 pd", 26),
+        (b"caps 1 9000 3005", 26),
+        (b"end 120000001", 26),
+        (b"end 9999999999", 26),
+        (b"caps 1 9000 3000", 27),
+        (b"caps 1 5000 3000 5000 3000", 27),
+        (b"floor 1 60001", 28),
+        (b"budget 2000", 28),
+        (b"budget 0000050000", 0),
+    ];
+    for (line, number) in cases {
+        let scenario = first(rt.alloc())?;
+        let (scenario, answered) = answer(rt.alloc(), scenario, line);
+        assert_eq!(rt; answered, number, "{line:?}");
+        if number != 0 {
+            assert!(rt; same(rt, &scenario, &first(rt.alloc())?)?, "{line:?}");
+        }
+    }
+    Ok(())
+}
+
+/// Each edit is accepted, is seen, and is taken back by the other one.
+#[test]
+fn edits_are_made_and_taken_back(rt: HostRuntime) -> Result<(), Fail> {
+    let pairs: [(&[u8], &[u8]); 13] = [
+        (b"insert 9 1000 1 lose", b"remove 9"),
+        (b"move 1 5", b"move 1 0"),
+        (b"change 1 detach", b"change 1 attach thin phone"),
+        (b"remove 1", b"insert 1 0 1 attach thin phone"),
+        (b"cable spare ack 5000", b"cable spare drop"),
+        (b"sink spare 5000 1000 pd", b"sink spare drop"),
+        (b"cable thin silent 5000", b"cable thin none 3000"),
+        (
+            b"sink phone 5000 15000 pd rev2",
+            b"  sink  phone 5000 15000 pd  ",
+        ),
+        (b"caps 1 5000 1000", b"caps 1 5000 3000"),
+        (b"floor 1 60000", b"floor 1 2500"),
+        (b"budget 50000", b"budget 60000"),
+        (b"end 1", b"end 52000"),
+        (
+            b"insert 1000000 120000000 1 damage 68 31",
+            b"remove 1000000",
+        ),
+    ];
+    let mut scenario = first(rt.alloc())?;
+    for (there, back) in pairs {
+        let (edited, number) = answer(rt.alloc(), scenario, there);
+        assert_eq!(rt; number, 0, "{there:?}");
+        assert!(rt; !same(rt, &edited, &first(rt.alloc())?)?, "{there:?}");
+        let (edited, number) = answer(rt.alloc(), edited, back);
+        assert_eq!(rt; number, 0, "{back:?}");
+        assert!(rt; same(rt, &edited, &first(rt.alloc())?)?, "{back:?}");
+        scenario = edited;
+    }
+    Ok(())
+}
+
+/// A line of 256 bytes is read, and one of 257 isn't.
+#[test]
+fn long_lines(rt: HostRuntime) -> Result<(), Fail> {
+    let mut line = [b' '; 257];
+    line[..6].copy_from_slice(b"budget");
+    line[251..256].copy_from_slice(b"50000");
+    let (scenario, number) = answer(rt.alloc(), first(rt.alloc())?, &line[..256]);
+    assert_eq!(rt; number, 0);
+    assert_eq!(rt; scenario.budget(), 50_000_000);
+    let (_scenario, number) = answer(rt.alloc(), first(rt.alloc())?, &line);
+    assert_eq!(rt; number, 20);
+    let (_scenario, number) = answer(rt.alloc(), first(rt.alloc())?, &[b' '; 300]);
+    assert_eq!(rt; number, 1);
+    Ok(())
+}
+
+/// A 65th cable is one too many.
+#[test]
+fn too_many_cables(rt: HostRuntime) -> Result<(), Fail> {
+    let mut scenario = first(rt.alloc())?;
+    for number in 0..64u8 {
+        let mut line = *b"cable c00 ack 5000";
+        line[7] = b'0' + number / 10;
+        line[8] = b'0' + number % 10;
+        let (edited, answered) = answer(rt.alloc(), scenario, &line);
+        let expected = if number < 63 { 0 } else { 29 };
+        assert_eq!(rt; answered, expected, "at {number}");
+        scenario = edited;
+    }
+    let (scenario, answered) = answer(rt.alloc(), scenario, b"cable c00 nak 3000");
+    assert_eq!(rt; answered, 0);
+    assert_eq!(rt; scenario.cables().len(), 64);
+    Ok(())
+}
+
+/// An event that changes the budget.
+fn budget_at(id: u64, at: u64, mw: u64) -> Edit {
+    let happening = EditHappening::Budget { mw };
+    Edit::Insert { id, at, happening }
+}
+
+/// Timed changes of the budget, which no line makes yet.
+#[test]
+fn timed_budgets(rt: HostRuntime) -> Result<(), Fail> {
+    let scenario = first(rt.alloc())?;
+    let scenario = apply(rt.alloc(), &scenario, &budget_at(4, 500_000, 25_000))?;
+    let scenario = apply(rt.alloc(), &scenario, &budget_at(5, 600_000, 50_000))?;
+    let refused = apply(rt.alloc(), &scenario, &budget_at(6, 700_000, 2_499)).err();
+    assert_eq!(rt; refused, Some(EditFault::Floors));
+    let refused = apply(rt.alloc(), &scenario, &budget_at(6, 700_000, 499)).err();
+    assert_eq!(rt; refused, Some(EditFault::Range));
+    let refused = apply(rt.alloc(), &scenario, &budget_at(4, 0, 9_000)).err();
+    assert_eq!(rt; refused, Some(EditFault::IdTaken));
+    let change = Edit::Change {
+        id: 4,
+        kind: EditKind::Detach,
+    };
+    let refused = apply(rt.alloc(), &scenario, &change).err();
+    assert_eq!(rt; refused, Some(EditFault::NoSuchPort));
+    let (scenario, number) = answer(rt.alloc(), scenario, b"floor 1 25001");
+    assert_eq!(rt; number, 28);
+    let (scenario, number) = answer(rt.alloc(), scenario, b"floor 1 25000");
+    assert_eq!(rt; number, 0);
+    let (scenario, number) = answer(rt.alloc(), scenario, b"move 4 120000000");
+    assert_eq!(rt; number, 0);
+    assert_eq!(rt; scenario.force(600_000), 50_000_000);
+    assert_eq!(rt; scenario.force(120_000_000), 25_000_000);
+    Ok(())
+}
