@@ -40,7 +40,7 @@ pub record LeavesLine (w v : Work) : Type 0 where
   pub line : v.port.line ≡ w.port.line
   pub start : v.start ≡ w.start
 
-layer_line : (c : Channel) (l : LayerRecord) (w : Work) → LeavesLine w (with_layer Source c l w)
+pub layer_line : (c : Channel) (l : LayerRecord) (w : Work) → LeavesLine w (with_layer Source c l w)
 layer_line Sop l w = record { line = refl; start = refl }
 layer_line SopPrime l w = record { line = refl; start = refl }
 

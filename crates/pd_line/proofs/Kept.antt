@@ -338,11 +338,11 @@ module _ (t : ℕ) (k : Kept t) where
   taken_kept g w h =
       k.reads (List Disturbance) (λ z. z.port.disturbances.items) (λ row z. g (taken_from row z).1 (taken_from row z).0) w refl
       (by_row w.port.disturbances.items w) where
-      by_row : (row : List Disturbance) (w : Work) → k.holds w (λ z. g (taken_from row z).1 (taken_from row z).0)
-      by_row [] w = h Undisturbed w
-      by_row (d ∷ rest) w =
-          let f : Work → Work = λ z. with_port (record z.port { disturbances = record { items = rest } }) z in
-          k.joins f (g (fate_of d)) w (k.leaves f w refl refl) (h (fate_of d) (f w))
+        by_row : (row : List Disturbance) (w : Work) → k.holds w (λ z. g (taken_from row z).1 (taken_from row z).0)
+        by_row [] w = h Undisturbed w
+        by_row (d ∷ rest) w =
+            let f : Work → Work = λ z. with_port (record z.port { disturbances = record { items = rest } }) z in
+            k.joins f (g (fate_of d)) w (k.leaves f w refl refl) (h (fate_of d) (f w))
 
   -- something that lasts starts on the line
   lasting : k.lines → k.starts → (s : Start) (line : Line) (n : ℕ) → line_end line ≡ Some (t + n) → 0 < n → (w : Work) →

@@ -72,7 +72,7 @@ pub stays : (t : ℕ) (w : Work) → LeadsOn t w w
 stays t w = record { settings_are = refl; later = later_kept t (times w.port) }
 
 -- what was done leaves the source and the times
-leaves : (t : ℕ) (w v : Work) → watched v ≡ watched w → LeadsOn t w v
+pub leaves : (t : ℕ) (w v : Work) → watched v ≡ watched w → LeadsOn t w v
 leaves t w v e =
     record {
       settings_are = ap (λ (x : Watched). x.source.settings) e;
@@ -95,7 +95,7 @@ sink_leads t x w =
       later = record { source = sets_kept t _; sink = sink_later t x w.port.sink; plug = sets_kept t _; line = line_kept t _ };
     }
 
-sink_now : (t : ℕ) (x : SinkStimulus) (w : Work) → EndsNoneOfSink x w.port.sink → LeadsOn t w (sink_after t x w)
+pub sink_now : (t : ℕ) (x : SinkStimulus) (w : Work) → EndsNoneOfSink x w.port.sink → LeadsOn t w (sink_after t x w)
 sink_now t x w e =
     subst (λ (d : List (Option ℕ)). Leads t w.port.source.settings (record (times w.port) { sink = d }) (sink_after t x w)) e (sink_leads t x w)
 
@@ -110,20 +110,20 @@ plug_leads t x w =
       later = record { source = sets_kept t _; sink = sets_kept t _; plug = plug_later t x w.port.plug; line = line_kept t _ };
     }
 
-plug_now : (t : ℕ) (x : PlugStimulus) (w : Work) → EndsNoneOfPlug x w.port.plug → LeadsOn t w (plug_after t x w)
+pub plug_now : (t : ℕ) (x : PlugStimulus) (w : Work) → EndsNoneOfPlug x w.port.plug → LeadsOn t w (plug_after t x w)
 plug_now t x w e =
     subst (λ (d : List (Option ℕ)). Leads t w.port.source.settings (record (times w.port) { plug = d }) (plug_after t x w)) e (plug_leads t x w)
 
-layer_leads : (t : ℕ) (c : Channel) (l : LayerRecord) (w : Work) → LeadsOn t w (with_layer Source c l w)
+pub layer_leads : (t : ℕ) (c : Channel) (l : LayerRecord) (w : Work) → LeadsOn t w (with_layer Source c l w)
 layer_leads t Sop l w = record { settings_are = refl; later = later_kept t (times w.port) }
 layer_leads t SopPrime l w = record { settings_are = refl; later = later_kept t (times w.port) }
 
-line_leads : (t : ℕ) (line : Line) (w : Work) → KeptOrLater t (line_end w.port.line) (line_end line) → LeadsOn t w (with_line line w)
+pub line_leads : (t : ℕ) (line : Line) (w : Work) → KeptOrLater t (line_end w.port.line) (line_end line) → LeadsOn t w (with_line line w)
 unfolding with_line
 line_leads t line w h =
     record { settings_are = refl; later = record { source = sets_kept t _; sink = sets_kept t _; plug = sets_kept t _; line = h } }
 
-start_leads : (t : ℕ) (s : Start) (w : Work) → LeadsOn t w (started s w)
+pub start_leads : (t : ℕ) (s : Start) (w : Work) → LeadsOn t w (started s w)
 unfolding started
 start_leads t s w = record { settings_are = refl; later = later_kept t (times w.port) }
 
@@ -168,7 +168,7 @@ source_steps_lead t x w =
     let acts = source.acts_of s.settings t x w.answer s.record in
     joins t s.settings (source_before x w.port) v (source_acts t acts v) h (source_acts_kept t (leading_besides t) tt acts v)
 
-source_now : (t : ℕ) (x : SourceStimulus) (w : Work) → EndsNoneOfSource x w.port.source.record → LeadsOn t w (source_steps t x w)
+pub source_now : (t : ℕ) (x : SourceStimulus) (w : Work) → EndsNoneOfSource x w.port.source.record → LeadsOn t w (source_steps t x w)
 source_now t x w e =
     subst (λ (d : List (Option ℕ)). Leads t w.port.source.settings (record (times w.port) { source = d }) (source_steps t x w)) e (source_steps_lead t x w)
 

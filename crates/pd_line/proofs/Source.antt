@@ -62,7 +62,7 @@ on_layer_spares A Source SopPrime call w = record { source = refl; answer = refl
 on_layer_spares A Sink channel call w = record { source = refl; answer = refl; blind = refl }
 on_layer_spares A Plug channel call w = record { source = refl; answer = refl; blind = refl }
 
-layer_spares : (c : Channel) (l : LayerRecord) (w : Work) → Spares w (with_layer Source c l w) (with_layer Source c l (unanswered w))
+pub layer_spares : (c : Channel) (l : LayerRecord) (w : Work) → Spares w (with_layer Source c l w) (with_layer Source c l (unanswered w))
 layer_spares Sop l w = spares w _ refl refl
 layer_spares SopPrime l w = spares w _ refl refl
 
@@ -70,7 +70,7 @@ pub line_spares : (line : Line) (w : Work) → Spares w (with_line line w) (with
 unfolding with_line
 line_spares line w = spares w _ refl refl
 
-start_spares : (s : Start) (w : Work) → Spares w (started s w) (started s (unanswered w))
+pub start_spares : (s : Start) (w : Work) → Spares w (started s w) (started s (unanswered w))
 unfolding started
 start_spares s w = spares w _ refl refl
 

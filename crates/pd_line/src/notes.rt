@@ -45,7 +45,9 @@ pub enum Start {
         fate: Fate,
     },
     /// A side's Hard Reset.
-    HardReset { side: Side },
+    HardReset {
+        side: Side,
+    },
 }
 
 impl Start {
