@@ -1,3 +1,4 @@
 pub mod Powers
 pub mod Later
 pub mod Objects
+pub mod RowTaken

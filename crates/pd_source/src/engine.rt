@@ -10,7 +10,6 @@ ghost use Rattle.pd_source.specs.Step.{before_row, stepped, acts_of, hears_in, i
 use crate::kinds::{Deed, Message};
 use crate::offer::{capabilities, copied, greatest_power};
 use crate::request::{contract_of, power_of, revision_of};
-use crate::rows::{choose, heard_of};
 use crate::{Act, Revision, Sending, State, Stimulus};
 use arrayvec::ArrayVec;
 use pd_identity::limit_ma;
@@ -199,7 +198,7 @@ impl Source {
         ensures few { length result.items ≤ 6 }
     {
         self.arrive(stimulus);
-        let plan = choose(self.state, heard_of(stimulus), self.facts(&answer));
+        let plan = self.plan(self.sent, stimulus, &answer);
         self.run(plan.deeds, now, stimulus, &answer)
     }
 

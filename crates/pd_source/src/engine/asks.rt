@@ -1,8 +1,8 @@
 //! What the engine asks of the shared budget, and what the guards of the rows ask of the engine.
 
-ghost use Rattle.std.specs.Prelude.{◌≡◌};
+ghost use Rattle.std.specs.Prelude.{◌≡◌, ◌≤◌, length};
 ghost use Rattle.pd_source.specs.Facts.{facts_of};
-ghost use Rattle.pd_source.specs.Table.{is_request_valid, differs_from};
+ghost use Rattle.pd_source.specs.Table.{is_request_valid, differs_from, asks_offer};
 ghost use Rattle.pd_source.specs.Acts as acts;
 ghost use Rattle.pd_source.specs.Step as step;
 
@@ -10,7 +10,7 @@ use super::{CABLE_CURRENT_MA, Source, limit_from};
 use crate::kinds::{Deed, Facts, Heard};
 use crate::offer::copied;
 use crate::request::is_valid;
-use crate::rows::{choose, heard_of};
+use crate::rows::{Plan, choose, heard_of};
 use crate::{State, Stimulus};
 use pd_objects::{Answer, Query};
 use pd_timers::Timer;
@@ -63,11 +63,7 @@ impl Source {
     fn row_query(&self, stimulus: &Stimulus) -> Option<Query>
         ensures { result ≡ step.row_query self.now.settings stimulus.now (step.before_row stimulus.now self.now.record) }
     {
-        let facts = Facts {
-            was_sent: self.sent || matches!(stimulus, Stimulus::Sent(_)),
-            ..self.facts(&None)
-        };
-        let plan = choose(self.state, heard_of(stimulus), facts);
+        let plan = self.plan(self.sent_before(stimulus), stimulus, &None);
         if plan.asks_offer {
             Some(self.offer_query(limit_after(plan.deeds, stimulus, self.limit)))
         } else {
@@ -75,14 +71,33 @@ impl Source {
         }
     }
 
-    /// What the guards of the rows ask.
-    pub(super) fn facts(&self, answer: &Option<Answer>) -> Facts
-        ensures { result ≡ facts_of self.now.settings answer.now self.now.record }
+    /// The mark whether the message of this state was sent, before the row is taken.
+    fn sent_before(&self, stimulus: &Stimulus) -> bool
+        ensures { result ≡ (step.before_row stimulus.now self.now.record).sent }
+    {
+        match stimulus {
+            Stimulus::Sent(_) => true,
+            _ => self.sent,
+        }
+    }
+
+    /// The first row that fits where the mark is as told, as a plan.
+    pub(super) fn plan(&self, sent: bool, stimulus: &Stimulus, answer: &Option<Answer>) -> Plan
+        ensures deeds { result.deeds.now ≡ step.deeds_at self.now.settings stimulus.now answer.now (record self.now.record { sent = sent }) }
+        ensures asks { result.asks_offer ≡ asks_offer (step.row_at self.now.settings stimulus.now answer.now (record self.now.record { sent = sent })).next }
+        ensures few { length result.deeds.now ≤ 6 }
+    {
+        choose(self.state, heard_of(stimulus), self.facts(sent, answer))
+    }
+
+    /// What the guards of the rows ask, where the mark is as told.
+    fn facts(&self, sent: bool, answer: &Option<Answer>) -> Facts
+        ensures { result ≡ facts_of self.now.settings answer.now (record self.now.record { sent = sent }) }
     {
         Facts {
             limit_known: self.limit.is_some(),
             tries_left: self.discover_identity_counter < self.identity_tries,
-            was_sent: self.sent,
+            was_sent: sent,
             has_contract: self.contract.is_some(),
             caps_left: self.caps_counter <= N_CAPS_COUNT,
             request_invalid: !self.is_request_valid(),
