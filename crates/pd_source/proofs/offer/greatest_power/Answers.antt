@@ -1,6 +1,6 @@
 use Rattle.std.proofs.Common.{inl, inr}
 use Rattle.pd_source.proofs.Powers.{powers-ended}
-use Rattle.pd_source.proofs.engine.greatest_power.Goals as goal
+use Rattle.pd_source.proofs.offer.greatest_power.Goals as goal
 
 pub returns : goal.returns
 returns c =
