@@ -2,9 +2,10 @@
 
 ghost use Rattle.std.specs.Prelude.{◌≡◌, ℕ, ◌-◌, ◌≤◌, ◌<◌, ◌==◌, slice_get, Some, IfOk, is_some};
 ghost use Rattle.pd_scenario.specs.Contents.{Contents, IsValid, cable_named, sink_named, has_id};
-ghost use Rattle.pd_scenario.specs.Plan.{Plan, IsPlan, settings_of, script_of};
-ghost use Rattle.pd_scenario.specs.Plans.{plan_of};
+ghost use Rattle.pd_scenario.specs.Plan.{Plan, IsPlan, settings_of, script_of, force};
+ghost use Rattle.pd_scenario.specs.Plans.{plan_of, changes_of};
 
+use crate::budget::{BudgetChange, change_of, last_change};
 use crate::order::script;
 use crate::{Name, NamedCable, NamedSink, ScenarioEvent};
 use pd_identity::Cable;
@@ -15,7 +16,8 @@ use std::marker::Model;
 
 /// What the ports of a charger are set to, with cables, sinks and events, the budget that the ports share, and the
 /// end. Its type keeps all that a scenario is asked: N ports, 1 to 8; names and ids that differ; at most 64 cables,
-/// 64 sinks and 4,096 events; events in their ranges, with names that are there; floors within the budget.
+/// 64 sinks and 4,096 events; numbers within their limits; events with names that are there; floors that add to no more
+/// than the least of the budget and its changes.
 #[derive(Drop)]
 pub struct Scenario<const N: usize> {
     settings: Vec<Settings>,
@@ -116,6 +118,30 @@ impl<const N: usize> Scenario<N> {
         u64::from(self.budget_mw) * 1_000
     }
 
+    /// The changes of the budget, in the order of their making.
+    ///
+    /// # Errors
+    /// There is no memory.
+    #[tactic(auto, unfolding(crate::specs::Plans::plan_of))]
+    pub fn forces(&self, alloc: Global) -> Result<Vec<BudgetChange>, AllocError>
+        ensures value { IfOk result (λ v. v.items ≡ (plan_of self.now).forces) }
+        ensures is_plan { IsPlan N (plan_of self.now) }
+    {
+        changes_of(alloc, &self.events)
+    }
+
+    /// The budget at a time, in microwatts: that of the last change at or before it, else the scenario's.
+    #[tactic(auto, unfolding(crate::specs::Plans::plan_of, crate::specs::Plan::force))]
+    pub fn force(&self, at: u64) -> u64
+        ensures value { result ≡ force (plan_of self.now) at }
+        ensures is_plan { IsPlan N (plan_of self.now) }
+    {
+        match last_change(&self.events, at) {
+            Some(change) => change.budget,
+            None => self.budget(),
+        }
+    }
+
     /// The end in microseconds.
     #[tactic(auto, unfolding(crate::specs::Plans::plan_of))]
     pub fn end_time(&self) -> u64
@@ -198,6 +224,18 @@ pub(crate) fn sink_named(sinks: &[NamedSink], name: &Name) -> Option<SinkSetting
         .iter()
         .find(|sink| sink.name.as_str() == name.as_str())
         .map(|sink| sink.sink)
+}
+
+fn changes_of(alloc: Global, events: &[ScenarioEvent]) -> Result<Vec<BudgetChange>, AllocError>
+    ensures { IfOk result (λ v. v.items ≡ changes_of events.now) }
+{
+    let mut changes = Vec::new(alloc);
+    for event in events {
+        if let Some(change) = change_of(event) {
+            changes.push(change)?;
+        }
+    }
+    Ok(changes)
 }
 
 fn copy_settings(alloc: Global, settings: &[Settings]) -> Result<Vec<Settings>, AllocError>
