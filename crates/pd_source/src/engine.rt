@@ -180,6 +180,7 @@ impl Source {
         ensures after { self.new ≡ record self.old { «record» = stepped self.old.settings now stimulus.now answer self.old.record } }
         ensures acts { result.items ≡ acts_of self.old.settings now stimulus.now answer self.old.record }
         ensures few { length result.items ≤ 6 }
+        ensures quiet { noise result.items ≤ 2 }
     {
         self.take_row(now, stimulus, answer)
     }

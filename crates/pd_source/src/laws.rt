@@ -1,10 +1,15 @@
 //! Laws of the engine's steps.
 
-ghost use Rattle.pd_source.specs.Laws.{StepsSetLater, ObjectsOfferTheirSupplies};
+ghost use Rattle.pd_source.specs.Laws.{StepsSetLater, StepsReadOnlyTheirAnswer, ObjectsOfferTheirSupplies};
 
 /// Each deadline that a step sets is later than the step, and the timer that fell due no longer runs.
 pub fn later()
     ensures { StepsSetLater }
+{}
+
+/// An answer matters only where the engine asks.
+pub fn answered()
+    ensures { StepsReadOnlyTheirAnswer }
 {}
 
 /// The objects of Source_Capabilities offer the supplies at the currents of the draft offer.
