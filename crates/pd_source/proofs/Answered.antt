@@ -2,7 +2,6 @@
 use Rattle.std.proofs.Common.{◌≡◌, ℕ, Bool, true, false, not, ◌&&◌, ◌||◌, if◌then◌else◌, List, [], ◌∷◌, ◌++◌, Option, Some, None, refl, sym, ap, ◌∙◌}
 use Rattle.pd_timers.specs.declared.Timer.TheVariants as timer
 use Rattle.pd_objects.specs.declared.query.Answer.{Answer}
-use Rattle.pd_objects.specs.declared.query.Query.{Query}
 use Rattle.pd_source.specs.declared.kinds.State.{State}
 use Rattle.pd_source.specs.declared.kinds.State.TheVariants as state
 use Rattle.pd_source.specs.declared.kinds.Heard.{Heard}
@@ -14,10 +13,10 @@ use Rattle.pd_source.specs.declared.kinds.Note.TheVariants as note
 use Rattle.pd_source.specs.declared.kinds.Deed.{Deed}
 use Rattle.pd_source.specs.declared.kinds.Deed.TheVariants as deed
 use Rattle.pd_source.specs.Record.{SourceSettings, SourceRecord}
-use Rattle.pd_source.specs.Table.{Row, row, Ended, Guard, Always, LimitKnown, TriesLeft, WasSent, HasContract, CapsLeft, RequestInvalid, Fits, OfferDiffers, HardResetsLeft, To, holds, table, first, fits, among, match_one, heard_of, row_of, deeds_of_row, asks_offer, is_request_valid}
+use Rattle.pd_source.specs.Table.{Row, row, Ended, Guard, RequestInvalid, Fits, OfferDiffers, To, holds, table, first, fits, among, match_one, heard_of, row_of, deeds_of_row, asks_offer, is_request_valid}
 use Rattle.pd_source.specs.Acts.{after, wants, all_after, all_wants}
-use Rattle.pd_source.specs.Step.{before_row, row_at, deeds_at, stepped, acts_of, query_of, offer_query, fit_query, row_query, limit_after, polls, decides}
-use Rattle.pd_source.proofs.Walk.{and-left, and-right, both, all_rows, row_of-all, none_of, none_of_row, none_of-deeds}
+use Rattle.pd_source.specs.Step.{before_row, row_at, deeds_at, stepped, acts_of, query_of, offer_query, fit_query, row_query, polls, decides}
+use Rattle.pd_source.proofs.Walk.{and-left, and-right, all_rows, row_of-all, none_of, none_of_row, none_of-deeds}
 
 -- the guards that read the answer
 abbrev reads_answer : Guard → Bool

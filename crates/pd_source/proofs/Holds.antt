@@ -1,11 +1,8 @@
 -- What a port holds while its source steps.
-use Rattle.std.proofs.Common.{◌≡◌, ℕ, ◌≤◌, Bool, true, false, not, ◌&&◌, nat_le, if◌then◌else◌, List, [], ◌∷◌, Option, Some, None, option_map, fold, max, refl, sym, subst, ap, ◌∙◌, arith}
+use Rattle.std.proofs.Common.{◌≡◌, ℕ, ◌≤◌, Bool, true, false, not, nat_le, if◌then◌else◌, List, [], ◌∷◌, Option, Some, None, option_map, fold, max, refl, sym, subst, ap, ◌∙◌, arith}
 use Rattle.std.proofs.lemmas.Bool.Decides.{nat_tests}
 use Rattle.pd_objects.specs.Answers.{IsAllowed}
-use Rattle.pd_objects.specs.Supply.{SupplyData}
 use Rattle.pd_objects.specs.declared.query.Answer.{Answer}
-use Rattle.pd_objects.specs.declared.query.Answer.TheVariants as answer
-use Rattle.pd_objects.specs.declared.query.Query.{Query}
 use Rattle.pd_objects.specs.declared.query.Query.TheVariants as query
 use Rattle.pd_source.specs.declared.kinds.Stimulus.{Stimulus}
 use Rattle.pd_source.specs.declared.kinds.Stimulus.TheVariants as stimulus
@@ -195,9 +192,9 @@ hold_of-safe s floor free now x a r h g =
     let least : floor ≤ free = omega arith in
     hold-of_held s floor free (all_after s (deeds_at s x a z) now x a z)
     (held-row s floor free now x a z (row_at s x a z) (is_fits (row_at s x a z).guard) least (safe-before s floor free x a r g) refl
-      (row_of-all is_fair (holds s a z) z.state (heard_of x) refl refl)
-      (row_of-guard (holds s a z) z.state (heard_of x) refl)
-      (held-before s floor free x r (is_held s floor free r h)))
+    (row_of-all is_fair (holds s a z) z.state (heard_of x) refl refl)
+    (row_of-guard (holds s a z) z.state (heard_of x) refl)
+    (held-before s floor free x r (is_held s floor free r h)))
 
 -- with an answer that the free power allows a step leaves the hold within it
 pub hold_of-stepped : (s : SourceSettings) (floor free now : ℕ) (x : Stimulus) (a : Option Answer) (r : SourceRecord) → hold_of s floor r ≤ free → IsAllowed free (query_of s x r) a → hold_of s floor (stepped s now x a r) ≤ free

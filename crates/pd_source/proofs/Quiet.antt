@@ -8,7 +8,7 @@ use Rattle.pd_source.specs.declared.kinds.Deed.{Deed}
 use Rattle.pd_source.specs.declared.kinds.Deed.TheVariants as deed
 use Rattle.pd_source.specs.Record.{SourceSettings, SourceRecord}
 use Rattle.pd_source.specs.Table.{Row, Guard, HardResetsLeft, Next, Stay, Same, To, SC, NC, SR, HR, holds, heard_of, sc, nc, sr, hr, deeds_of_row}
-use Rattle.pd_source.specs.Acts.{after, wants, all_wants, noise, noise_of}
+use Rattle.pd_source.specs.Acts.{after, wants, all_wants, noise}
 use Rattle.pd_source.specs.Step.{before_row, row_at, deeds_at, acts_of}
 use Rattle.pd_source.proofs.Walk.{row_of-all}
 

@@ -199,8 +199,8 @@ impl Source {
         ensures few { length result.items ≤ 6 }
     {
         self.arrive(stimulus);
-        let plan = self.plan(self.sent, stimulus, &answer);
-        self.run(plan.deeds, now, stimulus, &answer)
+        let deeds = self.deeds(self.sent, stimulus, &answer);
+        self.run(deeds, now, stimulus, &answer)
     }
 
     /// A timer that falls due has ended, and Sent sets the mark.
