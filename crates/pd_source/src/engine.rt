@@ -346,3 +346,6 @@ fn limit_from(stimulus: &Stimulus, limit: Option<u32>) -> Option<u32>
         _ => limit,
     }
 }
+
+#[cfg(test)]
+mod tests;
