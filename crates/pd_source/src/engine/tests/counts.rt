@@ -5,22 +5,19 @@ ghost use Rattle.std.specs.Prelude.{◌<◌};
 use super::*;
 
 /// Where no sink answers: the source after so many offers, each of them failed.
-fn after_offers(offers: u32) -> Source
-    requires { offers < 1000 }
+fn after_offers(offers: u64) -> Source
+    requires { offers < 100 }
 {
     let mut source = at_startup(0);
-    let mut now = 50_000;
-    let mut first = true;
-    for _ in 0..offers {
-        let stimulus = if first {
+    for index in 0..offers {
+        let stimulus = if index == 0 {
             ended(Timer::TurnOn)
         } else {
             ended(Timer::SourceCapability)
         };
-        first = false;
+        let now = 50_000 + 150_000 * index;
         let _ = source.step(now, &stimulus, offer());
         let _ = source.step(now, &Stimulus::Failed, None);
-        now = (now + 150_000).min(100_000_000);
     }
     source
 }
