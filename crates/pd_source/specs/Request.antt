@@ -1,5 +1,5 @@
 -- The requests of a sink: which of them are valid, the power that they ask for, and the contract that they lead to.
-use Rattle.std.specs.Prelude.{ℕ, ◌+◌, ◌-◌, ◌*◌, Bool, true, false, ◌&&◌, ◌==◌, if◌then◌else◌, nat_le, List, [], ◌∷◌, length, Option, Some, None, slice_get, unwrap_or}
+use Rattle.std.specs.Prelude.{ℕ, ◌-◌, ◌*◌, Bool, false, ◌&&◌, ◌==◌, if◌then◌else◌, nat_le, List, Option, Some, None, slice_get, unwrap_or}
 use Rattle.std.specs.Option.{option_map_or}
 use Rattle.pd_objects.specs.Supply.{SupplyData}
 use Rattle.pd_objects.specs.RequestObject.{request_of}

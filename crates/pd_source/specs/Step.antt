@@ -19,7 +19,7 @@ use Rattle.pd_source.specs.declared.kinds.Deed.{Deed}
 use Rattle.pd_source.specs.declared.kinds.Deed.TheVariants as deed
 use Rattle.pd_source.specs.Record.{SourceSettings, SourceRecord, cable_current}
 use Rattle.pd_source.specs.Request.{power_of, contract_power}
-use Rattle.pd_source.specs.Table.{Row, Cue, Ended, holds, among, match_one, heard_of, is_request_valid, row_of, deeds_of_row, asks_offer}
+use Rattle.pd_source.specs.Table.{Row, Ended, holds, among, match_one, heard_of, is_request_valid, row_of, deeds_of_row, asks_offer}
 use Rattle.pd_source.specs.Acts.{limit_from, all_after, all_wants}
 
 -- before the row is taken, a timer that falls due has ended, and Sent has set the mark
@@ -55,6 +55,12 @@ requested s (Some object) = power_of s.supplies object
 -- whether the power of the kept request fits, where it is valid
 abbrev pub fit_query : SourceSettings → SourceRecord → Option Query
 fit_query s r = if is_request_valid r then Some (query.Fits (requested s r.kept_request)) else None
+
+-- whether an offer is among a row's acts
+abbrev pub makes_offer : List Deed → Bool
+makes_offer [] = false
+makes_offer (deed.Draft ∷ ds) = true
+makes_offer (d ∷ ds) = makes_offer ds
 
 -- the limit after a row's acts
 abbrev pub limit_after : List Deed → Stimulus → Option ℕ → Option ℕ

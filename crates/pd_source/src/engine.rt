@@ -5,11 +5,11 @@ ghost use Rattle.arrayvec.specs.ArrayVec.{array_vec_len};
 ghost use Rattle.pd_timers.specs.Deadlines.{first_of};
 ghost use Rattle.pd_source.specs.Record.{new_source};
 ghost use Rattle.pd_source.specs.Acts.{after, wants, all_after, all_wants, limit_from, sending_of, noise};
-ghost use Rattle.pd_source.specs.Step.{before_row, stepped, acts_of, hears_in, is_ready, revision_bits, hold_of, contracted, requested};
+ghost use Rattle.pd_source.specs.Step.{before_row, stepped, acts_of, hears_in, is_ready, revision_bits};
 
 use crate::kinds::{Deed, Message};
-use crate::offer::{capabilities, copied, greatest_power};
-use crate::request::{contract_of, power_of, revision_of};
+use crate::offer::{capabilities, copied};
+use crate::request::{contract_of, revision_of};
 use crate::{Act, Revision, Sending, State, Stimulus};
 use arrayvec::ArrayVec;
 use pd_identity::limit_ma;
@@ -19,6 +19,7 @@ use std::marker::Model;
 
 mod asks;
 mod copies;
+mod power;
 
 /// The current in mA that each cable carries (USB Type-C).
 const CABLE_CURRENT_MA: u32 = 3_000;
@@ -120,13 +121,6 @@ impl Source {
         matches!(self.state, State::Ready)
     }
 
-    /// The contract, if there is one.
-    pub fn contract(&self) -> Option<Contract>
-        ensures { result ≡ self.now.record.contract }
-    {
-        self.contract
-    }
-
     /// The revision bits of what the source sends on SOP.
     pub fn revision(&self) -> u8
         ensures value { result ≡ revision_bits self.now.record }
@@ -135,37 +129,6 @@ impl Source {
         match self.revision {
             Revision::Revision2 => 1,
             Revision::Revision3 => 2,
-        }
-    }
-
-    /// What the port holds of the shared budget in microwatts, with a floor of so many.
-    #[tactic(auto, unfolding(crate::specs::Step::hold_of))]
-    pub fn hold(&self, floor: u64) -> u64
-        ensures { result ≡ hold_of self.now.settings floor self.now.record }
-    {
-        let least = floor
-            .max(self.contracted())
-            .max(self.requested(self.accepted_request));
-        greatest_power(least, self.supplies.as_slice(), self.draft_offer.as_slice())
-    }
-
-    /// The power of the contract in microwatts, 0 where there is none.
-    fn contracted(&self) -> u64
-        ensures { result ≡ contracted self.now.record.contract }
-    {
-        match &self.contract {
-            None => 0,
-            Some(contract) => u64::from(contract.mv) * u64::from(contract.ma),
-        }
-    }
-
-    /// The power of a request in microwatts, 0 where there is none.
-    fn requested(&self, request: Option<u32>) -> u64
-        ensures { result ≡ requested self.now.settings request }
-    {
-        match request {
-            None => 0,
-            Some(object) => power_of(self.supplies.as_slice(), object),
         }
     }
 
@@ -180,6 +143,7 @@ impl Source {
         ensures after { self.new ≡ record self.old { «record» = stepped self.old.settings now stimulus.now answer self.old.record } }
         ensures acts { result.items ≡ acts_of self.old.settings now stimulus.now answer self.old.record }
         ensures few { length result.items ≤ 6 }
+        ensures quiet { noise result.items ≤ 2 }
     {
         self.take_row(now, stimulus, answer)
     }
@@ -198,8 +162,8 @@ impl Source {
         ensures few { length result.items ≤ 6 }
     {
         self.arrive(stimulus);
-        let plan = self.plan(self.sent, stimulus, &answer);
-        self.run(plan.deeds, now, stimulus, &answer)
+        let deeds = self.deeds(self.sent, stimulus, &answer);
+        self.run(deeds, now, stimulus, &answer)
     }
 
     /// A timer that falls due has ended, and Sent sets the mark.
@@ -345,3 +309,6 @@ fn limit_from(stimulus: &Stimulus, limit: Option<u32>) -> Option<u32>
         _ => limit,
     }
 }
+
+#[cfg(test)]
+mod tests;

@@ -1,10 +1,22 @@
 //! Laws of the engine's steps.
 
-ghost use Rattle.pd_source.specs.Laws.{StepsSetLater, ObjectsOfferTheirSupplies};
+ghost use Rattle.pd_source.specs.Laws.{StepsSetLater, StepsReadOnlyTheirAnswer, HoldsKeepTheFloor, HoldsOfDetachedAreFloors, HoldsStayAllowed, ObjectsOfferTheirSupplies};
 
 /// Each deadline that a step sets is later than the step, and the timer that fell due no longer runs.
 pub fn later()
     ensures { StepsSetLater }
+{}
+
+/// An answer matters only where the engine asks.
+pub fn answered()
+    ensures { StepsReadOnlyTheirAnswer }
+{}
+
+/// What the port holds is at least its floor, is the floor while it is detached, and stays within the free power.
+pub fn holds()
+    ensures floor { HoldsKeepTheFloor }
+    ensures detached { HoldsOfDetachedAreFloors }
+    ensures allowed { HoldsStayAllowed }
 {}
 
 /// The objects of Source_Capabilities offer the supplies at the currents of the draft offer.

@@ -9,40 +9,33 @@ use crate::{Note, Sent, State, Stimulus};
 use pd_identity::{Reply, reply_of};
 use pd_timers::Timer;
 
-/// What the engine does in a step, and whether it asks before it what may be offered.
-#[derive(Clone, Copy)]
-pub(crate) struct Plan {
-    pub asks_offer: bool,
-    pub deeds: &'static [Deed],
-}
-
 macro_rules! rows {
     ($state:ident, $heard:ident, $facts:ident; each $($any:ident)|+; $($number:ident: $($s:ident)|+, $c:pat $(if $g:ident)? => $next:ident $(($to:ident))? [$($deed:expr),*];)*) => {
         match ($state, $heard) {
             $(($(State::$s)|+, $c) $(if $facts.$g)? => plan!($facts, $next $(($to))? [$($deed),*]),)*
-            $((State::$any, _) => plan!($facts, stay []),)+
+            $((State::$any, _) => &[],)+
         }
     };
 }
 
 macro_rules! plan {
-    ($facts:ident, stay [$($deed:expr),*]) => { Plan { asks_offer: false, deeds: &[$($deed),*] } };
-    ($facts:ident, same [$($deed:expr),*]) => { Plan { asks_offer: false, deeds: &[Deed::EnterAgain, $($deed),*] } };
-    ($facts:ident, to ($to:ident) [$($deed:expr),*]) => { Plan { asks_offer: false, deeds: &[Deed::Enter(State::$to), $($deed),*] } };
+    ($facts:ident, stay [$($deed:expr),*]) => { &[$($deed),*] };
+    ($facts:ident, same [$($deed:expr),*]) => { &[Deed::EnterAgain, $($deed),*] };
+    ($facts:ident, to ($to:ident) [$($deed:expr),*]) => { &[Deed::Enter(State::$to), $($deed),*] };
     ($facts:ident, sc [$($deed:expr),*]) => {
-        Plan { asks_offer: true, deeds: &[$($deed,)* Deed::Enter(State::SendCapabilities), Deed::CapsUp, Deed::Draft, Deed::Send(Message::SourceCapabilities)] }
+        &[$($deed,)* Deed::Enter(State::SendCapabilities), Deed::CapsUp, Deed::Draft, Deed::Send(Message::SourceCapabilities)]
     };
     ($facts:ident, nc [$($deed:expr),*]) => {
-        Plan { asks_offer: true, deeds: &[$($deed,)* Deed::CableLimit, Deed::Note(Note::CableUnread), Deed::Enter(State::SendCapabilities), Deed::CapsUp, Deed::Draft, Deed::Send(Message::SourceCapabilities)] }
+        &[$($deed,)* Deed::CableLimit, Deed::Note(Note::CableUnread), Deed::Enter(State::SendCapabilities), Deed::CapsUp, Deed::Draft, Deed::Send(Message::SourceCapabilities)]
     };
     ($facts:ident, sr [$($deed:expr),*]) => {
-        Plan { asks_offer: false, deeds: &[$($deed,)* Deed::Enter(State::SendSoftReset), Deed::Close, Deed::ResetLayer, Deed::Note(Note::SoftReset), Deed::Send(Message::SoftReset)] }
+        &[$($deed,)* Deed::Enter(State::SendSoftReset), Deed::Close, Deed::ResetLayer, Deed::Note(Note::SoftReset), Deed::Send(Message::SoftReset)]
     };
     ($facts:ident, hr [$($deed:expr),*]) => {
         if $facts.hard_resets_left {
-            Plan { asks_offer: false, deeds: &[$($deed,)* Deed::Enter(State::HardReset), Deed::HardUp, Deed::Void, Deed::Note(Note::HardReset), Deed::SendHardReset] }
+            &[$($deed,)* Deed::Enter(State::HardReset), Deed::HardUp, Deed::Void, Deed::Note(Note::HardReset), Deed::SendHardReset]
         } else {
-            Plan { asks_offer: false, deeds: &[$($deed,)* Deed::Enter(State::Disabled), Deed::Void, Deed::Note(Note::Disabled)] }
+            &[$($deed,)* Deed::Enter(State::Disabled), Deed::Void, Deed::Note(Note::Disabled)]
         }
     };
 }
@@ -73,12 +66,11 @@ pub(crate) fn heard_of(stimulus: &Stimulus) -> Heard
     }
 }
 
-/// The first row that fits, as a plan.
+/// What the first row that fits does.
 #[tactic(auto, unfolding(crate::specs::Table::row_of))]
-pub(crate) fn choose(state: State, heard: Heard, facts: Facts) -> Plan
-    ensures deeds { result.deeds.now ≡ table.deeds_of_row (told facts) (table.row_of (told facts) state heard) }
-    ensures asks { result.asks_offer ≡ table.asks_offer (table.row_of (told facts) state heard).next }
-    ensures few { length result.deeds.now ≤ 6 }
+pub(crate) fn choose(state: State, heard: Heard, facts: Facts) -> &'static [Deed]
+    ensures deeds { result.now ≡ table.deeds_of_row (told facts) (table.row_of (told facts) state heard) }
+    ensures few { length result.now ≤ 6 }
 {
     rows! { state, heard, facts;
         each Off | Startup | VdmIdentityRequest | SendCapabilities | Discovery | NegotiateCapability | CapabilityResponse | TransitionSupply | Ready | WaitNewCapabilities | GetSinkCap | SendSoftReset | SoftReset | HardReset | HardResetReceived | TransitionToDefault | Disabled;

@@ -2,7 +2,7 @@
 
 ghost use Rattle.std.specs.Prelude.{◌≡◌, ◌≤◌, length};
 ghost use Rattle.pd_source.specs.Facts.{facts_of};
-ghost use Rattle.pd_source.specs.Table.{is_request_valid, differs_from, asks_offer};
+ghost use Rattle.pd_source.specs.Table.{is_request_valid, differs_from};
 ghost use Rattle.pd_source.specs.Acts as acts;
 ghost use Rattle.pd_source.specs.Step as step;
 
@@ -10,7 +10,7 @@ use super::{CABLE_CURRENT_MA, Source, limit_from};
 use crate::kinds::{Deed, Facts, Heard};
 use crate::offer::copied;
 use crate::request::is_valid;
-use crate::rows::{Plan, choose, heard_of};
+use crate::rows::{choose, heard_of};
 use crate::{State, Stimulus};
 use pd_objects::{Answer, Query};
 use pd_timers::Timer;
@@ -63,9 +63,9 @@ impl Source {
     fn row_query(&self, stimulus: &Stimulus) -> Option<Query>
         ensures { result ≡ step.row_query self.now.settings stimulus.now (step.before_row stimulus.now self.now.record) }
     {
-        let plan = self.plan(self.sent_before(stimulus), stimulus, &None);
-        if plan.asks_offer {
-            Some(self.offer_query(limit_after(plan.deeds, stimulus, self.limit)))
+        let deeds = self.deeds(self.sent_before(stimulus), stimulus, &None);
+        if makes_offer(deeds) {
+            Some(self.offer_query(limit_after(deeds, stimulus, self.limit)))
         } else {
             None
         }
@@ -81,11 +81,15 @@ impl Source {
         }
     }
 
-    /// The first row that fits where the mark is as told, as a plan.
-    pub(super) fn plan(&self, sent: bool, stimulus: &Stimulus, answer: &Option<Answer>) -> Plan
-        ensures deeds { result.deeds.now ≡ step.deeds_at self.now.settings stimulus.now answer.now (record self.now.record { sent = sent }) }
-        ensures asks { result.asks_offer ≡ asks_offer (step.row_at self.now.settings stimulus.now answer.now (record self.now.record { sent = sent })).next }
-        ensures few { length result.deeds.now ≤ 6 }
+    /// What the first row that fits does, where the mark is as told.
+    pub(super) fn deeds(
+        &self,
+        sent: bool,
+        stimulus: &Stimulus,
+        answer: &Option<Answer>,
+    ) -> &'static [Deed]
+        ensures value { result.now ≡ step.deeds_at self.now.settings stimulus.now answer.now (record self.now.record { sent = sent }) }
+        ensures few { length result.now ≤ 6 }
     {
         choose(self.state, heard_of(stimulus), self.facts(sent, answer))
     }
@@ -141,6 +145,18 @@ fn differs_from(offer: &[u32], answer: &Option<Answer>) -> bool
         Some(Answer::Offer(currents)) => currents.as_slice() != offer,
         _ => false,
     }
+}
+
+/// Whether an offer is among a row's acts.
+fn makes_offer(deeds: &[Deed]) -> bool
+    ensures { result ≡ step.makes_offer deeds.now }
+{
+    for deed in deeds {
+        if let Deed::Draft = deed {
+            return true;
+        }
+    }
+    false
 }
 
 /// The limit in mA after a row's acts.
