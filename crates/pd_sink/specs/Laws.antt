@@ -1,11 +1,12 @@
 -- Laws of the sink's policy engine, and of what it sends.
-use Rattle.std.specs.Prelude.{◌≡◌, ℕ, ◌*◌, ◌%◌, ◌<◌, ◌≤◌, min, Bool, if◌then◌else◌, List, length, IfSome}
+use Rattle.std.specs.Prelude.{◌≡◌, ◌↔◌, ℕ, ◌*◌, ◌%◌, ◌<◌, ◌≤◌, min, Bool, if◌then◌else◌, List, Contains, length, IfSome}
 use Rattle.pd_symbols.specs.Words.{field}
 use Rattle.pd_timers.specs.Deadlines.{SetsLater}
 use Rattle.pd_sink.specs.declared.kinds.Stimulus.{Stimulus}
+use Rattle.pd_sink.specs.declared.rule.Offered.{Offered}
 use Rattle.pd_sink.specs.declared.rule.Asked.{Asked}
 use Rattle.pd_sink.specs.Settings.{SinkData}
-use Rattle.pd_sink.specs.Rule.{IsNeed, need_of, Asks, accepted, asked_of}
+use Rattle.pd_sink.specs.Rule.{IsNeed, need_of, IsAcceptedOf, Asks, accepted, asked_of}
 use Rattle.pd_sink.specs.Objects.{request_object, sink_object}
 use Rattle.pd_sink.specs.Record.{SinkRecord}
 use Rattle.pd_sink.specs.Step.{before_row, stepped}
@@ -18,6 +19,11 @@ StepsSetLater =
 -- what is needed of a voltage is the least multiple of 10 mA that has the power
 abbrev pub NeedsAreLeast : Type 0
 NeedsAreLeast = (mv demand_mw : ℕ) → 0 < mv → IsNeed mv demand_mw (need_of mv demand_mw)
+
+-- the supplies that a sink accepts are those of the accepted objects, at their positions
+abbrev pub AcceptedAreOffered : Type 0
+AcceptedAreOffered =
+    (sink : SinkData) (offer : List ℕ) (o : Offered) → Contains (accepted sink offer) o ↔ IsAcceptedOf sink offer o
 
 -- of every offer a sink asks what the rule says
 abbrev pub SinksAskByTheRule : Type 0

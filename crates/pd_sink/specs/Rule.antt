@@ -1,5 +1,5 @@
 -- What a sink asks of an offer: this product's own rule.
-use Rattle.std.specs.Prelude.{◌≡◌, ◌⊎◌, ℕ, ◌+◌, ◌*◌, ◌%◌, ◌<◌, ◌≤◌, min, Bool, true, false, ◌==◌, ◌&&◌, ◌||◌, nat_lt, nat_le, if◌then◌else◌, List, [], ◌∷◌, Contains, All, Option, Some, None}
+use Rattle.std.specs.Prelude.{◌≡◌, ◌⊎◌, ℕ, ◌+◌, ◌*◌, ◌%◌, ◌<◌, ◌≤◌, min, Bool, true, false, ◌==◌, ◌&&◌, ◌||◌, nat_lt, nat_le, if◌then◌else◌, List, [], ◌∷◌, Contains, All, length, slice_index, Option, Some, None}
 use Rattle.std.specs.Int.{div_ceil}
 use Rattle.pd_symbols.specs.Words.{field}
 use Rattle.pd_sink.specs.declared.settings.SinkMode.{SinkMode}
@@ -39,6 +39,13 @@ accepted_from sink position (w ∷ ws) =
 -- the supplies of an offer that a sink accepts; positions are from 1
 abbrev pub accepted : SinkData → List ℕ → List Offered
 accepted sink offer = accepted_from sink 1 offer
+
+-- what an accepted supply is: that of an accepted object, at its position
+pub record IsAcceptedOf (sink : SinkData) (offer : List ℕ) (o : Offered) : Type 0 where
+  pub place : ℕ
+  pub within : place < length offer
+  pub object_accepted : is_accepted sink (slice_index offer place) ≡ true
+  pub supply : o ≡ supply_at (place + 1) (slice_index offer place)
 
 -- a supply at a position of an offer, of a voltage above 0, and of a current that an object can state
 pub record IsOffered (o : Offered) : Type 0 where

@@ -1,6 +1,6 @@
 //! Laws of the engine's steps, and of what it sends.
 
-ghost use Rattle.pd_sink.specs.Laws.{StepsSetLater, NeedsAreLeast, SinksAskByTheRule, RequestsHaveTheirFields, CapabilitiesHaveTheirFields};
+ghost use Rattle.pd_sink.specs.Laws.{StepsSetLater, NeedsAreLeast, AcceptedAreOffered, SinksAskByTheRule, RequestsHaveTheirFields, CapabilitiesHaveTheirFields};
 
 /// Each deadline that a step sets is later than the step, and the timer that fell due no longer runs.
 pub fn later()
@@ -11,6 +11,7 @@ pub fn later()
 /// greatest power.
 pub fn asks()
     ensures need { NeedsAreLeast }
+    ensures accepted { AcceptedAreOffered }
     ensures rule { SinksAskByTheRule }
 {}
 
