@@ -35,9 +35,9 @@ use Rattle.pd_port.specs.declared.due.Due.{Due}
 use Rattle.pd_port.specs.declared.due.What.{What}
 use Rattle.pd_port.specs.declared.due.What.TheVariants as what
 use Rattle.pd_port.specs.declared.entry.Entry.{Entry}
-use Rattle.pd_port.specs.declared.event.EventKind.{EventKind}
-use Rattle.pd_port.specs.declared.event.EventKind.TheVariants.{Attach}
-use Rattle.pd_port.specs.Settings.{SettingsData}
+use Rattle.pd_plan.specs.declared.event.EventKind.{EventKind}
+use Rattle.pd_plan.specs.declared.event.EventKind.TheVariants.{Attach}
+use Rattle.pd_plan.specs.Settings.{SettingsData}
 use Rattle.pd_port.specs.Laws.{source_after_told}
 use Rattle.pd_port.specs.Port.{PortRecord, attaches, event_happens, happens, begun, portstep, whole, source_settings, record_after, entry_of, ask, query, source_layer, told_if_sent, told_if_up, told_if_failed, told_of_good_crc, told_at_good_crc, told_at_time_out, told_by_line, told_by_event, source_told}
 

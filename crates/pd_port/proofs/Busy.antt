@@ -9,9 +9,9 @@ use Rattle.pd_line.proofs.Busy.{LeavesLine, StartsOne, line_ends_one, line_start
 use Rattle.pd_port.specs.declared.due.Due.{Due}
 use Rattle.pd_port.specs.declared.due.What.{What}
 use Rattle.pd_port.specs.declared.due.What.TheVariants as what
-use Rattle.pd_port.specs.declared.event.EventKind.{EventKind}
-use Rattle.pd_port.specs.declared.event.EventKind.TheVariants.{Attach}
-use Rattle.pd_port.specs.Settings.{SettingsData}
+use Rattle.pd_plan.specs.declared.event.EventKind.{EventKind}
+use Rattle.pd_plan.specs.declared.event.EventKind.TheVariants.{Attach}
+use Rattle.pd_plan.specs.Settings.{SettingsData}
 use Rattle.pd_port.specs.Laws.{is_line}
 use Rattle.pd_port.specs.Port.{PortRecord, attaches, event_happens, happens, begun, portstep, whole, record_after, entry_of}
 

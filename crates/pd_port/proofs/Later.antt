@@ -17,9 +17,9 @@ use Rattle.pd_line.proofs.Later.{times, Leads, LeadsOn, bounds, IsBounded, joins
 use Rattle.pd_port.specs.declared.due.Due.{Due}
 use Rattle.pd_port.specs.declared.due.What.{What}
 use Rattle.pd_port.specs.declared.due.What.TheVariants as what
-use Rattle.pd_port.specs.declared.event.EventKind.{EventKind}
-use Rattle.pd_port.specs.declared.event.EventKind.TheVariants.{Attach}
-use Rattle.pd_port.specs.Settings.{SettingsData}
+use Rattle.pd_plan.specs.declared.event.EventKind.{EventKind}
+use Rattle.pd_plan.specs.declared.event.EventKind.TheVariants.{Attach}
+use Rattle.pd_plan.specs.Settings.{SettingsData}
 use Rattle.pd_port.specs.Laws.{without}
 use Rattle.pd_port.specs.Port.{attaches, event_happens, happens, begun, portstep, whole, record_after}
 

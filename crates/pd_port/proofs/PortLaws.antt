@@ -19,8 +19,8 @@ use Rattle.pd_line.specs.Later.{Times, times_of, Later, line_end}
 use Rattle.pd_port.specs.declared.due.Due.{Due}
 use Rattle.pd_port.specs.declared.due.What.{What}
 use Rattle.pd_port.specs.declared.due.What.TheVariants as what
-use Rattle.pd_port.specs.Events.{EventData}
-use Rattle.pd_port.specs.Settings.{SettingsData, floor_of}
+use Rattle.pd_plan.specs.Events.{EventData}
+use Rattle.pd_plan.specs.Settings.{SettingsData, floor_of}
 use Rattle.pd_port.specs.Laws.{NotBefore, pending_at, pending, without, IsOneOf, IsEarliest}
 use Rattle.pd_port.specs.Port.{is_event, event_due, line_due, timer_due, dues, due, detached, source_settings, whole, begun, portstep, source_told, query, ask, record_after, hold}
 use Rattle.pd_port.proofs.Earliest.{is_before-time, due-IsEarliest}

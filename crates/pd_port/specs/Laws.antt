@@ -14,8 +14,8 @@ use Rattle.pd_line.specs.Later.{Times, times_of, Later}
 use Rattle.pd_port.specs.declared.due.Due.{Due}
 use Rattle.pd_port.specs.declared.due.What.{What}
 use Rattle.pd_port.specs.declared.due.What.TheVariants as what
-use Rattle.pd_port.specs.Events.{EventData}
-use Rattle.pd_port.specs.Settings.{SettingsData}
+use Rattle.pd_plan.specs.Events.{EventData}
+use Rattle.pd_plan.specs.Settings.{SettingsData}
 use Rattle.pd_port.specs.Port.{dues, due, is_before, begun, happens, portstep, whole, source_settings, source_told, ask, record_after, entry_of}
 
 -- the next event isn't before t

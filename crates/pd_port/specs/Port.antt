@@ -37,10 +37,10 @@ use Rattle.pd_port.specs.declared.due.Due.{Due}
 use Rattle.pd_port.specs.declared.due.What.{What}
 use Rattle.pd_port.specs.declared.due.What.TheVariants as what
 use Rattle.pd_port.specs.declared.entry.Entry.{Entry}
-use Rattle.pd_port.specs.declared.event.EventKind.{EventKind}
-use Rattle.pd_port.specs.declared.event.EventKind.TheVariants.{Attach}
-use Rattle.pd_port.specs.Events.{EventData}
-use Rattle.pd_port.specs.Settings.{SettingsData, floor_of}
+use Rattle.pd_plan.specs.declared.event.EventKind.{EventKind}
+use Rattle.pd_plan.specs.declared.event.EventKind.TheVariants.{Attach}
+use Rattle.pd_plan.specs.Events.{EventData}
+use Rattle.pd_plan.specs.Settings.{SettingsData, floor_of}
 
 -- what a port is set to, and what it keeps from step to step
 pub record PortData : Type 0 where

@@ -5,16 +5,13 @@ mod asks;
 mod due;
 mod dues;
 mod entry;
-mod event;
 pub mod laws;
 mod meter;
 mod port;
-mod settings;
 
 pub use due::{Due, What};
 pub use entry::Entry;
-pub use event::{Event, EventKind};
 pub use meter::Meter;
 pub use pd_line::{Fault, Start};
+pub use pd_plan::{Event, EventKind, Happening, Settings};
 pub use port::Port;
-pub use settings::Settings;

@@ -2,7 +2,7 @@
 use Rattle.std.proofs.Common.{◌≡◌, ℕ, ◌<◌, ◌≤◌, List, [], ◌∷◌, ◌++◌, length, map, sum, Option, refl, ap, sym, subst, arith, slice_index, slice_set, replicate}
 use Rattle.pd_objects.specs.Answers.{IsAllowed}
 use Rattle.pd_objects.specs.declared.query.Answer.{Answer}
-use Rattle.pd_port.specs.Settings.{floor_of}
+use Rattle.pd_plan.specs.Settings.{floor_of}
 use Rattle.pd_port.specs.Port.{ask, hold}
 use Rattle.pd_port.proofs.PortLaws.{hold_fits, hold_floor}
 use Rattle.pd_ledger.specs.Account.{Account, free_of}

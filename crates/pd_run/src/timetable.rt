@@ -6,7 +6,8 @@ ghost use Rattle.pd_scenario.specs.Plan.{Plan, IsPlan, settings_of, script_of, f
 ghost use Rattle.pd_scenario.specs.Plans.{plan_of};
 ghost use Rattle.pd_run.specs.Start.{start_of};
 
-use pd_port::{Event, Port, Settings};
+use pd_plan::{Event, Settings};
+use pd_port::Port;
 use pd_scenario::Scenario;
 use std::alloc::{AllocError, Global};
 use std::marker::Model;

@@ -7,8 +7,8 @@ use Rattle.std.proofs.lemmas.List.{length-map, get_or_past}
 use Rattle.std.proofs.lemmas.List.Sums.{sum_by-cons}
 use Rattle.std.proofs.lemmas.List.FromFn.{get_or-map-range_with_len, length-map-range_with_len}
 use Rattle.std.proofs.lemmas.List.Sorted.{length_permutation}
-use Rattle.pd_port.specs.Events.{EventData}
-use Rattle.pd_port.specs.Settings.{SettingsData, floor_of}
+use Rattle.pd_plan.specs.Events.{EventData}
+use Rattle.pd_plan.specs.Settings.{SettingsData, floor_of}
 use Rattle.pd_scenario.specs.declared.contents.ScenarioEvent.{ScenarioEvent}
 use Rattle.pd_scenario.specs.Plan.{IsPlan, ComesBefore, script_of}
 use Rattle.pd_scenario.specs.Contents.{Contents, IsValid}

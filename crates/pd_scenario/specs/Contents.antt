@@ -3,7 +3,7 @@ use Rattle.std.specs.Prelude.{◌≡◌, ℕ, ◌≤◌, Bool, true, not, ◌&&�
 use Rattle.std.specs.List.{list_any, list_all}
 use Rattle.pd_identity.specs.declared.Cable.{Cable}
 use Rattle.pd_sink.specs.Settings.{SinkData}
-use Rattle.pd_port.specs.Settings.{SettingsData}
+use Rattle.pd_plan.specs.Settings.{SettingsData}
 use Rattle.pd_scenario.specs.Limits as limit
 use Rattle.pd_scenario.specs.Limits.{is_id, is_time, is_port, most_ports, most_names, most_events, latest_end}
 use Rattle.pd_scenario.specs.declared.contents.NamedCable.{NamedCable}

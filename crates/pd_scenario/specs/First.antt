@@ -4,7 +4,7 @@ use Rattle.pd_identity.specs.declared.CablePlug.TheVariants.{Absent}
 use Rattle.pd_identity.specs.declared.Rating.TheVariants.{ThreeAmperes}
 use Rattle.pd_sink.specs.declared.settings.SinkMode.TheVariants.{PowerDelivery}
 use Rattle.pd_sink.specs.declared.settings.SinkRevision.TheVariants.{Revision3}
-use Rattle.pd_port.specs.Settings.{SettingsData}
+use Rattle.pd_plan.specs.Settings.{SettingsData}
 use Rattle.pd_scenario.specs.declared.contents.NamedCable.{NamedCable}
 use Rattle.pd_scenario.specs.declared.contents.NamedSink.{NamedSink}
 use Rattle.pd_scenario.specs.declared.contents.ScenarioEventKind.TheVariants.{Attach}

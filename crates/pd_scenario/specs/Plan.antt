@@ -1,7 +1,7 @@
 -- What a scenario asks of a charger.
 use Rattle.std.specs.Prelude.{◌≡◌, ℕ, ◌≤◌, ◌<◌, ◌⊎◌, ◌+◌, false, List, [], length, map, sum, Some, slice_get, slice_index_or}
-use Rattle.pd_port.specs.Settings.{SettingsData, floor_of}
-use Rattle.pd_port.specs.Events.{EventData}
+use Rattle.pd_plan.specs.Settings.{SettingsData, floor_of}
+use Rattle.pd_plan.specs.Events.{EventData}
 
 -- the settings and the events of each port, the shared budget in microwatts, and the end in microseconds
 pub record Plan : Type 0 where

@@ -1,7 +1,7 @@
 -- What a scenario asks of a charger.
 use Rattle.std.specs.Prelude.{◌≡◌, ℕ, ◌*◌, ◌+◌, List, map, length, Some, slice_get, IsPermutation}
 use Rattle.std.specs.List.{range_with_len}
-use Rattle.pd_port.specs.Events.{EventData}
+use Rattle.pd_plan.specs.Events.{EventData}
 use Rattle.pd_scenario.specs.Plan.{Plan, ComesBefore}
 use Rattle.pd_scenario.specs.Contents.{Contents}
 use Rattle.pd_scenario.specs.Script.{script, resolved, own_events}

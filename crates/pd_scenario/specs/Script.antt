@@ -6,9 +6,9 @@ use Rattle.pd_identity.specs.declared.Rating.TheVariants.{ThreeAmperes}
 use Rattle.pd_sink.specs.Settings.{SinkData}
 use Rattle.pd_sink.specs.declared.settings.SinkMode.TheVariants.{PowerDelivery}
 use Rattle.pd_sink.specs.declared.settings.SinkRevision.TheVariants.{Revision3}
-use Rattle.pd_port.specs.Events.{EventData}
-use Rattle.pd_port.specs.declared.event.EventKind.{EventKind}
-use Rattle.pd_port.specs.declared.event.EventKind.TheVariants as port_event
+use Rattle.pd_plan.specs.Events.{EventData}
+use Rattle.pd_plan.specs.declared.event.EventKind.{EventKind}
+use Rattle.pd_plan.specs.declared.event.EventKind.TheVariants as port_event
 use Rattle.pd_scenario.specs.declared.contents.NamedCable.{NamedCable}
 use Rattle.pd_scenario.specs.declared.contents.NamedSink.{NamedSink}
 use Rattle.pd_scenario.specs.declared.contents.ScenarioEventKind.{ScenarioEventKind}

@@ -2,13 +2,13 @@
 
 ghost use Rattle.std.specs.Prelude.{◌≡◌, ℕ, ◌<◌, ◌≤◌, true, false, length, slice_index_or, IfOk, is_some};
 ghost use Rattle.std.specs.List.{list_all};
-ghost use Rattle.pd_port.specs.Events.{EventData, IsEvent};
+ghost use Rattle.pd_plan.specs.Events.{EventData, IsEvent};
 ghost use Rattle.pd_scenario.specs.Contents.{event_fits, names_are_known};
 ghost use Rattle.pd_scenario.specs.Script.{resolved, is_before, script};
 
 use crate::scenario::{cable_named, sink_named};
 use crate::{NamedCable, NamedSink, ScenarioEvent, ScenarioEventKind};
-use pd_port::{Event, EventKind};
+use pd_plan::{Event, EventKind};
 use std::alloc::{AllocError, Global};
 
 /// The event with the cable and the sink in place of their names.

@@ -7,7 +7,7 @@ use crate::{Name, NamedCable, NamedSink, Scenario, ScenarioEvent, ScenarioEventK
 use arrayvec::ArrayVec;
 use pd_identity::{Cable, CablePlug, Rating};
 use pd_objects::Supply;
-use pd_port::Settings;
+use pd_plan::Settings;
 use pd_sink::{SinkMode, SinkRevision, SinkSettings};
 use std::alloc::{AllocError, Global};
 

@@ -8,7 +8,7 @@ ghost use Rattle.pd_scenario.specs.Plans.{plan_of};
 use crate::order::script;
 use crate::{Name, NamedCable, NamedSink, ScenarioEvent};
 use pd_identity::Cable;
-use pd_port::{Event, Settings};
+use pd_plan::{Event, Settings};
 use pd_sink::SinkSettings;
 use std::alloc::{AllocError, Global};
 use std::marker::Model;

@@ -66,7 +66,7 @@ fn k4_an_offer_is_kept(rt: HostRuntime) {
     let mut want = at_wait();
     let acts = sink.step(60_000, &offer());
     want.state = State::EvaluateCapability;
-    want.offer = copied(&[0x0001_912C, 0x0002_D12C]);
+    want.kept_offer = copied(&[0x0001_912C, 0x0002_D12C]);
     want.deadlines.stop_all();
     want.deadlines.start(60_000, Timer::Delay);
     assert!(rt; sink.same(&want));
@@ -76,7 +76,7 @@ fn k4_an_offer_is_kept(rt: HostRuntime) {
         61_000,
         &Stimulus::SourceCapabilities(copied(&[0x0001_90C8])),
     );
-    want.offer = copied(&[0x0001_90C8]);
+    want.kept_offer = copied(&[0x0001_90C8]);
     want.deadlines.start(61_000, Timer::Delay);
     assert!(rt; sink.same(&want));
 }

@@ -1,7 +1,7 @@
 //! What a port is set to.
 
 ghost use Rattle.std.specs.Prelude.{◌≡◌, ℕ, ◌↔◌, IsTrue};
-ghost use Rattle.pd_port.specs.Settings.{SettingsData, IsSettings};
+ghost use Rattle.pd_plan.specs.Settings.{SettingsData, IsSettings};
 
 use arrayvec::ArrayVec;
 use pd_objects::Supply;
@@ -82,7 +82,7 @@ impl Settings {
     pub fn same(&self, other: &Settings) -> bool
         ensures { IsTrue result ↔ (self.now ≡ other.now) }
     {
-        self.floor_mw == other.floor_mw
+        other.floor_mw == self.floor_mw
             && same_supplies(self.supplies.as_slice(), other.supplies.as_slice())
             && self.identity_tries == other.identity_tries
             && self.unconstrained == other.unconstrained
