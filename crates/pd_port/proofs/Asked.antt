@@ -1,5 +1,5 @@
 -- What a port asks is what its source's engine asks: the step steps it once, with what `source_told` says.
-use Rattle.std.proofs.Common.{◌≡◌, ℕ, Bool, true, false, ◌&&◌, is_some, if◌then◌else◌, List, nat_lt, ◌++◌, [], ◌∷◌, length, Option, Some, None, option_and_then, refl, ◌∙◌, sym, ap, subst}
+use Rattle.std.proofs.Common.{◌≡◌, ℕ, Bool, true, false, is_some, if◌then◌else◌, nat_lt, ◌++◌, [], ◌∷◌, length, Option, Some, None, option_and_then, refl, ◌∙◌, sym, ap, subst}
 use Rattle.pd_symbols.specs.declared.channel.Channel.{Channel}
 use Rattle.pd_symbols.specs.declared.channel.Channel.TheVariants.{Sop, SopPrime}
 use Rattle.pd_header.specs.declared.side.Side.{Side}
@@ -29,7 +29,6 @@ use Rattle.pd_plan.specs.declared.event.EventKind.{EventKind}
 use Rattle.pd_plan.specs.declared.event.EventKind.TheVariants.{Attach, Detach, Demand, Lose, Damage, GetSource, GetSink}
 use Rattle.pd_plan.specs.declared.event.Happening.{Happening}
 use Rattle.pd_plan.specs.declared.event.Happening.TheVariants.{Port, Budget}
-use Rattle.pd_plan.specs.Events.{EventData}
 use Rattle.pd_plan.specs.Settings.{SettingsData}
 use Rattle.pd_line.specs.declared.notes.Fault.TheVariants.{NoGoodCrc, Ignored}
 use Rattle.pd_line.specs.declared.record.Disturbance.{Disturbance}
@@ -49,8 +48,8 @@ use Rattle.pd_port.specs.declared.due.What.{What}
 use Rattle.pd_port.specs.declared.due.What.TheVariants as what
 use Rattle.pd_port.specs.declared.entry.Entry.{Entry}
 use Rattle.pd_port.specs.Laws.{source_after_told, source_after}
-use Rattle.pd_port.specs.Happens.{detaches, disturbs, gets_source, gets_sink, happens_attached, happens_detached, port_event_happens, shed, budget_changes, event_happens}
-use Rattle.pd_port.specs.Told.{source_layer, told_if_sent, told_if_up, told_if_failed, told_of_good_crc, told_at_good_crc, told_at_time_out, told_of_reset, told_by_line, told_attached, told_detached, told_by_event, source_told, told_if_shed}
+use Rattle.pd_port.specs.Happens.{detaches, disturbs, gets_source, gets_sink, happens_attached, happens_detached, shed, budget_changes}
+use Rattle.pd_port.specs.Told.{source_layer, told_if_sent, told_if_up, told_if_failed, told_of_good_crc, told_at_good_crc, told_at_time_out, told_of_reset, told_by_line, told_attached, told_detached, source_told, told_if_shed}
 use Rattle.pd_port.specs.Port.{PortRecord, happens, begun, portstep, whole, source_settings, record_after, entry_of, ask, asks}
 
 -- What was done to w makes the source this, and is v now. Where nothing is asked, the answer doesn't matter: done to w

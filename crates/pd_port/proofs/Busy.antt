@@ -1,5 +1,5 @@
 -- While the line is busy, nothing but its own end starts anything.
-use Rattle.std.proofs.Common.{◌≡◌, ◌⊎◌, inl, inr, ℕ, Bool, true, false, is_some, nat_lt, length, List, [], ◌∷◌, ◌++◌, if◌then◌else◌, Option, Some, None, refl, ◌∙◌, ap, sym}
+use Rattle.std.proofs.Common.{◌≡◌, ◌⊎◌, inl, inr, ℕ, Bool, true, false, is_some, nat_lt, length, [], ◌∷◌, ◌++◌, if◌then◌else◌, Option, Some, None, refl, ◌∙◌, ap, sym}
 use Rattle.pd_objects.specs.declared.query.Answer.{Answer}
 use Rattle.pd_objects.specs.declared.query.Answer.TheVariants as answers
 use Rattle.pd_source.specs.Step as source
@@ -16,7 +16,7 @@ use Rattle.pd_line.specs.declared.record.Disturbance.{Disturbance}
 use Rattle.pd_line.specs.declared.record.Disturbance.TheVariants.{Lost, Damaged}
 use Rattle.pd_line.specs.declared.record.Record.{Record}
 use Rattle.pd_line.specs.declared.work.Work.{Work}
-use Rattle.pd_line.specs.Record.{with_settings, without_settings, nothing_attached}
+use Rattle.pd_line.specs.Record.{without_settings, nothing_attached}
 use Rattle.pd_line.specs.Work.{with_port, noted, sink_steps, source_steps}
 use Rattle.pd_line.specs.Lines.{is_idle, line_starts}
 use Rattle.pd_line.proofs.Kept.{choice, noted_kept, sink_steps_kept, tells_attach_kept}
@@ -26,7 +26,7 @@ use Rattle.pd_port.specs.declared.due.What.{What}
 use Rattle.pd_port.specs.declared.due.What.TheVariants as what
 use Rattle.pd_port.specs.Laws.{is_line}
 use Rattle.pd_port.specs.Happens.{detaches, disturbs, gets_source, gets_sink, happens_attached, happens_detached, port_event_happens, shed, budget_changes, event_happens, pulls_out, pulls_cable, is_detach}
-use Rattle.pd_port.specs.Port.{PortRecord, happens, begun, portstep, whole, detached, source_settings, record_after, entry_of}
+use Rattle.pd_port.specs.Port.{PortRecord, happens, begun, portstep, whole, detached, record_after, entry_of}
 
 -- a step that leaves the line busy starts nothing more
 pub portstep-busy : (r : Record) (d : Due) (given : Option Answer) → is_idle (happens d.what d.time (begun r given)).port.line ≡ false →

@@ -1,5 +1,5 @@
 -- Each deadline and each line's end that a step sets is later than the step.
-use Rattle.std.proofs.Common.{◌≡◌, ℕ, false, nat_lt, is_some, length, List, [], ◌∷◌, ◌++◌, Option, Some, None, refl}
+use Rattle.std.proofs.Common.{◌≡◌, ℕ, false, nat_lt, is_some, length, [], ◌∷◌, ◌++◌, Option, Some, None, refl}
 use Rattle.pd_header.specs.declared.side.Side.{Side}
 use Rattle.pd_header.specs.declared.side.Side.TheVariants.{Source, Sink, Plug}
 use Rattle.pd_timers.specs.declared.Timer.{Timer}
@@ -30,7 +30,7 @@ use Rattle.pd_port.specs.declared.due.Due.{Due}
 use Rattle.pd_port.specs.declared.due.What.{What}
 use Rattle.pd_port.specs.declared.due.What.TheVariants as what
 use Rattle.pd_port.specs.Laws.{without}
-use Rattle.pd_port.specs.Happens.{detaches, disturbs, gets_source, gets_sink, happens_attached, happens_detached, port_event_happens, shed, budget_changes, event_happens}
+use Rattle.pd_port.specs.Happens.{detaches, disturbs, gets_source, gets_sink, happens_attached, happens_detached, shed, budget_changes, event_happens}
 use Rattle.pd_port.specs.Port.{happens, begun, portstep, whole, record_after}
 
 -- nothing runs on a detached port

@@ -29,7 +29,7 @@ use Rattle.pd_port.specs.declared.due.What.{What}
 use Rattle.pd_port.specs.declared.due.What.TheVariants as what
 use Rattle.pd_plan.specs.Events.{EventData}
 use Rattle.pd_plan.specs.Settings.{SettingsData, floor_of}
-use Rattle.pd_port.specs.Laws.{NotBefore, pending_at, pending, without, IsOneOf, IsEarliest, source_after_told, source_after}
+use Rattle.pd_port.specs.Laws.{NotBefore, pending_at, pending, without, IsOneOf, IsEarliest, source_after_told}
 use Rattle.pd_port.specs.Happens.{is_budget, is_detach}
 use Rattle.pd_port.specs.Told.{source_told, told_if_shed}
 use Rattle.pd_port.specs.Port.{is_event, event_due, line_due, timer_due, dues, due, detached, source_settings, whole, ask, asks, record_after, hold}

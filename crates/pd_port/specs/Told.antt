@@ -1,5 +1,5 @@
 -- With what the source's engine is stepped for what falls due.
-use Rattle.std.specs.Prelude.{Bool, false, if◌then◌else◌, is_some, Option, Some, None}
+use Rattle.std.specs.Prelude.{false, if◌then◌else◌, is_some, Option, Some, None}
 use Rattle.pd_symbols.specs.declared.channel.Channel.{Channel}
 use Rattle.pd_symbols.specs.declared.channel.Channel.TheVariants.{Sop, SopPrime}
 use Rattle.pd_header.specs.declared.side.Side.{Side}
