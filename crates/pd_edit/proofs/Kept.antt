@@ -1,12 +1,14 @@
 -- An edit of the events keeps what every scenario keeps.
-use Rattle.std.proofs.Common.{◌≡◌, ℕ, ◌<◌, ◌≤◌, Bool, true, false, not, ◌&&◌, cond, List, [], ◌∷◌, ◌++◌, length, filter, map, refl, ◌∙◌, inl, inr, arith}
-use Rattle.std.specs.Prelude.{◌==◌}
-use Rattle.std.specs.List.{list_any, list_all}
+use Rattle.std.proofs.Common.{◌≡◌, ℕ, ◌<◌, ◌≤◌, Bool, true, false, not, ◌&&◌, cond, List, [], ◌∷◌, ◌++◌, length, filter, map, refl, ap, ◌∙◌, inl, inr, arith}
+use Rattle.std.specs.Prelude.{Option, Some, None, min, fold, ◌==◌}
+use Rattle.std.specs.List.{list_any, list_all, filter_map, cons_option}
 use Rattle.std.proofs.lemmas.Bool.{cases_Bool, false≢true, and_parts, or_parts}
 use Rattle.std.proofs.lemmas.Bool.Decides.{nat_tests}
-use Rattle.std.proofs.lemmas.List.{length-map, length-append}
-use Rattle.pd_scenario.specs.Contents.{Contents, IsValid, has_id, ids_differ, event_fits, names_are_known}
-use Rattle.pd_scenario.specs.Limits.{is_id, is_time, is_port}
+use Rattle.std.proofs.lemmas.List.{length-map, length-append, append-nil}
+use Rattle.std.proofs.lemmas.List.Elements.{filter_map-append}
+use Rattle.pd_scenario.specs.Contents.{Contents, IsValid, has_id, ids_differ, event_fits, happening_fits, names_are_known, budget_of, budget_in, least_budget}
+use Rattle.pd_scenario.specs.Limits.{allows}
+use Rattle.pd_scenario.specs.declared.limits.Quantity.TheVariants.{EventId, Time}
 use Rattle.pd_scenario.specs.declared.contents.ScenarioEvent.{ScenarioEvent}
 use Rattle.pd_edit.specs.Edits.{moved_event}
 
@@ -53,6 +55,30 @@ length-filter-le q (x ∷ xs) =
       | inr gone ↦ rw gone (omega arith)
     ]
 
+least_lower : (xs : List ℕ) (m k : ℕ) → m ≤ k → fold min m xs ≤ fold min k xs
+least_lower [] m k h = h
+least_lower (x ∷ xs) m k h = least_lower xs (min m x) (min k x) (omega arith)
+
+least_with : (o : Option ℕ) (xs : List ℕ) (m : ℕ) → fold min m (cons_option o xs) ≤ fold min m xs
+least_with None xs m = omega arith
+least_with (Some x) xs m = least_lower xs (min m x) m (omega arith)
+
+least_either : (o : Option ℕ) (xs ys : List ℕ) (m : ℕ) → ((k : ℕ) → fold min k xs ≤ fold min k ys) → fold min m (cons_option o xs) ≤ fold min m (cons_option o ys)
+least_either None xs ys m h = h m
+least_either (Some x) xs ys m h = h (min m x)
+
+-- fewer changes leave no lesser budget
+least_filter : (q : ScenarioEvent → Bool) (es : List ScenarioEvent) (mw : ℕ) → least_budget mw es ≤ least_budget mw (filter q es)
+least_filter q [] mw = omega arith
+least_filter q (e ∷ es) mw =
+    elim (cases_Bool (q e)) [
+      | inl kept ↦ rw kept (least_either (budget_of e) (filter_map budget_of es) (filter_map budget_of (filter q es)) mw (λ k. least_filter q es k))
+      | inr gone ↦
+          let first = least_with (budget_of e) (filter_map budget_of es) mw in
+          let rest = least_filter q es mw in
+          rw gone (omega arith)
+    ]
+
 pub valid_filter : (n : ℕ) (c : Contents) (q : ScenarioEvent → Bool) → IsValid n c → IsValid n (record c { events = filter q c.events })
 valid_filter n c q v = record {
   some_port = v.some_port;
@@ -61,15 +87,18 @@ valid_filter n c q v = record {
   few_cables = v.few_cables;
   few_sinks = v.few_sinks;
   few_events = omega (arith, length-filter-le q c.events, v.few_events);
+  settings_fit = v.settings_fit;
+  cables_named = v.cables_named;
+  sinks_named = v.sinks_named;
+  sinks_fit = v.sinks_fit;
   cables_differ = v.cables_differ;
   sinks_differ = v.sinks_differ;
   events_differ = ids_differ-filter q c.events v.events_differ;
   events_fit = list_all-filter (event_fits n) q c.events v.events_fit;
-  names_known = list_all-filter (λ e. names_are_known c.cables c.sinks e.kind) q c.events v.names_known;
-  least_budget = v.least_budget;
-  most_budget = v.most_budget;
-  funded = v.funded;
-  soon = v.soon;
+  names_known = list_all-filter (λ e. names_are_known c.cables c.sinks e.happening) q c.events v.names_known;
+  budget_fits = v.budget_fits;
+  funded = omega (arith, least_filter q c.events c.budget_mw, v.funded);
+  end_fits = v.end_fits;
 }
 
 -- ---- an event at another time
@@ -77,20 +106,27 @@ valid_filter n c q v = record {
 id_of_moved : (id at : ℕ) (e : ScenarioEvent) → (moved_event id at e).id ≡ e.id
 id_of_moved id at e = elim (e.id == id) as (λ b. (cond b (record e { at = at }) e).id ≡ e.id) [ true ↦ refl | false ↦ refl ]
 
-kind_of_moved : (id at : ℕ) (e : ScenarioEvent) → (moved_event id at e).kind ≡ e.kind
-kind_of_moved id at e = elim (e.id == id) as (λ b. (cond b (record e { at = at }) e).kind ≡ e.kind) [ true ↦ refl | false ↦ refl ]
+happening_of_moved : (id at : ℕ) (e : ScenarioEvent) → (moved_event id at e).happening ≡ e.happening
+happening_of_moved id at e = elim (e.id == id) as (λ b. (cond b (record e { at = at }) e).happening ≡ e.happening) [ true ↦ refl | false ↦ refl ]
 
 with_second : (a b b' c : Bool) → b' ≡ true → ((a && b) && c) ≡ true → ((a && b') && c) ≡ true
 with_second true true b' c is h = rw is h
 with_second true false b' c is h = absurd (false≢true h)
 with_second false b b' c is h = absurd (false≢true h)
 
-fits_moved : (n id at : ℕ) (e : ScenarioEvent) → is_time at ≡ true → event_fits n e ≡ true → event_fits n (moved_event id at e) ≡ true
+fits_moved : (n id at : ℕ) (e : ScenarioEvent) → allows Time at ≡ true → event_fits n e ≡ true → event_fits n (moved_event id at e) ≡ true
 fits_moved n id at e within h =
     elim (cases_Bool (e.id == id)) [
-      | inl same ↦ rw same (with_second (is_id e.id) (is_time e.at) (is_time at) (is_port n e.port) within h)
+      | inl same ↦ rw same (with_second (allows EventId e.id) (allows Time e.at) (allows Time at) (happening_fits n e.happening) within h)
       | inr other ↦ rw other h
     ]
+
+budgets_moved : (id at : ℕ) (es : List ScenarioEvent) → filter_map budget_of (map (moved_event id at) es) ≡ filter_map budget_of es
+budgets_moved id at [] = refl
+budgets_moved id at (e ∷ es) = rw (happening_of_moved id at e, budgets_moved id at es)
+
+least_moved : (id at : ℕ) (es : List ScenarioEvent) (mw : ℕ) → least_budget mw (map (moved_event id at) es) ≡ least_budget mw es
+least_moved id at es mw = ap (fold min mw) (budgets_moved id at es)
 
 has_id-moved : (id at k : ℕ) (es : List ScenarioEvent) → has_id (map (moved_event id at) es) k ≡ has_id es k
 has_id-moved id at k [] = refl
@@ -100,17 +136,17 @@ ids_differ-moved : (id at : ℕ) (es : List ScenarioEvent) → ids_differ (map (
 ids_differ-moved id at [] = refl
 ids_differ-moved id at (e ∷ es) = rw (id_of_moved id at e, has_id-moved id at e.id es, ids_differ-moved id at es)
 
-fits-moved : (n id at : ℕ) (es : List ScenarioEvent) → is_time at ≡ true → list_all (event_fits n) es ≡ true → list_all (event_fits n) (map (moved_event id at) es) ≡ true
+fits-moved : (n id at : ℕ) (es : List ScenarioEvent) → allows Time at ≡ true → list_all (event_fits n) es ≡ true → list_all (event_fits n) (map (moved_event id at) es) ≡ true
 fits-moved n id at [] within h = refl
 fits-moved n id at (e ∷ es) within h =
     let (here, more) = and_parts (event_fits n e) (list_all (event_fits n) es) h in
     rw (fits_moved n id at e within here, fits-moved n id at es within more)
 
-known-moved : (c : Contents) (id at : ℕ) (es : List ScenarioEvent) → list_all (λ e. names_are_known c.cables c.sinks e.kind) (map (moved_event id at) es) ≡ list_all (λ e. names_are_known c.cables c.sinks e.kind) es
+known-moved : (c : Contents) (id at : ℕ) (es : List ScenarioEvent) → list_all (λ e. names_are_known c.cables c.sinks e.happening) (map (moved_event id at) es) ≡ list_all (λ e. names_are_known c.cables c.sinks e.happening) es
 known-moved c id at [] = refl
-known-moved c id at (e ∷ es) = rw (kind_of_moved id at e, known-moved c id at es)
+known-moved c id at (e ∷ es) = rw (happening_of_moved id at e, known-moved c id at es)
 
-pub valid_moved : (n : ℕ) (c : Contents) (id at : ℕ) → is_time at ≡ true → IsValid n c → IsValid n (record c { events = map (moved_event id at) c.events })
+pub valid_moved : (n : ℕ) (c : Contents) (id at : ℕ) → allows Time at ≡ true → IsValid n c → IsValid n (record c { events = map (moved_event id at) c.events })
 valid_moved n c id at within v = record {
   some_port = v.some_port;
   few_ports = v.few_ports;
@@ -118,15 +154,18 @@ valid_moved n c id at within v = record {
   few_cables = v.few_cables;
   few_sinks = v.few_sinks;
   few_events = omega (arith, length-map c.events (moved_event id at), v.few_events);
+  settings_fit = v.settings_fit;
+  cables_named = v.cables_named;
+  sinks_named = v.sinks_named;
+  sinks_fit = v.sinks_fit;
   cables_differ = v.cables_differ;
   sinks_differ = v.sinks_differ;
   events_differ = ids_differ-moved id at c.events ∙ v.events_differ;
   events_fit = fits-moved n id at c.events within v.events_fit;
   names_known = known-moved c id at c.events ∙ v.names_known;
-  least_budget = v.least_budget;
-  most_budget = v.most_budget;
-  funded = v.funded;
-  soon = v.soon;
+  budget_fits = v.budget_fits;
+  funded = rw (least_moved id at c.events c.budget_mw) v.funded;
+  end_fits = v.end_fits;
 }
 
 -- ---- one more event
@@ -153,22 +192,33 @@ ids_differ-last (f ∷ es) e h new =
     let (first, others) = or_parts (f.id == e.id) (has_id es e.id) new in
     rw (has_id-last es e f.id (not_true _ here) (turned f.id e.id first), ids_differ-last es e more others)
 
-pub valid_last : (n : ℕ) (c : Contents) (e : ScenarioEvent) → has_id c.events e.id ≡ false → event_fits n e ≡ true → names_are_known c.cables c.sinks e.kind ≡ true → length c.events < 4096
+last_none : (o : Option ℕ) (xs : List ℕ) → o ≡ None → xs ++ cons_option o [] ≡ xs
+last_none o xs is = rw (is, append-nil)
+
+least_last : (es : List ScenarioEvent) (e : ScenarioEvent) (mw : ℕ) → budget_of e ≡ None → least_budget mw (es ++ e ∷ []) ≡ least_budget mw es
+least_last es e mw plain =
+    let same : filter_map budget_of (es ++ e ∷ []) ≡ filter_map budget_of es = filter_map-append budget_of es (e ∷ []) ∙ last_none (budget_of e) (filter_map budget_of es) plain in
+    ap (fold min mw) same
+
+pub valid_last : (n : ℕ) (c : Contents) (e : ScenarioEvent) → has_id c.events e.id ≡ false → event_fits n e ≡ true → names_are_known c.cables c.sinks e.happening ≡ true → budget_of e ≡ None → length c.events < 4096
     → IsValid n c → IsValid n (record c { events = c.events ++ e ∷ [] })
-valid_last n c e new fits known room v = record {
+valid_last n c e new fits known plain room v = record {
   some_port = v.some_port;
   few_ports = v.few_ports;
   settings_count = v.settings_count;
   few_cables = v.few_cables;
   few_sinks = v.few_sinks;
   few_events = omega (arith, length-append c.events (e ∷ []));
+  settings_fit = v.settings_fit;
+  cables_named = v.cables_named;
+  sinks_named = v.sinks_named;
+  sinks_fit = v.sinks_fit;
   cables_differ = v.cables_differ;
   sinks_differ = v.sinks_differ;
   events_differ = ids_differ-last c.events e v.events_differ new;
   events_fit = list_all-last (event_fits n) c.events e v.events_fit fits;
-  names_known = list_all-last (λ f. names_are_known c.cables c.sinks f.kind) c.events e v.names_known known;
-  least_budget = v.least_budget;
-  most_budget = v.most_budget;
-  funded = v.funded;
-  soon = v.soon;
+  names_known = list_all-last (λ f. names_are_known c.cables c.sinks f.happening) c.events e v.names_known known;
+  budget_fits = v.budget_fits;
+  funded = rw (least_last c.events e c.budget_mw plain) v.funded;
+  end_fits = v.end_fits;
 }

@@ -3,8 +3,10 @@ use Rattle.std.specs.Prelude.{◌≡◌, ℕ, Bool, false, not, ◌||◌, ◌==�
 use Rattle.pd_scenario.specs.declared.contents.ScenarioEvent.{ScenarioEvent}
 use Rattle.pd_scenario.specs.declared.contents.ScenarioEventKind.{ScenarioEventKind}
 use Rattle.pd_scenario.specs.declared.contents.ScenarioEventKind.TheVariants as scenario_event
-use Rattle.pd_scenario.specs.Contents.{Contents, has_id, names_are_known}
-use Rattle.pd_scenario.specs.Limits.{is_id, is_time, is_port, most_events}
+use Rattle.pd_scenario.specs.declared.contents.ScenarioHappening.TheVariants.{OnPort}
+use Rattle.pd_scenario.specs.declared.limits.Quantity.TheVariants.{EventId, Time}
+use Rattle.pd_scenario.specs.Contents.{Contents, has_id, kind_is_known}
+use Rattle.pd_scenario.specs.Limits.{allows, is_port, most_events}
 use Rattle.pd_edit.specs.declared.fault.EditFault.{EditFault}
 use Rattle.pd_edit.specs.declared.fault.EditFault.TheVariants.{IdTaken, NoSuchId, NoSuchPort, NoSuchName, Range, Limit, Memory}
 use Rattle.pd_edit.specs.declared.line.EditKind.{EditKind}
@@ -21,9 +23,9 @@ refuses IdTaken n c (Insert id at port kind) = has_id c.events id
 refuses NoSuchId n c (Remove id) = not (has_id c.events id)
 refuses NoSuchId n c (Move id at) = not (has_id c.events id)
 refuses NoSuchPort n c (Insert id at port kind) = not (is_port n port)
-refuses NoSuchName n c (Insert id at port kind) = not (names_are_known c.cables c.sinks (kind_of_event kind))
-refuses Range n c (Insert id at port kind) = not (is_id id) || not (is_time at)
-refuses Range n c (Move id at) = not (is_time at)
+refuses NoSuchName n c (Insert id at port kind) = not (kind_is_known c.cables c.sinks (kind_of_event kind))
+refuses Range n c (Insert id at port kind) = not (allows EventId id) || not (allows Time at)
+refuses Range n c (Move id at) = not (allows Time at)
 refuses Limit n c (Insert id at port kind) = nat_le most_events (length c.events)
 refuses _ n c _ = false
 
@@ -37,7 +39,7 @@ moved_event id at e = if e.id == id then record e { at = at } else e
 
 -- the events after an edit: a new one stands last
 abbrev pub edited_events : List ScenarioEvent → Edit → List ScenarioEvent
-edited_events events (Insert id at port kind) = events ++ record { id = id; at = at; port = port; kind = kind_of_event kind } ∷ []
+edited_events events (Insert id at port kind) = events ++ record { id = id; at = at; happening = OnPort port (kind_of_event kind) } ∷ []
 edited_events events (Remove id) = filter (λ (e : ScenarioEvent). not (e.id == id)) events
 edited_events events (Move id at) = map (moved_event id at) events
 

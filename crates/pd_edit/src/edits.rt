@@ -1,20 +1,16 @@
 //! Edits of a scenario.
 
 ghost use Rattle.std.specs.Prelude.{◌≡◌, ℕ, ◌≤◌, ◌==◌, not, [], ◌∷◌, ◌++◌, filter, map, IfOk, find};
-ghost use Rattle.pd_scenario.specs.Contents.{Contents, IsValid, names_are_known};
-ghost use Rattle.pd_scenario.specs.Limits.{is_id, is_time, is_port};
+ghost use Rattle.pd_scenario.specs.Contents.{Contents, IsValid, kind_is_known};
+ghost use Rattle.pd_scenario.specs.Limits.{is_port};
 ghost use Rattle.pd_edit.specs.Edits.{Applies, refuses, refusals, edited, edited_events, outcome, kind_of_event};
 
 use crate::change::{moved, with_event, without};
 use crate::{Edit, EditFault, EditKind};
-use pd_scenario::{Scenario, ScenarioEvent, ScenarioEventKind};
+use pd_scenario::{Quantity, Scenario, ScenarioEvent, ScenarioEventKind, ScenarioHappening};
 use std::alloc::{AllocError, Global};
 
-/// The greatest id of an event, the latest time in microseconds, and the most events.
-const MOST_ID: u64 = 1_000_000;
-
-const LATEST: u64 = 120_000_000;
-
+/// The most events.
 const MOST_EVENTS: usize = 4_096;
 
 /// What an edit may be refused for, the least number first.
@@ -26,18 +22,6 @@ const REFUSALS: [EditFault; 6] = [
     EditFault::Range,
     EditFault::Limit,
 ];
-
-fn is_id(id: u64) -> bool
-    ensures { result ≡ is_id id }
-{
-    1 <= id && id <= MOST_ID
-}
-
-fn is_time(at: u64) -> bool
-    ensures { result ≡ is_time at }
-{
-    at <= LATEST
-}
 
 fn is_port(ports: usize, port: u64) -> bool
     ensures { result ≡ is_port ports port }
@@ -55,8 +39,8 @@ fn kind_of_event(kind: &EditKind) -> ScenarioEventKind
     }
 }
 
-fn names_are_known<const N: usize>(scenario: &Scenario<N>, kind: &EditKind) -> bool
-    ensures { result ≡ names_are_known scenario.now.cables scenario.now.sinks (kind_of_event kind.now) }
+fn kind_is_known<const N: usize>(scenario: &Scenario<N>, kind: &EditKind) -> bool
+    ensures { result ≡ kind_is_known scenario.now.cables scenario.now.sinks (kind_of_event kind.now) }
 {
     let EditKind::Attach { cable, sink } = kind;
     scenario.cable(cable).is_some() && scenario.sink(sink).is_some()
@@ -71,9 +55,11 @@ fn refuses<const N: usize>(fault: EditFault, scenario: &Scenario<N>, edit: &Edit
         (EditFault::NoSuchId, Edit::Remove { id }) => !scenario.has_id(*id),
         (EditFault::NoSuchId, Edit::Move { id, .. }) => !scenario.has_id(*id),
         (EditFault::NoSuchPort, Edit::Insert { port, .. }) => !is_port(N, *port),
-        (EditFault::NoSuchName, Edit::Insert { kind, .. }) => !names_are_known(scenario, kind),
-        (EditFault::Range, Edit::Insert { id, at, .. }) => !is_id(*id) || !is_time(*at),
-        (EditFault::Range, Edit::Move { at, .. }) => !is_time(*at),
+        (EditFault::NoSuchName, Edit::Insert { kind, .. }) => !kind_is_known(scenario, kind),
+        (EditFault::Range, Edit::Insert { id, at, .. }) => {
+            !Quantity::EventId.allows(*id) || !Quantity::Time.allows(*at)
+        },
+        (EditFault::Range, Edit::Move { at, .. }) => !Quantity::Time.allows(*at),
         (EditFault::Limit, Edit::Insert { .. }) => scenario.events().len() >= MOST_EVENTS,
         _ => false,
     }
@@ -106,8 +92,10 @@ fn edited_events<const N: usize>(
             let event = ScenarioEvent {
                 id: *id as u32,
                 at: *at as u32,
-                port: *port as u32,
-                kind: kind_of_event(kind),
+                happening: ScenarioHappening::OnPort {
+                    port: *port as u32,
+                    kind: kind_of_event(kind),
+                },
             };
             with_event(alloc, events, event)
         }

@@ -1,20 +1,134 @@
 -- The plan of a valid scenario is a plan.
-use Rattle.std.proofs.Common.{◌≡◌, ℕ, ◌+◌, ◌*◌, ◌<◌, ◌≤◌, Bool, List, [], ◌∷◌, length, map, filter, fold, refl, ◌∙◌, inl, inr, arith, add-one}
-use Rattle.std.specs.Prelude.{sum, sum_by, Some, slice_get, ◌==◌}
-use Rattle.std.specs.List.{range_with_len}
-use Rattle.std.proofs.lemmas.Bool.{cases_Bool, cases_lt}
+use Rattle.std.proofs.Common.{◌≡◌, ℕ, ◌+◌, ◌*◌, ◌<◌, ◌≤◌, ◌⊎◌, ◌↔◌, Bool, true, false, not, ◌&&◌, cond, List, [], ◌∷◌, length, map, fold, refl, sym, ap, ◌∙◌, inl, inr, arith, add-one, Some, None}
+use Rattle.std.specs.Prelude.{Option, option_map, sum, sum_by, slice_get, ◌==◌, nat_le, Contains}
+use Rattle.std.specs.List.{range_with_len, filter_map, list_any, list_all}
+use Rattle.std.proofs.lemmas.Bool.{cases_Bool, cases_lt, false≢true, and_parts, or_left, not-true}
+use Rattle.std.proofs.lemmas.Bool.Decides.{nat_tests}
 use Rattle.std.proofs.lemmas.List.{length-map, get_or_past}
 use Rattle.std.proofs.lemmas.List.Sums.{sum_by-cons}
 use Rattle.std.proofs.lemmas.List.FromFn.{get_or-map-range_with_len, length-map-range_with_len}
-use Rattle.std.proofs.lemmas.List.Sorted.{length_permutation}
 use Rattle.pd_plan.specs.Events.{EventData}
+use Rattle.pd_plan.specs.declared.event.Happening.{Happening}
+use Rattle.pd_plan.specs.declared.event.Happening.TheVariants as happens
+use Rattle.pd_plan.specs.declared.event.Happening.TheVariants.{Port}
 use Rattle.pd_plan.specs.Settings.{SettingsData, floor_of}
+use Rattle.pd_scenario.specs.declared.budget.BudgetChange.{BudgetChange}
+use Rattle.pd_scenario.specs.declared.contents.NamedCable.{NamedCable}
+use Rattle.pd_scenario.specs.declared.contents.NamedSink.{NamedSink}
+use Rattle.pd_scenario.specs.declared.contents.ScenarioHappening.{ScenarioHappening}
+use Rattle.pd_scenario.specs.declared.contents.ScenarioHappening.TheVariants.{OnPort, Budget}
+use Rattle.pd_scenario.specs.declared.contents.ScenarioEventKind.{ScenarioEventKind}
 use Rattle.pd_scenario.specs.declared.contents.ScenarioEvent.{ScenarioEvent}
-use Rattle.pd_scenario.specs.Plan.{IsPlan, ComesBefore, script_of}
-use Rattle.pd_scenario.specs.Contents.{Contents, IsValid}
-use Rattle.pd_scenario.specs.Script.{script, resolved, own_events, put}
-use Rattle.pd_scenario.specs.Plans.{plan_of, IsScript}
-use Rattle.pd_scenario.proofs.Ordered.{put-each, InOrder-each, adjacent}
+use Rattle.pd_scenario.specs.declared.limits.Quantity.TheVariants as quantity
+use Rattle.pd_scenario.specs.Limits.{allows}
+use Rattle.pd_scenario.specs.Plan.{IsPlan, ComesBefore, script_of, number_of, told_at, force, budget_after, last_change}
+use Rattle.pd_scenario.specs.Contents.{Contents, IsValid, has_id, ids_differ, event_fits, happening_fits, budget_in, budget_of}
+use Rattle.pd_scenario.specs.Script.{script, events_for, event_for, seen_by, resolved, put}
+use Rattle.pd_scenario.specs.Plans.{plan_of, change_in, change_of, changes_of, IsScript}
+use Rattle.pd_scenario.proofs.Lists.{cases, none, passes, From, filter_map_from, filter_map_has, length-filter_map, least_first, least_of}
+use Rattle.pd_scenario.proofs.Ordered.{SamePlace, InOrder-each, each_only, each_all, length-each, adjacent, from_adjacent, one_order}
+use Rattle.pd_scenario.proofs.Forces.{last_is_there}
+
+-- ---- two events of a port at one time and number are the same
+
+id_there : (es : List ScenarioEvent) (e : ScenarioEvent) (k : ℕ) → Contains es e → e.id ≡ k → has_id es k ≡ true
+id_there [] e k h is = absurd (none e h)
+id_there (f ∷ es) e k h is =
+    elim (cases f e es h) [
+      | inl first ↦ let here : (f.id == k) ≡ true = rw (first, is) (grind (arith, nat_tests)) in rw here
+      | inr later ↦ let rest = id_there es e k later is in elim (cases_Bool (f.id == k)) [ inl now ↦ rw now | inr other ↦ rw (other, rest) ]
+    ]
+
+one_id : (es : List ScenarioEvent) (e f : ScenarioEvent) → ids_differ es ≡ true → Contains es e → Contains es f → e.id ≡ f.id → e ≡ f
+one_id [] e f differ e_there f_there ids = absurd (none e e_there)
+one_id (x ∷ es) e f differ e_there f_there ids =
+    let (alone, more) = and_parts (not (has_id es x.id)) (ids_differ es) differ in
+    let new = not-true (has_id es x.id) alone in
+    elim (cases x e es e_there) [
+      | inl first ↦
+          elim (cases x f es f_there) [
+            | inl second ↦ sym first ∙ second
+            | inr later ↦ absurd (false≢true (sym new ∙ id_there es f x.id later (rw first (sym ids))))
+          ]
+      | inr early ↦
+          elim (cases x f es f_there) [
+            | inl second ↦ absurd (false≢true (sym new ∙ id_there es e x.id early (rw second ids)))
+            | inr later ↦ one_id es e f more early later ids
+          ]
+    ]
+
+nothing_is : {X : Type 0} (x : X) → None ≡ Some x → ⊥
+nothing_is x h = cc
+
+unwrapped : {X : Type 0} (x y : X) → Some x ≡ Some y → x ≡ y
+unwrapped x y h = cc
+
+-- what a port is shown
+shown : (b : Bool) (what : Happening) (at : ℕ) (x : EventData) → option_map (λ (happening : Happening). record { at = at; happening = happening }) (cond b (Some what) None) ≡ Some x
+    → record { at = at; happening = what } ≡ x
+shown true what at x is = unwrapped (record { at = at; happening = what }) x is
+shown false what at x is = absurd (nothing_is x is)
+
+same_kind : (p q : ℕ) (k l : ScenarioEventKind) → OnPort p k ≡ OnPort q l → k ≡ l
+same_kind p q k l is = cc
+
+-- two events of one time and number are the same, where one id has one happening
+alike : (cables : List NamedCable) (sinks : List NamedSink) (port id other at also : ℕ) (h k : ScenarioHappening) (x y : EventData) → 1 ≤ id → 1 ≤ other → (id ≡ other → h ≡ k)
+    → option_map (λ (happening : Happening). record { at = at; happening = happening }) (seen_by cables sinks port id h) ≡ Some x
+    → option_map (λ (happening : Happening). record { at = also; happening = happening }) (seen_by cables sinks port other k) ≡ Some y → SamePlace x y → x ≡ y
+alike cables sinks port id other at also (OnPort p k) (OnPort q l) x y first second same a b place =
+    let left = shown (p == port) (Port id (resolved cables sinks k)) at x a in
+    let right = shown (q == port) (Port other (resolved cables sinks l)) also y b in
+    let times : at ≡ also = ap (λ (e : EventData). e.at) left ∙ place.at ∙ sym (ap (λ (e : EventData). e.at) right) in
+    let ids : id ≡ other = ap (λ (e : EventData). number_of e.happening) left ∙ place.number ∙ sym (ap (λ (e : EventData). number_of e.happening) right) in
+    let kinds = same_kind p q k l (same ids) in
+    sym left ∙ rw (times, ids, kinds) right
+alike cables sinks port id other at also (OnPort p k) (Budget mw) x y first second same a b place =
+    let left = shown (p == port) (Port id (resolved cables sinks k)) at x a in
+    let right = shown true happens.Budget also y b in
+    let number : id ≡ 0 = ap (λ (e : EventData). number_of e.happening) left ∙ place.number ∙ sym (ap (λ (e : EventData). number_of e.happening) right) in
+    absurd (omega arith)
+alike cables sinks port id other at also (Budget mw) (OnPort q l) x y first second same a b place =
+    let left = shown true happens.Budget at x a in
+    let right = shown (q == port) (Port other (resolved cables sinks l)) also y b in
+    let number : 0 ≡ other = ap (λ (e : EventData). number_of e.happening) left ∙ place.number ∙ sym (ap (λ (e : EventData). number_of e.happening) right) in
+    absurd (omega arith)
+alike cables sinks port id other at also (Budget mw) (Budget nw) x y first second same a b place =
+    let left = shown true happens.Budget at x a in
+    let right = shown true happens.Budget also y b in
+    let times : at ≡ also = ap (λ (e : EventData). e.at) left ∙ place.at ∙ sym (ap (λ (e : EventData). e.at) right) in
+    sym left ∙ rw times right
+
+from_one : (n : ℕ) (e : ScenarioEvent) → event_fits n e ≡ true → 1 ≤ e.id
+from_one n e h =
+    let numbers = (and_parts (allows quantity.EventId e.id && allows quantity.Time e.at) (happening_fits n e.happening) h).0 in
+    let id = (and_parts (allows quantity.EventId e.id) (allows quantity.Time e.at) numbers).0 in
+    let least = (and_parts (nat_le 1 e.id) (nat_le e.id 1000000) id).0 in
+    grind (arith, nat_tests)
+
+made_alike : (n : ℕ) (c : Contents) → IsValid n c → (port : ℕ) (x y : EventData) → Contains (events_for c.cables c.sinks port c.events) x → Contains (events_for c.cables c.sinks port c.events) y → SamePlace x y → x ≡ y
+made_alike n c valid port x y a b place =
+    let left = filter_map_from (event_for c.cables c.sinks port) c.events x a in
+    let right = filter_map_from (event_for c.cables c.sinks port) c.events y b in
+    let first = from_one n left.of (passes (event_fits n) c.events left.of valid.events_fit left.there) in
+    let second = from_one n right.of (passes (event_fits n) c.events right.of valid.events_fit right.there) in
+    alike c.cables c.sinks port left.of.id right.of.id left.of.at right.of.at left.of.happening right.of.happening x y first second (
+    λ ids. ap (λ (e : ScenarioEvent). e.happening) (one_id c.events left.of right.of valid.events_differ left.there right.there ids)
+    ) left.is right.is place
+
+script_is : (n : ℕ) (c : Contents) → IsValid n c → (port : ℕ) → IsScript c port (script c.cables c.sinks c.events port)
+unfolding script
+script_is n c valid port =
+    let made = events_for c.cables c.sinks port c.events in
+    record {
+      all = λ x. (
+        λ h. elim (each_only [] made x h) [ inl early ↦ absurd (none x early) | inr later ↦ later ],
+        λ h. each_all (λ e. Contains made e) (made_alike n c valid port) [] made (λ e nowhere. absurd (none e nowhere)) (λ e at. at) x (inr h),
+      );
+      in_order = λ i e f a b. adjacent (fold put [] made) i e f (InOrder-each [] made tt) a (rw (← add-one) b);
+    }
+
+-- ---- the plan
 
 sum-floors : (xs : List SettingsData) → sum (map floor_of xs) ≡ sum_by (λ (s : SettingsData). s.floor_mw) xs * 1000
 sum-floors [] = refl
@@ -24,37 +138,24 @@ sum-floors (x ∷ xs) =
     let right = sum_by-cons (λ (s : SettingsData). s.floor_mw) x xs in
     omega (arith, rest, left, right)
 
-length-filter-le : {X : Type 0} (own : X → Bool) (xs : List X) → length (filter own xs) ≤ length xs
-length-filter-le own [] = omega arith
-length-filter-le own (x ∷ xs) =
-    let rest = length-filter-le own xs in
-    elim (cases_Bool (own x)) [
-      | inl kept ↦ rw kept (omega arith)
-      | inr gone ↦ rw gone (omega arith)
-    ]
-
 pub script_of-plan_of : (c : Contents) (p : ℕ) → p < length c.settings → script_of (plan_of c) p ≡ script c.cables c.sinks c.events (p + 1)
 unfolding plan_of
 script_of-plan_of c p h = get_or-map-range_with_len (script c.cables c.sinks c.events) 1 (length c.settings) p (p + 1) [] h (omega arith)
-
-script_is : (n : ℕ) (c : Contents) → IsValid n c → (port : ℕ) → IsScript c port (script c.cables c.sinks c.events port)
-unfolding script
-script_is n c valid port =
-    let made = map (resolved c.cables c.sinks) (own_events c.events port) in
-    let order = InOrder-each c.cables c.sinks (λ (e : ScenarioEvent). e.port == port) [] c.events tt valid.events_differ (λ k h. refl) in
-    record {
-      all = put-each [] made;
-      in_order = λ i e f a b. adjacent (fold put [] made) i e f order a (rw (← add-one) b);
-    }
 
 pub script_is_in_order : (n : ℕ) (c : Contents) → IsValid n c → (p : ℕ) → p < n → IsScript c (p + 1) (script_of (plan_of c) p)
 script_is_in_order n c valid p h =
     rw (script_of-plan_of c p (omega (arith, valid.settings_count))) (script_is n c valid (p + 1))
 
+pub one_script : (c : Contents) (port : ℕ) (events others : List EventData) → IsScript c port events → IsScript c port others → events ≡ others
+one_script c port events others left right =
+    one_order events others (from_adjacent events left.in_order) (from_adjacent others right.in_order) (λ x h. (right.all x).1 ((left.all x).0 h)) (λ x h. (left.all x).1 ((right.all x).0 h))
+
 length-script : (n : ℕ) (c : Contents) → IsValid n c → (port : ℕ) → length (script c.cables c.sinks c.events port) ≤ 4096
+unfolding script
 length-script n c valid port =
-    let same = length_permutation _ _ (script_is n c valid port).all in
-    omega (arith, same, length-map (own_events c.events port) (resolved c.cables c.sinks), length-filter-le (λ (e : ScenarioEvent). e.port == port) c.events, valid.few_events)
+    let made = length-filter_map (event_for c.cables c.sinks port) c.events in
+    let put_each = length-each [] (events_for c.cables c.sinks port c.events) in
+    omega (arith, made, put_each, valid.few_events)
 
 no_script : (n : ℕ) (c : Contents) → IsValid n c → (p : ℕ) → n ≤ p → script_of (plan_of c) p ≡ []
 unfolding plan_of
@@ -73,6 +174,80 @@ scripts_in_order n c valid p i e f a b =
       | inr outside ↦ absurd (nothing i e (rw (no_script n c valid p outside) at a))
     ]
 
+-- ---- the budget
+
+-- what a change of the budget is, by its event
+record Changes (h : ScenarioHappening) (at : ℕ) (change : BudgetChange) : Type 0 where
+  mw : ℕ
+  is : budget_in h ≡ Some mw
+  budget : change.budget ≡ mw * 1000
+  few : mw ≤ 1000000
+  time : change.at ≡ at
+
+changes_by : (n id at : ℕ) (h : ScenarioHappening) (change : BudgetChange) → happening_fits n h ≡ true → change_in id at h ≡ Some change → Changes h at change
+changes_by n id at (OnPort port kind) change fits is = absurd (nothing_is change is)
+changes_by n id at (Budget mw) change fits is =
+    let same = unwrapped (record { id = id; at = at; budget = mw * 1000 }) change is in
+    let most = (and_parts (nat_le 500 mw) (nat_le mw 1000000) fits).1 in
+    record {
+      mw = mw;
+      is = refl;
+      budget = sym (ap (λ (c : BudgetChange). c.budget) same);
+      few = grind (arith, nat_tests);
+      time = sym (ap (λ (c : BudgetChange). c.at) same);
+    }
+
+changes : (n : ℕ) (e : ScenarioEvent) (change : BudgetChange) → event_fits n e ≡ true → change_of e ≡ Some change → Changes e.happening e.at change
+changes n e change fits is =
+    changes_by n e.id e.at e.happening change ((and_parts (allows quantity.EventId e.id && allows quantity.Time e.at) (happening_fits n e.happening) fits).1) is
+
+-- each change leaves room for the floors
+record Funds (c : Contents) (budget : ℕ) : Type 0 where
+  enough : sum (map floor_of c.settings) ≤ budget
+  few : budget ≤ 1000000000
+
+plan_funds : (n : ℕ) (c : Contents) → IsValid n c → Funds c (c.budget_mw * 1000)
+plan_funds n c valid =
+    let floors = sum-floors c.settings in
+    let least = least_first (filter_map budget_of c.events) c.budget_mw in
+    let most = (and_parts (nat_le 500 c.budget_mw) (nat_le c.budget_mw 1000000) valid.budget_fits).1 in
+    let few : c.budget_mw ≤ 1000000 = grind (arith, nat_tests) in
+    record { enough = omega (arith, floors, least, valid.funded); few = omega (arith, few) }
+
+change_funds : (n : ℕ) (c : Contents) → IsValid n c → (change : BudgetChange) → Contains (changes_of c.events) change → Funds c change.budget
+change_funds n c valid change there =
+    let from = filter_map_from change_of c.events change there in
+    let made = changes n from.of change (passes (event_fits n) c.events from.of valid.events_fit from.there) from.is in
+    let floors = sum-floors c.settings in
+    let least = least_of (filter_map budget_of c.events) c.budget_mw made.mw (filter_map_has budget_of c.events from.of made.mw from.there made.is) in
+    record { enough = omega (arith, floors, least, valid.funded, made.budget); few = omega (arith, made.budget, made.few) }
+
+after : (P : ℕ → Type 0) (budget : ℕ) (last : Option BudgetChange) → P budget → ((change : BudgetChange) → last ≡ Some change → P change.budget) → P (budget_after budget last)
+after P budget None plain changed = plain
+after P budget (Some change) plain changed = changed change refl
+
+force_funds : (n : ℕ) (c : Contents) → IsValid n c → (at : ℕ) → Funds c (force (plan_of c) at)
+unfolding force plan_of
+force_funds n c valid at =
+    after (Funds c) (c.budget_mw * 1000) (last_change (changes_of c.events) at) (plan_funds n c valid)
+    (λ change is. change_funds n c valid change (last_is_there (changes_of c.events) at change is))
+
+-- each change is told to each port
+told_by : (cables : List NamedCable) (sinks : List NamedSink) (port id at : ℕ) (h : ScenarioHappening) (mw : ℕ) (change : BudgetChange) → budget_in h ≡ Some mw → change.at ≡ at
+    → option_map (λ (happening : Happening). record { at = at; happening = happening }) (seen_by cables sinks port id h) ≡ Some (told_at change.at)
+told_by cables sinks port id at (OnPort p k) mw change is times = absurd (nothing_is mw is)
+told_by cables sinks port id at (Budget nw) mw change is times = rw (← times) refl
+
+told : (n : ℕ) (c : Contents) → IsValid n c → (p : ℕ) → p < n → (change : BudgetChange) → Contains (changes_of c.events) change → Contains (script_of (plan_of c) p) (told_at change.at)
+told n c valid p h change there =
+    let from = filter_map_from change_of c.events change there in
+    let made = changes n from.of change (passes (event_fits n) c.events from.of valid.events_fit from.there) from.is in
+    let event = told_by c.cables c.sinks (p + 1) from.of.id from.of.at from.of.happening made.mw change made.is made.time in
+    ((script_is_in_order n c valid p h).all (told_at change.at)).1 (filter_map_has (event_for c.cables c.sinks (p + 1)) c.events from.of (told_at change.at) from.there event)
+
+soon : (end : ℕ) → allows quantity.Time end ≡ true → end ≤ 120000000
+soon end h = grind (arith, nat_tests)
+
 pub valid_is_plan : (n : ℕ) (c : Contents) → IsValid n c → IsPlan n (plan_of c)
 unfolding plan_of
 valid_is_plan n c valid = record {
@@ -80,9 +255,12 @@ valid_is_plan n c valid = record {
   scripts_count = length-map-range_with_len (script c.cables c.sinks c.events) 1 (length c.settings) ∙ valid.settings_count;
   some_port = valid.some_port;
   few_ports = valid.few_ports;
-  funded = let e = sum-floors c.settings in omega (arith, e, valid.funded);
-  most_budget = omega (arith, valid.most_budget);
-  soon = valid.soon;
+  funded = (plan_funds n c valid).enough;
+  most_budget = (plan_funds n c valid).few;
+  always_funded = λ at. (force_funds n c valid at).enough;
+  most_force = λ at. (force_funds n c valid at).few;
+  soon = soon c.end_us valid.end_fits;
   brief = λ p h. rw (script_of-plan_of c p (omega (arith, valid.settings_count))) (length-script n c valid (p + 1));
   in_order = scripts_in_order n c valid;
+  told = told n c valid;
 }

@@ -1,15 +1,18 @@
 -- What a scenario holds, and what each keeps.
-use Rattle.std.specs.Prelude.{◌≡◌, ℕ, ◌≤◌, Bool, true, not, ◌&&◌, ◌==◌, List, [], ◌∷◌, length, map, find, sum_by, Option, option_map, is_some, bytes_eq}
-use Rattle.std.specs.List.{list_any, list_all}
+use Rattle.std.specs.Prelude.{◌≡◌, ℕ, ◌≤◌, Bool, true, not, ◌&&◌, ◌==◌, List, [], ◌∷◌, length, map, find, fold, min, sum_by, Option, Some, None, option_map, is_some, bytes_eq, All}
+use Rattle.std.specs.List.{list_any, list_all, filter_map}
 use Rattle.pd_identity.specs.declared.Cable.{Cable}
-use Rattle.pd_sink.specs.Settings.{SinkData}
-use Rattle.pd_plan.specs.Settings.{SettingsData}
-use Rattle.pd_scenario.specs.Limits as limit
-use Rattle.pd_scenario.specs.Limits.{is_id, is_time, is_port, most_ports, most_names, most_events, latest_end}
+use Rattle.pd_sink.specs.Settings.{SinkData, IsSink}
+use Rattle.pd_plan.specs.Settings.{SettingsData, IsSettings}
+use Rattle.pd_scenario.specs.Names.{is_name}
+use Rattle.pd_scenario.specs.Limits.{allows, is_port, most_ports, most_names, most_events}
+use Rattle.pd_scenario.specs.declared.limits.Quantity.TheVariants as quantity
 use Rattle.pd_scenario.specs.declared.contents.NamedCable.{NamedCable}
 use Rattle.pd_scenario.specs.declared.contents.NamedSink.{NamedSink}
 use Rattle.pd_scenario.specs.declared.contents.ScenarioEventKind.{ScenarioEventKind}
-use Rattle.pd_scenario.specs.declared.contents.ScenarioEventKind.TheVariants.{Attach}
+use Rattle.pd_scenario.specs.declared.contents.ScenarioEventKind.TheVariants.{Attach, Detach, Demand, Lose, Damage, GetSource, GetSink}
+use Rattle.pd_scenario.specs.declared.contents.ScenarioHappening.{ScenarioHappening}
+use Rattle.pd_scenario.specs.declared.contents.ScenarioHappening.TheVariants.{OnPort, Budget}
 use Rattle.pd_scenario.specs.declared.contents.ScenarioEvent.{ScenarioEvent}
 
 -- the settings of the ports, cables, sinks and events in the order of their making, the budget in mW and the end in
@@ -43,13 +46,48 @@ abbrev pub ids_differ : List ScenarioEvent → Bool
 ids_differ [] = true
 ids_differ (e ∷ events) = not (has_id events e.id) && ids_differ events
 
--- the names of an event are there
-abbrev pub names_are_known : List NamedCable → List NamedSink → ScenarioEventKind → Bool
-names_are_known cables sinks (Attach cable sink) = is_some (cable_named cables cable) && is_some (sink_named sinks sink)
+-- the cable and the sink that an attach names are there
+abbrev pub kind_is_known : List NamedCable → List NamedSink → ScenarioEventKind → Bool
+kind_is_known cables sinks (Attach cable sink) = is_some (cable_named cables cable) && is_some (sink_named sinks sink)
+kind_is_known cables sinks Detach = true
+kind_is_known cables sinks (Demand mw) = true
+kind_is_known cables sinks Lose = true
+kind_is_known cables sinks (Damage damage) = true
+kind_is_known cables sinks GetSource = true
+kind_is_known cables sinks GetSink = true
 
--- an event's id and time are in their ranges, and its port is one of n
+abbrev pub names_are_known : List NamedCable → List NamedSink → ScenarioHappening → Bool
+names_are_known cables sinks (OnPort port kind) = kind_is_known cables sinks kind
+names_are_known cables sinks (Budget mw) = true
+
+-- the numbers of an event are within their limits, and its port is one of n
+abbrev pub kind_fits : ScenarioEventKind → Bool
+kind_fits (Attach cable sink) = is_name cable && is_name sink
+kind_fits Detach = true
+kind_fits (Demand mw) = allows quantity.Demand mw
+kind_fits Lose = true
+kind_fits (Damage damage) = allows quantity.DamagePlace damage.place && allows quantity.DamageMask damage.mask
+kind_fits GetSource = true
+kind_fits GetSink = true
+
+abbrev pub happening_fits : ℕ → ScenarioHappening → Bool
+happening_fits n (OnPort port kind) = is_port n port && kind_fits kind
+happening_fits n (Budget mw) = allows quantity.Budget mw
+
 abbrev pub event_fits : ℕ → ScenarioEvent → Bool
-event_fits n e = (is_id e.id && is_time e.at) && is_port n e.port
+event_fits n e = (allows quantity.EventId e.id && allows quantity.Time e.at) && happening_fits n e.happening
+
+-- the budget that an event changes to, in mW
+abbrev pub budget_in : ScenarioHappening → Option ℕ
+budget_in (OnPort port kind) = None
+budget_in (Budget mw) = Some mw
+
+abbrev pub budget_of : ScenarioEvent → Option ℕ
+budget_of e = budget_in e.happening
+
+-- the least of the scenario's budget and those of its events, in mW
+abbrev pub least_budget : ℕ → List ScenarioEvent → ℕ
+least_budget mw events = fold min mw (filter_map budget_of events)
 
 -- what every scenario of n ports keeps
 pub record IsValid (n : ℕ) (c : Contents) : Type 0 where
@@ -59,12 +97,15 @@ pub record IsValid (n : ℕ) (c : Contents) : Type 0 where
   pub few_cables : length c.cables ≤ most_names
   pub few_sinks : length c.sinks ≤ most_names
   pub few_events : length c.events ≤ most_events
+  pub settings_fit : All IsSettings c.settings
+  pub cables_named : list_all (λ (cable : NamedCable). is_name cable.name) c.cables ≡ true
+  pub sinks_named : list_all (λ (sink : NamedSink). is_name sink.name) c.sinks ≡ true
+  pub sinks_fit : All (λ (sink : NamedSink). IsSink sink.sink) c.sinks
   pub cables_differ : names_differ (map (λ (cable : NamedCable). cable.name) c.cables) ≡ true
   pub sinks_differ : names_differ (map (λ (sink : NamedSink). sink.name) c.sinks) ≡ true
   pub events_differ : ids_differ c.events ≡ true
   pub events_fit : list_all (event_fits n) c.events ≡ true
-  pub names_known : list_all (λ (e : ScenarioEvent). names_are_known c.cables c.sinks e.kind) c.events ≡ true
-  pub least_budget : limit.least_budget ≤ c.budget_mw
-  pub most_budget : c.budget_mw ≤ limit.most_budget
-  pub funded : sum_by (λ (s : SettingsData). s.floor_mw) c.settings ≤ c.budget_mw
-  pub soon : c.end_us ≤ latest_end
+  pub names_known : list_all (λ (e : ScenarioEvent). names_are_known c.cables c.sinks e.happening) c.events ≡ true
+  pub budget_fits : allows quantity.Budget c.budget_mw ≡ true
+  pub funded : sum_by (λ (s : SettingsData). s.floor_mw) c.settings ≤ least_budget c.budget_mw c.events
+  pub end_fits : allows quantity.Time c.end_us ≡ true

@@ -8,6 +8,7 @@ use Rattle.pd_plan.specs.Settings.{SettingsData}
 use Rattle.pd_scenario.specs.declared.contents.NamedCable.{NamedCable}
 use Rattle.pd_scenario.specs.declared.contents.NamedSink.{NamedSink}
 use Rattle.pd_scenario.specs.declared.contents.ScenarioEventKind.TheVariants.{Attach}
+use Rattle.pd_scenario.specs.declared.contents.ScenarioHappening.TheVariants.{OnPort}
 use Rattle.pd_scenario.specs.declared.contents.ScenarioEvent.{ScenarioEvent}
 use Rattle.pd_scenario.specs.Contents.{Contents}
 
@@ -22,7 +23,7 @@ abbrev pub first_sink : NamedSink
 first_sink = record { name = codes "phone"; sink = record { max_mv = 5000; demand_mw = 15000; mode = PowerDelivery; revision = Revision3 } }
 
 abbrev pub first_event : ScenarioEvent
-first_event = record { id = 1; at = 0; port = 1; kind = Attach (codes "thin") (codes "phone") }
+first_event = record { id = 1; at = 0; happening = OnPort 1 (Attach (codes "thin") (codes "phone")) }
 
 abbrev pub first : Contents
 first = record {

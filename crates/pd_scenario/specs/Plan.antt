@@ -1,13 +1,17 @@
 -- What a scenario asks of a charger.
-use Rattle.std.specs.Prelude.{◌≡◌, ℕ, ◌≤◌, ◌<◌, ◌⊎◌, ◌+◌, false, List, [], length, map, sum, Some, slice_get, slice_index_or}
+use Rattle.std.specs.Prelude.{◌≡◌, ℕ, ◌≤◌, ◌<◌, ◌⊎◌, ◌+◌, Bool, true, false, ◌&&◌, ◌||◌, ◌==◌, nat_le, nat_lt, List, [], length, map, fold, sum, Option, Some, None, slice_get, slice_index_or, Contains, if◌then◌else◌}
 use Rattle.pd_plan.specs.Settings.{SettingsData, floor_of}
 use Rattle.pd_plan.specs.Events.{EventData}
+use Rattle.pd_plan.specs.declared.event.Happening.{Happening}
+use Rattle.pd_plan.specs.declared.event.Happening.TheVariants.{Port, Budget}
+use Rattle.pd_scenario.specs.declared.budget.BudgetChange.{BudgetChange}
 
--- the settings and the events of each port, the shared budget in microwatts, and the end in microseconds
+-- the settings and the events of each port, the shared budget in microwatts, its changes, and the end in microseconds
 pub record Plan : Type 0 where
   pub settings : List SettingsData
   pub scripts : List (List EventData)
   pub budget : ℕ
+  pub forces : List BudgetChange
   pub end : ℕ
 
 -- stands where there is no port
@@ -30,12 +34,42 @@ script_of plan p = slice_index_or plan.scripts p []
 abbrev pub floors_of : Plan → List ℕ
 floors_of plan = map floor_of plan.settings
 
--- an event comes before another by its time, and at one time by its id
-abbrev pub ComesBefore : EventData → EventData → Type 0
-ComesBefore e f = (e.at < f.at) ⊎ ((e.at ≡ f.at) × (e.id < f.id))
+-- the number of what happens at an instant: its id, and 0 for a change of the budget, which so comes first
+abbrev pub number_of : Happening → ℕ
+number_of (Port id kind) = id
+number_of Budget = 0
 
--- What the plan of each scenario of n ports keeps: floors within the budget, an end within two minutes, and few events,
--- in the order of their times and ids.
+-- an event comes before another by its time, and at one time by its number
+abbrev pub ComesBefore : EventData → EventData → Type 0
+ComesBefore e f = (e.at < f.at) ⊎ ((e.at ≡ f.at) × (number_of e.happening < number_of f.happening))
+
+-- what tells a port that the budget changes at a time
+abbrev pub told_at : ℕ → EventData
+told_at at = record { at = at; happening = Budget }
+
+-- a change is later than the last one known, by its time and at one time by its id
+abbrev pub is_later : Option BudgetChange → BudgetChange → Bool
+is_later None change = true
+is_later (Some last) change = nat_lt last.at change.at || ((last.at == change.at) && nat_lt last.id change.id)
+
+-- the last one known at a time, with one more change
+abbrev pub with_change : ℕ → Option BudgetChange → BudgetChange → Option BudgetChange
+with_change at last change = if nat_le change.at at && is_later last change then Some change else last
+
+-- the last of the changes at or before a time. The law `force_is_last` says which one that is.
+abbrev pub last_change : List BudgetChange → ℕ → Option BudgetChange
+last_change changes at = fold (with_change at) None changes
+
+abbrev pub budget_after : ℕ → Option BudgetChange → ℕ
+budget_after budget None = budget
+budget_after budget (Some change) = change.budget
+
+-- the budget at a time, in microwatts: that of the last change at or before it, else the plan's
+unfoldable pub force : Plan → ℕ → ℕ
+force plan at = budget_after plan.budget (last_change plan.forces at)
+
+-- What the plan of each scenario of n ports keeps: floors within the budget at all times, an end within two minutes, few
+-- events, in the order of their times and numbers, and among them one for each change of the budget.
 pub record IsPlan (n : ℕ) (plan : Plan) : Type 0 where
   pub settings_count : length plan.settings ≡ n
   pub scripts_count : length plan.scripts ≡ n
@@ -43,7 +77,11 @@ pub record IsPlan (n : ℕ) (plan : Plan) : Type 0 where
   pub few_ports : n ≤ 8
   pub funded : sum (floors_of plan) ≤ plan.budget
   pub most_budget : plan.budget ≤ 1000000000
+  pub always_funded : (at : ℕ) → sum (floors_of plan) ≤ force plan at
+  pub most_force : (at : ℕ) → force plan at ≤ 1000000000
   pub soon : plan.end ≤ 120000000
   pub brief : (p : ℕ) → p < n → length (script_of plan p) ≤ 4096
   pub in_order : (p i : ℕ) (e f : EventData) → slice_get (script_of plan p) i ≡ Some e
       → slice_get (script_of plan p) (i + 1) ≡ Some f → ComesBefore e f
+  pub told : (p : ℕ) → p < n → (change : BudgetChange) → Contains plan.forces change
+      → Contains (script_of plan p) (told_at change.at)

@@ -1,5 +1,6 @@
 -- The events of a port in the order of their times.
-use Rattle.std.specs.Prelude.{ℕ, Bool, ◌||◌, ◌&&◌, ◌==◌, nat_lt, List, [], ◌∷◌, map, filter, fold, unwrap_or, if◌then◌else◌}
+use Rattle.std.specs.Prelude.{ℕ, Bool, ◌||◌, ◌&&◌, ◌==◌, nat_lt, List, [], ◌∷◌, fold, Option, Some, None, option_map, unwrap_or, if◌then◌else◌}
+use Rattle.std.specs.List.{filter_map}
 use Rattle.pd_identity.specs.declared.Cable.{Cable}
 use Rattle.pd_identity.specs.declared.CablePlug.TheVariants.{Absent}
 use Rattle.pd_identity.specs.declared.Rating.TheVariants.{ThreeAmperes}
@@ -9,12 +10,17 @@ use Rattle.pd_sink.specs.declared.settings.SinkRevision.TheVariants.{Revision3}
 use Rattle.pd_plan.specs.Events.{EventData}
 use Rattle.pd_plan.specs.declared.event.EventKind.{EventKind}
 use Rattle.pd_plan.specs.declared.event.EventKind.TheVariants as port_event
+use Rattle.pd_plan.specs.declared.event.Happening.{Happening}
+use Rattle.pd_plan.specs.declared.event.Happening.TheVariants as happens
 use Rattle.pd_scenario.specs.declared.contents.NamedCable.{NamedCable}
 use Rattle.pd_scenario.specs.declared.contents.NamedSink.{NamedSink}
 use Rattle.pd_scenario.specs.declared.contents.ScenarioEventKind.{ScenarioEventKind}
-use Rattle.pd_scenario.specs.declared.contents.ScenarioEventKind.TheVariants.{Attach}
+use Rattle.pd_scenario.specs.declared.contents.ScenarioEventKind.TheVariants.{Attach, Detach, Demand, Lose, Damage, GetSource, GetSink}
+use Rattle.pd_scenario.specs.declared.contents.ScenarioHappening.{ScenarioHappening}
+use Rattle.pd_scenario.specs.declared.contents.ScenarioHappening.TheVariants.{OnPort, Budget}
 use Rattle.pd_scenario.specs.declared.contents.ScenarioEvent.{ScenarioEvent}
 use Rattle.pd_scenario.specs.Contents.{cable_named, sink_named}
+use Rattle.pd_scenario.specs.Plan.{number_of}
 
 -- what stands for a name that no cable has, and for one that no sink has; in a valid scenario there is none
 abbrev pub no_cable : Cable
@@ -23,27 +29,38 @@ no_cable = record { plug = Absent; rating = ThreeAmperes }
 abbrev pub no_sink : SinkData
 no_sink = record { max_mv = 5000; demand_mw = 50; mode = PowerDelivery; revision = Revision3 }
 
--- an event with the cable and the sink in place of their names
-abbrev pub resolved_kind : List NamedCable → List NamedSink → ScenarioEventKind → EventKind
-resolved_kind cables sinks (Attach cable sink) =
+-- what an event does, with the cable and the sink in place of their names
+abbrev pub resolved : List NamedCable → List NamedSink → ScenarioEventKind → EventKind
+resolved cables sinks (Attach cable sink) =
     port_event.Attach (unwrap_or (cable_named cables cable) no_cable) (unwrap_or (sink_named sinks sink) no_sink)
+resolved cables sinks Detach = port_event.Detach
+resolved cables sinks (Demand mw) = port_event.Demand mw
+resolved cables sinks Lose = port_event.Lose
+resolved cables sinks (Damage damage) = port_event.Damage damage
+resolved cables sinks GetSource = port_event.GetSource
+resolved cables sinks GetSink = port_event.GetSink
 
-abbrev pub resolved : List NamedCable → List NamedSink → ScenarioEvent → EventData
-resolved cables sinks e = record { id = e.id; at = e.at; kind = resolved_kind cables sinks e.kind }
+-- what a happening is for a port: nothing where it is on another port
+abbrev pub seen_by : List NamedCable → List NamedSink → ℕ → ℕ → ScenarioHappening → Option Happening
+seen_by cables sinks port id (OnPort other kind) = if other == port then Some (happens.Port id (resolved cables sinks kind)) else None
+seen_by cables sinks port id (Budget mw) = Some happens.Budget
 
--- the first event comes before the second, by time and then by id
+abbrev pub event_for : List NamedCable → List NamedSink → ℕ → ScenarioEvent → Option EventData
+event_for cables sinks port e = option_map (λ happening. record { at = e.at; happening = happening }) (seen_by cables sinks port e.id e.happening)
+
+-- what the events are for a port, in the order of their making
+abbrev pub events_for : List NamedCable → List NamedSink → ℕ → List ScenarioEvent → List EventData
+events_for cables sinks port events = filter_map (event_for cables sinks port) events
+
+-- the first event comes before the second, by time and at one time by number
 abbrev pub is_before : EventData → EventData → Bool
-is_before e f = nat_lt e.at f.at || ((e.at == f.at) && nat_lt e.id f.id)
+is_before e f = nat_lt e.at f.at || ((e.at == f.at) && nat_lt (number_of e.happening) (number_of f.happening))
 
--- the events with one more, behind those that come before it
+-- the events with one more, behind those that come before it; one of its own time and number it replaces
 abbrev pub put : List EventData → EventData → List EventData
 put [] e = e ∷ []
-put (f ∷ events) e = if is_before f e then f ∷ put events e else (e ∷ f ∷ events)
+put (f ∷ events) e = if is_before f e then f ∷ put events e else if is_before e f then (e ∷ f ∷ events) else (e ∷ events)
 
--- the events of a port, in the order of their making
-abbrev pub own_events : List ScenarioEvent → ℕ → List ScenarioEvent
-own_events events port = filter (λ (e : ScenarioEvent). e.port == port) events
-
--- The events of a port, each put in its place by time and id. The law `script_is_in_order` says what list that is.
+-- What the events are for a port, each put in its place. The law `script_is_in_order` says what list that is.
 unfoldable pub script : List NamedCable → List NamedSink → List ScenarioEvent → ℕ → List EventData
-script cables sinks events port = fold put [] (map (resolved cables sinks) (own_events events port))
+script cables sinks events port = fold put [] (events_for cables sinks port events)

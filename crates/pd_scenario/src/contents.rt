@@ -4,7 +4,8 @@ ghost use Rattle.std.specs.Prelude.{◌≡◌};
 
 use crate::Name;
 use pd_identity::Cable;
-use pd_sink::SinkSettings;
+use pd_packet::Damage;
+use pd_sink::{Demand, SinkSettings};
 
 /// A cable and its name.
 #[derive(Drop)]
@@ -25,16 +26,33 @@ pub struct NamedSink {
 pub enum ScenarioEventKind {
     /// The sink of a name is attached through the cable of a name.
     Attach { cable: Name, sink: Name },
+    /// The cable is pulled out.
+    Detach,
+    /// The sink wants another power from now on.
+    Demand(Demand),
+    /// The next packet that starts is lost.
+    Lose,
+    /// The next packet that starts is damaged.
+    Damage(Damage),
+    /// The sink is to ask for the source's capabilities.
+    GetSource,
+    /// The source is to ask for the sink's capabilities.
+    GetSink,
 }
 
-/// An event of a scenario: its id, 1 to 1,000,000, its time in microseconds, up to 120,000,000, its port, from 1 on,
-/// and what it does there.
+/// What happens: something to one port, numbered from 1, or a change of the budget that all ports share, in mW.
+#[derive(Drop)]
+pub enum ScenarioHappening {
+    OnPort { port: u32, kind: ScenarioEventKind },
+    Budget { mw: u32 },
+}
+
+/// An event of a scenario: its id, its time in microseconds, and what happens.
 #[derive(Drop)]
 pub struct ScenarioEvent {
     pub id: u32,
     pub at: u32,
-    pub port: u32,
-    pub kind: ScenarioEventKind,
+    pub happening: ScenarioHappening,
 }
 
 impl NamedCable {
@@ -66,10 +84,32 @@ impl ScenarioEventKind {
     pub fn copy(&self) -> ScenarioEventKind
         ensures { result ≡ self.now }
     {
-        let ScenarioEventKind::Attach { cable, sink } = self;
-        ScenarioEventKind::Attach {
-            cable: cable.copy(),
-            sink: sink.copy(),
+        match self {
+            ScenarioEventKind::Attach { cable, sink } => ScenarioEventKind::Attach {
+                cable: cable.copy(),
+                sink: sink.copy(),
+            },
+            ScenarioEventKind::Detach => ScenarioEventKind::Detach,
+            ScenarioEventKind::Demand(demand) => ScenarioEventKind::Demand(*demand),
+            ScenarioEventKind::Lose => ScenarioEventKind::Lose,
+            ScenarioEventKind::Damage(damage) => ScenarioEventKind::Damage(*damage),
+            ScenarioEventKind::GetSource => ScenarioEventKind::GetSource,
+            ScenarioEventKind::GetSink => ScenarioEventKind::GetSink,
+        }
+    }
+}
+
+impl ScenarioHappening {
+    /// The same.
+    pub fn copy(&self) -> ScenarioHappening
+        ensures { result ≡ self.now }
+    {
+        match self {
+            ScenarioHappening::OnPort { port, kind } => ScenarioHappening::OnPort {
+                port: *port,
+                kind: kind.copy(),
+            },
+            ScenarioHappening::Budget { mw } => ScenarioHappening::Budget { mw: *mw },
         }
     }
 }
@@ -82,8 +122,7 @@ impl ScenarioEvent {
         ScenarioEvent {
             id: self.id,
             at: self.at,
-            port: self.port,
-            kind: self.kind.copy(),
+            happening: self.happening.copy(),
         }
     }
 }

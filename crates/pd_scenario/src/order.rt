@@ -1,56 +1,74 @@
 //! The events of a port in the order of their times.
 
-ghost use Rattle.std.specs.Prelude.{◌≡◌, ℕ, ◌<◌, ◌≤◌, true, false, length, slice_index_or, IfOk, is_some};
+ghost use Rattle.std.specs.Prelude.{◌≡◌, ℕ, true, IfOk};
+ghost use Rattle.std.specs.BTreeMap.{values};
 ghost use Rattle.std.specs.List.{list_all};
-ghost use Rattle.pd_plan.specs.Events.{EventData, IsEvent};
-ghost use Rattle.pd_scenario.specs.Contents.{event_fits, names_are_known};
-ghost use Rattle.pd_scenario.specs.Script.{resolved, is_before, script};
+ghost use Rattle.pd_scenario.specs.Contents.{event_fits, kind_fits, kind_is_known, names_are_known};
+ghost use Rattle.pd_scenario.specs.Plan.{number_of};
+ghost use Rattle.pd_scenario.specs.Script.{resolved, event_for, script};
 
 use crate::scenario::{cable_named, sink_named};
-use crate::{NamedCable, NamedSink, ScenarioEvent, ScenarioEventKind};
-use pd_plan::{Event, EventKind};
+use crate::{NamedCable, NamedSink, ScenarioEvent, ScenarioEventKind, ScenarioHappening};
+use pd_plan::{Event, EventKind, Happening};
 use std::alloc::{AllocError, Global};
+use std::collections::BTreeMap;
 
-/// The event with the cable and the sink in place of their names.
-fn resolved(
+/// What an event does, with the cable and the sink in place of their names.
+fn resolved(cables: &[NamedCable], sinks: &[NamedSink], kind: &ScenarioEventKind) -> EventKind
+    requires { kind_is_known cables.now sinks.now kind.now ≡ true }
+    ensures { result ≡ resolved cables.now sinks.now kind.now }
+{
+    match kind {
+        ScenarioEventKind::Attach { cable, sink } => EventKind::Attach {
+            cable: cable_named(cables, cable).unwrap(),
+            sink: sink_named(sinks, sink).unwrap(),
+        },
+        ScenarioEventKind::Detach => EventKind::Detach,
+        ScenarioEventKind::Demand(demand) => EventKind::Demand(*demand),
+        ScenarioEventKind::Lose => EventKind::Lose,
+        ScenarioEventKind::Damage(damage) => EventKind::Damage(*damage),
+        ScenarioEventKind::GetSource => EventKind::GetSource,
+        ScenarioEventKind::GetSink => EventKind::GetSink,
+    }
+}
+
+/// What an event is for a port, if anything.
+fn event_for(
     cables: &[NamedCable],
     sinks: &[NamedSink],
+    port: usize,
     event: &ScenarioEvent,
     ports: usize,
-) -> Event
+) -> Option<Event>
     requires fits { event_fits ports event.now ≡ true }
-    requires known { names_are_known cables.now sinks.now event.now.kind ≡ true }
-    ensures { result ≡ resolved cables.now sinks.now event.now }
+    requires known { names_are_known cables.now sinks.now event.now.happening ≡ true }
+    ensures { result ≡ event_for cables.now sinks.now port event.now }
 {
-    let ScenarioEventKind::Attach { cable, sink } = &event.kind;
-    let kind = EventKind::Attach {
-        cable: cable_named(cables, cable).unwrap(),
-        sink: sink_named(sinks, sink).unwrap(),
-    };
-    Event::new(event.id, u64::from(event.at), kind)
-}
-
-fn is_before(first: &Event, second: &Event) -> bool
-    ensures { result ≡ is_before first.now second.now }
-{
-    first.at() < second.at() || first.at() == second.at() && first.id() < second.id()
-}
-
-/// The place of an event among events in order.
-fn place_of(events: &[Event], event: &Event) -> usize
-    ensures within { result ≤ length events.now }
-    ensures before { (k : ℕ) → k < result → is_before (slice_index_or events.now k event.now) event.now ≡ true }
-    ensures after { result < length events.now → is_before (slice_index_or events.now result event.now) event.now ≡ false }
-{
-    for (i, other) in events.iter().enumerate() {
-        if !is_before(other, event) {
-            return i;
+    let at = u64::from(event.at);
+    match &event.happening {
+        ScenarioHappening::OnPort { port: other, kind } => {
+            if *other as usize != port {
+                return None;
+            }
+            let kind = resolved(cables, sinks, kind);
+            let id = event.id;
+            Some(Event::new(at, Happening::Port { id, kind }))
         }
+        ScenarioHappening::Budget { .. } => Some(Event::new(at, Happening::Budget)),
     }
-    events.len()
 }
 
-/// The events of a port by time and id.
+/// An event's place in a script: its time, and its number at that time.
+fn place_of(event: &Event) -> (u64, u32)
+    ensures { result ≡ (event.now.at, number_of event.now.happening) }
+{
+    match event.happening() {
+        Happening::Port { id, .. } => (event.at(), id),
+        Happening::Budget => (event.at(), 0),
+    }
+}
+
+/// What the events are for a port, by their times and numbers.
 ///
 /// # Errors
 /// There is no memory.
@@ -63,16 +81,20 @@ pub fn script(
     port: usize,
 ) -> Result<Vec<Event>, AllocError>
     requires fit { list_all (event_fits ports) events.now ≡ true }
-    requires known { list_all (λ e. names_are_known cables.now sinks.now e.kind) events.now ≡ true }
+    requires known { list_all (λ e. names_are_known cables.now sinks.now e.happening) events.now ≡ true }
     ensures { IfOk result (λ v. v.items ≡ script cables.now sinks.now events.now port) }
 {
-    let mut ordered = Vec::new(alloc);
+    let mut ordered = BTreeMap::new(alloc);
     for event in events {
-        if event.port as usize == port {
-            let event = resolved(cables, sinks, event, ports);
-            let place = place_of(&ordered, &event);
-            ordered.insert(place, event)?;
+        if let Some(event) = event_for(cables, sinks, port, event, ports) {
+            ordered.insert(place_of(&event), event)?;
         }
     }
-    Ok(ordered)
+    values_of(alloc, ordered)
+}
+
+fn values_of(alloc: Global, ordered: BTreeMap<(u64, u32), Event>) -> Result<Vec<Event>, AllocError>
+    ensures { IfOk result (λ v. v.items ≡ values ordered) }
+{
+    ordered.into_values().collect(alloc)
 }

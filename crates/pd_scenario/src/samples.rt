@@ -3,7 +3,9 @@
 ghost use Rattle.std.specs.Prelude.{◌≡◌, IfOk};
 ghost use Rattle.pd_scenario.specs.First.{first, first_port, first_cable, first_sink, first_event};
 
-use crate::{Name, NamedCable, NamedSink, Scenario, ScenarioEvent, ScenarioEventKind};
+use crate::{
+    Name, NamedCable, NamedSink, Scenario, ScenarioEvent, ScenarioEventKind, ScenarioHappening,
+};
 use arrayvec::ArrayVec;
 use pd_identity::{Cable, CablePlug, Rating};
 use pd_objects::Supply;
@@ -51,10 +53,12 @@ fn attach() -> ScenarioEvent
     ScenarioEvent {
         id: 1,
         at: 0,
-        port: 1,
-        kind: ScenarioEventKind::Attach {
-            cable: Name::new("thin"),
-            sink: Name::new("phone"),
+        happening: ScenarioHappening::OnPort {
+            port: 1,
+            kind: ScenarioEventKind::Attach {
+                cable: Name::new("thin"),
+                sink: Name::new("phone"),
+            },
         },
     }
 }

@@ -2,10 +2,12 @@
 
 ghost use Rattle.std.specs.Prelude.{◌≡◌, ℕ, ◌-◌, ◌≤◌, ◌<◌, ◌==◌, slice_get, Some, IfOk, is_some};
 ghost use Rattle.pd_scenario.specs.Contents.{Contents, IsValid, cable_named, sink_named, has_id};
-ghost use Rattle.pd_scenario.specs.Plan.{Plan, IsPlan, settings_of, script_of};
-ghost use Rattle.pd_scenario.specs.Plans.{plan_of};
+ghost use Rattle.pd_scenario.specs.Plan.{Plan, IsPlan, settings_of, script_of, force};
+ghost use Rattle.pd_scenario.specs.Plans.{plan_of, changes_of};
 
+use crate::budget::{BudgetChange, change_of, last_change};
 use crate::order::script;
+use crate::parts::{copy_cables, copy_events, copy_settings, copy_sinks};
 use crate::{Name, NamedCable, NamedSink, ScenarioEvent};
 use pd_identity::Cable;
 use pd_plan::{Event, Settings};
@@ -15,7 +17,8 @@ use std::marker::Model;
 
 /// What the ports of a charger are set to, with cables, sinks and events, the budget that the ports share, and the
 /// end. Its type keeps all that a scenario is asked: N ports, 1 to 8; names and ids that differ; at most 64 cables,
-/// 64 sinks and 4,096 events; events in their ranges, with names that are there; floors within the budget.
+/// 64 sinks and 4,096 events; numbers within their limits; events with names that are there; floors that add to no more
+/// than the least of the budget and its changes.
 #[derive(Drop)]
 pub struct Scenario<const N: usize> {
     settings: Vec<Settings>,
@@ -51,6 +54,28 @@ impl<const N: usize> Model for Scenario<N> {
 }
 
 impl<const N: usize> Scenario<N> {
+    /// The scenario of these parts: a budget in mW and an end in microseconds.
+    pub fn new(
+        settings: Vec<Settings>,
+        cables: Vec<NamedCable>,
+        sinks: Vec<NamedSink>,
+        events: Vec<ScenarioEvent>,
+        budget_mw: u32,
+        end_us: u32,
+    ) -> Scenario<N>
+        requires { IsValid N (record { settings = settings.items; cables = cables.items; sinks = sinks.items; events = events.items; budget_mw = budget_mw; end_us = end_us }) }
+        ensures { result ≡ record { settings = settings.items; cables = cables.items; sinks = sinks.items; events = events.items; budget_mw = budget_mw; end_us = end_us } }
+    {
+        Scenario {
+            settings,
+            cables,
+            sinks,
+            events,
+            budget_mw,
+            end_us,
+        }
+    }
+
     /// The scenario of these parts: a budget in mW, 500 to 1,000,000, and an end in microseconds, up to 120,000,000.
     ///
     /// # Errors
@@ -71,14 +96,7 @@ impl<const N: usize> Scenario<N> {
         let cables = copy_cables(alloc, cables)?;
         let sinks = copy_sinks(alloc, sinks)?;
         let events = copy_events(alloc, events)?;
-        Ok(Scenario {
-            settings,
-            cables,
-            sinks,
-            events,
-            budget_mw,
-            end_us,
-        })
+        Ok(Scenario::new(settings, cables, sinks, events, budget_mw, end_us))
     }
 
     /// What a port is set to, the ports being numbered from 1.
@@ -116,6 +134,30 @@ impl<const N: usize> Scenario<N> {
         u64::from(self.budget_mw) * 1_000
     }
 
+    /// The changes of the budget, in the order of their making.
+    ///
+    /// # Errors
+    /// There is no memory.
+    #[tactic(auto, unfolding(crate::specs::Plans::plan_of))]
+    pub fn forces(&self, alloc: Global) -> Result<Vec<BudgetChange>, AllocError>
+        ensures value { IfOk result (λ v. v.items ≡ (plan_of self.now).forces) }
+        ensures is_plan { IsPlan N (plan_of self.now) }
+    {
+        changes_of(alloc, &self.events)
+    }
+
+    /// The budget at a time, in microwatts: that of the last change at or before it, else the scenario's.
+    #[tactic(auto, unfolding(crate::specs::Plans::plan_of, crate::specs::Plan::force))]
+    pub fn force(&self, at: u64) -> u64
+        ensures value { result ≡ force (plan_of self.now) at }
+        ensures is_plan { IsPlan N (plan_of self.now) }
+    {
+        match last_change(&self.events, at) {
+            Some(change) => change.budget,
+            None => self.budget(),
+        }
+    }
+
     /// The end in microseconds.
     #[tactic(auto, unfolding(crate::specs::Plans::plan_of))]
     pub fn end_time(&self) -> u64
@@ -123,6 +165,46 @@ impl<const N: usize> Scenario<N> {
         ensures is_plan { IsPlan N (plan_of self.now) }
     {
         u64::from(self.end_us)
+    }
+
+    /// What each port is set to.
+    pub fn ports(&self) -> &[Settings]
+        ensures value { result.now ≡ self.now.settings }
+        ensures is_valid { IsValid N self.now }
+    {
+        self.settings.as_slice()
+    }
+
+    /// The cables, in the order of their making.
+    pub fn cables(&self) -> &[NamedCable]
+        ensures value { result.now ≡ self.now.cables }
+        ensures is_valid { IsValid N self.now }
+    {
+        &self.cables
+    }
+
+    /// The sinks, in the order of their making.
+    pub fn sinks(&self) -> &[NamedSink]
+        ensures value { result.now ≡ self.now.sinks }
+        ensures is_valid { IsValid N self.now }
+    {
+        &self.sinks
+    }
+
+    /// The budget in mW.
+    pub fn budget_mw(&self) -> u32
+        ensures value { result ≡ self.now.budget_mw }
+        ensures is_valid { IsValid N self.now }
+    {
+        self.budget_mw
+    }
+
+    /// The end in microseconds.
+    pub fn end_us(&self) -> u32
+        ensures value { result ≡ self.now.end_us }
+        ensures is_valid { IsValid N self.now }
+    {
+        self.end_us
     }
 
     /// The events, in the order of their making.
@@ -153,31 +235,6 @@ impl<const N: usize> Scenario<N> {
     {
         sink_named(&self.sinks, name)
     }
-
-    /// The scenario with other events.
-    ///
-    /// # Errors
-    /// There is no memory.
-    pub fn with_events(
-        &self,
-        alloc: Global,
-        events: Vec<ScenarioEvent>,
-    ) -> Result<Scenario<N>, AllocError>
-        requires { IsValid N (record self.now { events = events.items }) }
-        ensures { IfOk result (λ s. s ≡ record self.now { events = events.items }) }
-    {
-        let settings = copy_settings(alloc, &self.settings)?;
-        let cables = copy_cables(alloc, &self.cables)?;
-        let sinks = copy_sinks(alloc, &self.sinks)?;
-        Ok(Scenario {
-            settings,
-            cables,
-            sinks,
-            events,
-            budget_mw: self.budget_mw,
-            end_us: self.end_us,
-        })
-    }
 }
 
 /// The cable of a name among cables.
@@ -200,42 +257,14 @@ pub(crate) fn sink_named(sinks: &[NamedSink], name: &Name) -> Option<SinkSetting
         .map(|sink| sink.sink)
 }
 
-fn copy_settings(alloc: Global, settings: &[Settings]) -> Result<Vec<Settings>, AllocError>
-    ensures { IfOk result (λ v. v.items ≡ settings.now) }
+fn changes_of(alloc: Global, events: &[ScenarioEvent]) -> Result<Vec<BudgetChange>, AllocError>
+    ensures { IfOk result (λ v. v.items ≡ changes_of events.now) }
 {
-    let mut copies = Vec::new(alloc);
-    for port in settings {
-        copies.push(port.copy())?;
-    }
-    Ok(copies)
-}
-
-fn copy_cables(alloc: Global, cables: &[NamedCable]) -> Result<Vec<NamedCable>, AllocError>
-    ensures { IfOk result (λ v. v.items ≡ cables.now) }
-{
-    let mut copies = Vec::new(alloc);
-    for cable in cables {
-        copies.push(cable.copy())?;
-    }
-    Ok(copies)
-}
-
-fn copy_sinks(alloc: Global, sinks: &[NamedSink]) -> Result<Vec<NamedSink>, AllocError>
-    ensures { IfOk result (λ v. v.items ≡ sinks.now) }
-{
-    let mut copies = Vec::new(alloc);
-    for sink in sinks {
-        copies.push(sink.copy())?;
-    }
-    Ok(copies)
-}
-
-fn copy_events(alloc: Global, events: &[ScenarioEvent]) -> Result<Vec<ScenarioEvent>, AllocError>
-    ensures { IfOk result (λ v. v.items ≡ events.now) }
-{
-    let mut copies = Vec::new(alloc);
+    let mut changes = Vec::new(alloc);
     for event in events {
-        copies.push(event.copy())?;
+        if let Some(change) = change_of(event) {
+            changes.push(change)?;
+        }
     }
-    Ok(copies)
+    Ok(changes)
 }

@@ -1,5 +1,5 @@
 -- What a sink asks of an offer: this product's own rule.
-use Rattle.std.specs.Prelude.{◌≡◌, ℕ, ◌+◌, ◌*◌, ◌%◌, ◌<◌, ◌≤◌, min, Bool, true, false, ◌==◌, ◌&&◌, ◌||◌, nat_lt, nat_le, if◌then◌else◌, List, [], ◌∷◌, Contains, All, Option, Some, None}
+use Rattle.std.specs.Prelude.{◌≡◌, ◌⊎◌, ℕ, ◌+◌, ◌*◌, ◌%◌, ◌<◌, ◌≤◌, min, Bool, true, false, ◌==◌, ◌&&◌, ◌||◌, nat_lt, nat_le, if◌then◌else◌, List, [], ◌∷◌, Contains, All, Option, Some, None}
 use Rattle.std.specs.Int.{div_ceil}
 use Rattle.pd_symbols.specs.Words.{field}
 use Rattle.pd_sink.specs.declared.settings.SinkMode.{SinkMode}
@@ -72,26 +72,26 @@ pub record IsGreatest (supplies : List Offered) (o : Offered) : Type 0 where
   pub greatest : All (λ (other : Offered). power_of other ≤ power_of o) supplies
   pub lowest : All (λ (other : Offered). power_of other ≡ power_of o → o.mv ≤ other.mv) supplies
 
--- the fitting one of what was found so far and one more
-abbrev pub higher_of : ℕ → Option Offered → Offered → Option Offered
-higher_of demand_mw best o = if is_enough demand_mw o then higher best else best where
-  higher : Option Offered → Option Offered
-  higher None = Some o
-  higher (Some best) = if nat_lt best.mv o.mv then Some o else Some best
+-- the one of higher voltage of what was found so far and one more
+abbrev pub higher_of : Option Offered → Offered → Option Offered
+higher_of None o = Some o
+higher_of (Some best) o = if nat_lt best.mv o.mv then Some o else Some best
 
+-- the fitting one of what was found so far and of some supplies
 abbrev pub fitting_from : ℕ → Option Offered → List Offered → Option Offered
 fitting_from demand_mw best [] = best
-fitting_from demand_mw best (o ∷ os) = fitting_from demand_mw (higher_of demand_mw best o) os
+fitting_from demand_mw best (o ∷ os) = fitting_from demand_mw (if is_enough demand_mw o then higher_of best o else best) os
 
 -- whether a supply has more power than another, or the same at a lower voltage
 abbrev pub is_greater : Offered → Offered → Bool
 is_greater best o = nat_lt (power_of best) (power_of o) || ((power_of best == power_of o) && nat_lt o.mv best.mv)
 
--- the greatest one of what was found so far and one more
+-- the greater one of what was found so far and one more
 abbrev pub greater_of : Option Offered → Offered → Option Offered
 greater_of None o = Some o
 greater_of (Some best) o = if is_greater best o then Some o else Some best
 
+-- the greatest one of what was found so far and of some supplies
 abbrev pub greatest_from : Option Offered → List Offered → Option Offered
 greatest_from best [] = best
 greatest_from best (o ∷ os) = greatest_from (greater_of best o) os
@@ -100,13 +100,14 @@ greatest_from best (o ∷ os) = greatest_from (greater_of best o) os
 abbrev pub greatest_ma : ℕ
 greatest_ma = 10230
 
--- What is asked where no supply fits, in mA: what is offered. A greedy sink asks for what it needs, as far as an object
--- can state it.
+-- What is asked in mA where what is offered falls short of what is needed: what is offered. A greedy sink asks for what
+-- it needs, as far as an object can state it.
+abbrev pub short_ma : SinkMode → ℕ → ℕ → ℕ
+short_ma mode.Greedy needed offered = min needed greatest_ma
+short_ma _ needed offered = offered
+
 abbrev pub mismatch_ma : SinkData → Offered → ℕ
-mismatch_ma sink o = asks sink.mode where
-  asks : SinkMode → ℕ
-  asks mode.Greedy = min (need_of o.mv sink.demand_mw) greatest_ma
-  asks _ = o.ma
+mismatch_ma sink o = short_ma sink.mode (need_of o.mv sink.demand_mw) o.ma
 
 -- what can be asked: a position of an offer, and a current that an object can state
 pub record IsAsked (a : Asked) : Type 0 where
@@ -125,3 +126,25 @@ chosen sink None None = None
 unfoldable pub asked_of : SinkData → List ℕ → Option Asked
 asked_of sink offer =
     chosen sink (fitting_from sink.demand_mw None (accepted sink offer)) (greatest_from None (accepted sink offer))
+
+-- where a supply fits, the fitting one is asked for, at what is needed
+pub record AsksTheFitting (sink : SinkData) (supplies : List Offered) (a : Asked) : Type 0 where
+  pub supply : Offered
+  pub fitting : IsFitting sink.demand_mw supplies supply
+  pub position : a.position ≡ supply.position
+  pub current : IsNeed supply.mv sink.demand_mw a.ma
+  pub no_mismatch : a.mismatch ≡ false
+
+-- where none fits, the greatest one is asked for, with a mismatch
+pub record AsksTheGreatest (sink : SinkData) (supplies : List Offered) (a : Asked) : Type 0 where
+  pub supply : Offered
+  pub none_fits : All (λ (other : Offered). other.ma < need_of other.mv sink.demand_mw) supplies
+  pub greatest : IsGreatest supplies supply
+  pub position : a.position ≡ supply.position
+  pub current : a.ma ≡ mismatch_ma sink supply
+  pub mismatch : a.mismatch ≡ true
+
+-- the rule of what a sink asks of the supplies that it accepts
+abbrev pub Asks : SinkData → List Offered → Option Asked → Type 0
+Asks sink supplies None = supplies ≡ []
+Asks sink supplies (Some a) = AsksTheFitting sink supplies a ⊎ AsksTheGreatest sink supplies a

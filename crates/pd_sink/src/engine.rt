@@ -1,11 +1,11 @@
 //! The engine: what it keeps, and its steps.
 
-ghost use Rattle.std.specs.Prelude.{◌≡◌, ◌≤◌, ◌<◌, ◌+◌, ◌++◌, ◌↔◌, IsTrue, IfSome, length, not};
+ghost use Rattle.std.specs.Prelude.{◌≡◌, ◌≤◌, ◌<◌, ◌+◌, ◌++◌, ◌↔◌, IsTrue, IfSome, length, not, option_to_list};
 ghost use Rattle.arrayvec.specs.ArrayVec.{array_vec_len};
 ghost use Rattle.pd_timers.specs.Deadlines.{first_of};
 ghost use Rattle.pd_sink.specs.Record.{off};
 ghost use Rattle.pd_sink.specs.Table.{is_plain, has_hard_resets_left};
-ghost use Rattle.pd_sink.specs.Acts.{after, wants, all_after, all_wants, asked_in, sending_of, noise};
+ghost use Rattle.pd_sink.specs.Acts.{after, wants, all_after, all_wants, started_where, offer_from, asked_in, sending_of, noise};
 ghost use Rattle.pd_sink.specs.Rule.{IsAsked};
 ghost use Rattle.pd_sink.specs.Step.{before_row, stepped, acts_of, hears_in, is_ready, revision_bits, demanding};
 
@@ -204,29 +204,27 @@ impl Sink {
         ensures few { array_vec_len acts.new ≤ array_vec_len acts.old + 1 }
         ensures acts { acts.new.items ≡ acts.old.items ++ wants deed self.old }
     {
+        if let Some(act) = self.wanted(deed) {
+            acts.push(act);
+        }
+        self.change(deed, now, stimulus);
+    }
+
+    /// What an act of a row does to the engine.
+    fn change(&mut self, deed: Deed, now: u64, stimulus: &Stimulus)
+        requires { now ≤ 120000000 }
+        ensures { self.new ≡ after deed now stimulus.now self.old }
+    {
         match deed {
             Deed::Enter(state) => {
                 self.state = state;
                 self.deadlines.stop_all();
                 self.sent = false;
-                acts.push(Act::DropWaiting);
             }
             Deed::Start(timer) => self.deadlines.start(now, timer),
-            Deed::StartWhereAgain(timer) => {
-                if self.again {
-                    self.deadlines.start(now, timer);
-                }
-            }
-            Deed::StartWhereFresh(timer) => {
-                if self.fresh {
-                    self.deadlines.start(now, timer);
-                }
-            }
-            Deed::KeepOffer => {
-                if let Stimulus::SourceCapabilities(objects) = stimulus {
-                    self.kept_offer = copied(objects.as_slice());
-                }
-            }
+            Deed::StartWhereAgain(timer) => self.start_where(self.again, now, timer),
+            Deed::StartWhereFresh(timer) => self.start_where(self.fresh, now, timer),
+            Deed::KeepOffer => self.keep_offer(stimulus),
             Deed::Again(again) => self.again = again,
             Deed::Fresh(fresh) => self.fresh = fresh,
             Deed::Contract(has_contract) => self.has_contract = has_contract,
@@ -234,19 +232,47 @@ impl Sink {
                 self.hard_reset_counter = self.hard_reset_counter.saturating_add(1);
             }
             Deed::HardResetsZero => self.hard_reset_counter = 0,
-            Deed::ResetLayer => acts.push(Act::ResetLayer),
-            Deed::Note(note) => acts.push(Act::Note(note)),
-            Deed::NoteMismatch => {
-                if let Some(Asked { mismatch: true, .. }) = self.asked() {
-                    acts.push(Act::Note(Note::Mismatch));
-                }
-            }
-            Deed::Send(message) => {
-                if let Some(sending) = self.sending(message) {
-                    acts.push(Act::Send(sending));
-                }
-            }
-            Deed::SendHardReset => acts.push(Act::SendHardReset),
+            _ => {}
+        }
+    }
+
+    /// Starts a timer, where it is to be started.
+    fn start_where(&mut self, is_wanted: bool, now: u64, timer: Timer)
+        requires { now ≤ 120000000 }
+        ensures { self.new ≡ record self.old { deadlines = started_where is_wanted self.old.deadlines now timer } }
+    {
+        if is_wanted {
+            self.deadlines.start(now, timer);
+        }
+    }
+
+    /// The objects that came are the offer now.
+    fn keep_offer(&mut self, stimulus: &Stimulus)
+        ensures { self.new ≡ record self.old { kept_offer = offer_from stimulus.now self.old.kept_offer } }
+    {
+        if let Stimulus::SourceCapabilities(objects) = stimulus {
+            self.kept_offer = copied(objects.as_slice());
+        }
+    }
+
+    /// What an act of a row wants of the port.
+    fn wanted(&self, deed: Deed) -> Option<Act>
+        ensures { option_to_list result ≡ wants deed self.now }
+    {
+        match deed {
+            Deed::Enter(_) => Some(Act::DropWaiting),
+            Deed::ResetLayer => Some(Act::ResetLayer),
+            Deed::Note(note) => Some(Act::Note(note)),
+            Deed::NoteMismatch => match self.asked() {
+                Some(Asked { mismatch: true, .. }) => Some(Act::Note(Note::Mismatch)),
+                _ => None,
+            },
+            Deed::Send(message) => match self.sending(message) {
+                Some(sending) => Some(Act::Send(sending)),
+                None => None,
+            },
+            Deed::SendHardReset => Some(Act::SendHardReset),
+            _ => None,
         }
     }
 

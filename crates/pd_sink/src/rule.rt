@@ -102,21 +102,17 @@ fn fitting(supplies: &[Offered], demand_mw: u32) -> Option<Offered>
 {
     let mut best = None;
     for supply in supplies {
-        best = higher(best, *supply, demand_mw);
+        if need(supply.mv, demand_mw) <= u64::from(supply.ma) {
+            best = higher(best, *supply);
+        }
     }
     best
 }
 
-/// The best so far, or one more supply that fits and has a higher voltage.
-fn higher(best: Option<Offered>, supply: Offered, demand_mw: u32) -> Option<Offered>
-    requires offered { IsOffered supply }
-    requires sound { IfSome best (Fits demand_mw) }
-    ensures value { result ≡ higher_of demand_mw best supply }
-    ensures sound { IfSome result (Fits demand_mw) }
+/// The best so far, or one more supply of higher voltage.
+fn higher(best: Option<Offered>, supply: Offered) -> Option<Offered>
+    ensures { result ≡ higher_of best supply }
 {
-    if need(supply.mv, demand_mw) > u64::from(supply.ma) {
-        return best;
-    }
     match best {
         Some(other) if other.mv >= supply.mv => Some(other),
         _ => Some(supply),
@@ -138,10 +134,7 @@ fn greatest(supplies: &[Offered]) -> Option<Offered>
 
 /// The best so far, or one more supply that has more power, or the same at a lower voltage.
 fn greater(best: Option<Offered>, supply: Offered) -> Option<Offered>
-    requires offered { IsOffered supply }
-    requires sound { IfSome best IsOffered }
-    ensures value { result ≡ greater_of best supply }
-    ensures sound { IfSome result IsOffered }
+    ensures { result ≡ greater_of best supply }
 {
     let Some(other) = best else {
         return Some(supply);

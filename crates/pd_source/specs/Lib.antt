@@ -1,4 +1,5 @@
 pub mod Record
+pub mod Request
 pub mod Table
 pub mod Facts
 pub mod Acts

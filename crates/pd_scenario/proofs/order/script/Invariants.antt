@@ -1,6 +1,9 @@
 use Rattle.std.proofs.Common.{◌≡◌, [], fold, map, take}
-use Rattle.pd_scenario.specs.Script.{put, resolved, own_events}
+use Rattle.pd_plan.specs.Events.{EventData}
+use Rattle.pd_scenario.specs.Plan.{number_of}
+use Rattle.pd_scenario.specs.Script.{put, events_for}
 use Rattle.pd_scenario.proofs.order.script.Given as goal
 
 abbrev pub invariant-loop-event : goal.invariant-loop-event
-invariant-loop-event l = l.ordered.items ≡ fold put [] (map (resolved l.cables l.sinks) (own_events (take l.event-index l.events) l.port))
+invariant-loop-event l =
+    l.ordered.entries ≡ map (λ (e : EventData). ((e.at, number_of e.happening), e)) (fold put [] (events_for l.cables l.sinks l.port (take l.event-index l.events)))

@@ -1,0 +1,5 @@
+use Rattle.pd_scenario.proofs.Plans.{valid_is_plan}
+use Rattle.pd_scenario.proofs.scenario.Scenario.force.Goals as goal
+
+pub returns-in-Some-clause-is_plan : goal.returns-in-Some-clause-is_plan
+returns-in-Some-clause-is_plan g c = rw (← c.self.view_is) (valid_is_plan g.row.N _ c.self.invariant)
