@@ -1,5 +1,5 @@
 -- The line starts nothing while it is busy, and the engines leave it.
-use Rattle.std.proofs.Common.{◌≡◌, ◌⊎◌, inl, inr, ℕ, false, Option, refl, ◌∙◌, ap, List}
+use Rattle.std.proofs.Common.{◌≡◌, ◌⊎◌, inl, inr, ℕ, false, refl, ◌∙◌, ap}
 use Rattle.pd_symbols.specs.declared.channel.Channel.{Channel}
 use Rattle.pd_symbols.specs.declared.channel.Channel.TheVariants.{Sop, SopPrime}
 use Rattle.pd_header.specs.declared.side.Side.{Side}
@@ -22,11 +22,10 @@ use Rattle.pd_plug.specs.declared.kinds.Stimulus.{Stimulus as PlugStimulus}
 use Rattle.pd_plug.specs.declared.kinds.Stimulus.TheVariants as plug_told
 use Rattle.pd_line.specs.declared.notes.Fault.{Fault}
 use Rattle.pd_line.specs.declared.notes.Fault.TheVariants.{NoGoodCrc}
-use Rattle.pd_line.specs.declared.notes.Start.{Start}
 use Rattle.pd_line.specs.declared.record.Line.{Line}
 use Rattle.pd_line.specs.declared.record.Line.TheVariants.{Idle, Message, Pause, GoodCrc, NoAnswer, HardReset}
 use Rattle.pd_line.specs.declared.work.Work.{Work}
-use Rattle.pd_line.specs.Work.{with_layer, on_layer, timed_out_on, noted, sink_acts, sink_steps, plug_acts, plug_steps, source_acts, source_after, source_steps, tells_failed, tells_timer}
+use Rattle.pd_line.specs.Work.{with_layer, on_layer, timed_out_on, noted, sink_steps, plug_steps, source_after, source_steps, tells_timer}
 use Rattle.pd_line.specs.Lines.{with_line, started, packet_starts, good_crc_starts, after_time_out, times_out, line_ends_at, line_ends, is_idle, line_starts}
 use Rattle.pd_line.proofs.Kept.{Kept, of_any, Watched, sink_after, plug_after, sink_acts_kept, plug_acts_kept, source_acts_kept, noted_kept, tells_failed_kept, message_ends_kept, good_crc_ends_kept, hard_reset_ends_kept}
 

@@ -4,17 +4,14 @@ use Rattle.pd_symbols.specs.declared.channel.Channel.{Channel}
 use Rattle.pd_symbols.specs.declared.channel.Channel.TheVariants.{Sop, SopPrime}
 use Rattle.pd_header.specs.declared.side.Side.{Side}
 use Rattle.pd_header.specs.declared.side.Side.TheVariants.{Source, Sink, Plug}
-use Rattle.pd_identity.specs.declared.Cable.{Cable}
 use Rattle.pd_timers.specs.declared.Timer.{Timer}
 use Rattle.pd_timers.specs.Deadlines.{SetsLater, stopped}
 use Rattle.pd_protocol.specs.LayerRecord.{LayerRecord}
-use Rattle.pd_source.specs.Record.{SourceSettings, SourceData}
+use Rattle.pd_source.specs.Record.{SourceSettings}
 use Rattle.pd_source.specs.Step as source
-use Rattle.pd_source.specs.declared.kinds.Act.{Act as SourceAct}
 use Rattle.pd_source.specs.declared.kinds.Stimulus.{Stimulus as SourceStimulus}
 use Rattle.pd_source.specs.declared.kinds.Stimulus.TheVariants as source_told
 use Rattle.pd_source.proofs.Later.{SetsLater-stepped as source_later}
-use Rattle.pd_sink.specs.Settings.{SinkData}
 use Rattle.pd_sink.specs.Step as sink
 use Rattle.pd_sink.specs.declared.kinds.Stimulus.{Stimulus as SinkStimulus}
 use Rattle.pd_sink.specs.declared.kinds.Stimulus.TheVariants as sink_told
@@ -30,7 +27,7 @@ use Rattle.pd_line.specs.declared.record.Line.TheVariants.{Idle}
 use Rattle.pd_line.specs.declared.work.Work.{Work}
 use Rattle.pd_line.specs.Later.{Times, line_end, KeptOrLater, Later}
 use Rattle.pd_line.specs.Work.{with_layer, sink_acts, sink_steps, plug_acts, plug_steps, source_acts, source_after, source_steps, tells_timer}
-use Rattle.pd_line.specs.Lines.{with_line, started, line_ends_at, line_ends}
+use Rattle.pd_line.specs.Lines.{with_line, started, line_ends}
 use Rattle.pd_line.proofs.Kept.{Kept, EndsNoneOfSource, EndsNoneOfSink, EndsNoneOfPlug, Watched, watched, times, sink_after, plug_after, sink_acts_kept, plug_acts_kept, source_acts_kept, line_ends_at_kept}
 
 -- a step at t has led to this work

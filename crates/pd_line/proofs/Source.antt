@@ -1,32 +1,26 @@
 -- What a step has to do with the source and with the answer that it uses: the source's engine alone reads the answer.
-use Rattle.std.proofs.Common.{◌≡◌, ℕ, Option, None, refl, ◌∙◌, ap, List}
+use Rattle.std.proofs.Common.{◌≡◌, ℕ, Option, None, refl, ◌∙◌, ap}
 use Rattle.pd_symbols.specs.declared.channel.Channel.{Channel}
 use Rattle.pd_symbols.specs.declared.channel.Channel.TheVariants.{Sop, SopPrime}
 use Rattle.pd_header.specs.declared.side.Side.{Side}
 use Rattle.pd_header.specs.declared.side.Side.TheVariants.{Source, Sink, Plug}
-use Rattle.pd_header.specs.Header.{id_of}
 use Rattle.pd_packet.specs.Contents.{Contents}
 use Rattle.pd_timers.specs.declared.Timer.{Timer}
-use Rattle.pd_protocol.specs.Layer as layer
 use Rattle.pd_protocol.specs.LayerRecord.{LayerRecord}
-use Rattle.pd_protocol.specs.declared.layer.LayerAct.{LayerAct}
 use Rattle.pd_source.specs.Record.{SourceRecord, SourceData}
 use Rattle.pd_source.specs.Step as source
-use Rattle.pd_source.specs.declared.kinds.Act.{Act as SourceAct}
 use Rattle.pd_source.specs.declared.kinds.Stimulus.{Stimulus as SourceStimulus}
 use Rattle.pd_source.proofs.Answered.{stepped-same, acts_of-same}
 use Rattle.pd_sink.specs.Step as sink
-use Rattle.pd_sink.specs.declared.kinds.Act.{Act as SinkAct}
 use Rattle.pd_sink.specs.declared.kinds.Stimulus.{Stimulus as SinkStimulus}
 use Rattle.pd_sink.specs.declared.kinds.Stimulus.TheVariants as sink_told
 use Rattle.pd_plug.specs.Step as plug
-use Rattle.pd_plug.specs.declared.kinds.Act.{Act as PlugAct}
 use Rattle.pd_plug.specs.declared.kinds.Stimulus.{Stimulus as PlugStimulus}
 use Rattle.pd_plug.specs.declared.kinds.Stimulus.TheVariants as plug_told
 use Rattle.pd_line.specs.declared.notes.Start.{Start}
 use Rattle.pd_line.specs.declared.record.Line.{Line}
 use Rattle.pd_line.specs.declared.work.Work.{Work}
-use Rattle.pd_line.specs.Work.{tells_timer, with_layer, layer_on, on_layer, sink_acts, sink_steps, plug_acts, plug_steps, source_acts, source_after, source_steps, good_crc_on, timed_out_on, received_on}
+use Rattle.pd_line.specs.Work.{tells_timer, with_layer, layer_on, on_layer, sink_acts, sink_steps, plug_acts, plug_steps, source_acts, source_after, source_steps}
 use Rattle.pd_line.specs.Lines.{with_line, started, acknowledged}
 use Rattle.pd_line.proofs.Kept.{Kept, OfSource, Watched, unanswered, sink_after, plug_after, sink_acts_kept, plug_acts_kept, source_acts_kept, acknowledged_kept}
 

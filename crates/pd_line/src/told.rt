@@ -24,7 +24,7 @@ fn objects_of(packet: &Packet) -> ArrayVec<u32, 7>
 }
 
 /// What a message is to the source.
-pub(crate) fn source_hears_as(packet: &Packet) -> SourceStimulus
+pub fn source_hears_as(packet: &Packet) -> SourceStimulus
     ensures { result ≡ source_hears_as (kind_of_header packet.now.header) packet.now.header packet.now.objects }
 {
     match header_kind(packet.header()) {
@@ -73,7 +73,7 @@ pub(crate) fn plug_hears_as(packet: &Packet) -> PlugStimulus
 }
 
 /// Which message of the source has reached its receiver.
-pub(crate) fn sent_as(packet: &Packet) -> Sent
+pub fn sent_as(packet: &Packet) -> Sent
     ensures { result ≡ sent_as (kind_of_header packet.now.header) }
 {
     match header_kind(packet.header()) {

@@ -5,6 +5,7 @@ mod asks;
 mod due;
 mod dues;
 mod entry;
+mod happens;
 pub mod laws;
 mod meter;
 mod port;
