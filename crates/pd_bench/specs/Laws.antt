@@ -9,6 +9,7 @@ use Rattle.pd_edit.specs.declared.line.Line.{Line}
 use Rattle.pd_edit.specs.declared.line.Line.TheVariants as lines_read
 use Rattle.pd_edit.specs.declared.line.Show.TheVariants.{Transcript}
 use Rattle.pd_edit.specs.declared.fault.EditFault.{EditFault}
+use Rattle.pd_edit.specs.declared.fault.EditFault.TheVariants as edit_faults
 use Rattle.pd_bench.specs.declared.tally.Outcome.{Outcome}
 use Rattle.pd_bench.specs.declared.tally.Outcome.TheVariants.{Refused}
 use Rattle.pd_bench.specs.Session.{Replies, refused_text}
@@ -22,7 +23,7 @@ RefusedChangesNothing = (n : ℕ) (s : Contents) (line : List ℕ) (more : List 
 abbrev pub RefusedAs : ℕ → Contents → Result Line EditFault → ℕ → Type 0
 RefusedAs n s (Ok lines_read.Skip) number = ⊥
 RefusedAs n s (Ok (lines_read.Edit edit)) number = (fault : EditFault) × (edited n s edit ≡ Err fault) × (number ≡ number_of fault)
-RefusedAs n s (Ok (lines_read.Show (Transcript port))) number = (is_port n port ≡ false) × (number ≡ 23)
+RefusedAs n s (Ok (lines_read.Show (Transcript port))) number = (is_port n port ≡ false) × (number ≡ number_of edit_faults.NoSuchPort)
 RefusedAs n s (Err fault) number = number ≡ number_of fault
 
 -- such a line is always refused, by its number
