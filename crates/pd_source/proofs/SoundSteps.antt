@@ -1,5 +1,6 @@
 -- What holds of the source's record holds after each step.
 use Rattle.std.proofs.Common.{◌≡◌, ℕ, ◌≤◌, ◌-◌, ◌⊎◌, inl, inr, zero, suc, Bool, true, false, not, ◌&&◌, ◌||◌, nat_le, ◌==◌, if◌then◌else◌, List, [], ◌∷◌, Option, Some, None, option_map, unwrap_or, slice_get, slice_index, length, refl, sym, subst, ap, ◌∙◌, arith}
+use Rattle.arrayvec.specs.ArrayVec.{ArrayVec}
 use Rattle.std.specs.Option.{option_map_or}
 use Rattle.std.proofs.lemmas.Bool.Decides.{nat_tests}
 use Rattle.pd_symbols.specs.Words.{field}
@@ -9,6 +10,7 @@ use Rattle.pd_objects.specs.Supply.{SupplyData}
 use Rattle.pd_objects.specs.declared.contract.Contract.{Contract}
 use Rattle.pd_objects.specs.declared.query.Answer.{Answer}
 use Rattle.pd_objects.specs.declared.query.Answer.TheVariants as answer
+use Rattle.pd_objects.specs.declared.query.Query.{Query}
 use Rattle.pd_objects.specs.declared.query.Query.TheVariants as query
 use Rattle.pd_identity.specs.Identity.{limit_of}
 use Rattle.pd_source.specs.declared.kinds.State.{State}
@@ -20,13 +22,13 @@ use Rattle.pd_source.specs.declared.kinds.Stimulus.TheVariants as stimulus
 use Rattle.pd_source.specs.declared.kinds.Deed.{Deed}
 use Rattle.pd_source.specs.declared.kinds.Deed.TheVariants as deed
 use Rattle.pd_source.specs.Record.{SourceSettings, SourceRecord, off, cable_current}
-use Rattle.pd_source.specs.Request.{position_of, operating_ma, maximum_ma, is_at_most, is_valid, voltage_at, contract_of}
-use Rattle.pd_source.specs.Table.{Row, row, Ended, Guard, Always, RequestInvalid, Fits, OfferDiffers, HardResetsLeft, Next, Stay, Same, To, SC, NC, SR, HR, holds, table, anything_else, all_states, first, fits, among, match_one, heard_of, row_of, deeds_of_row, asks_offer, is_request_valid}
+use Rattle.pd_source.specs.Request.{position_of, operating_ma, maximum_ma, is_at_most, is_valid, contract_of}
+use Rattle.pd_source.specs.Table.{Row, row, Ended, Guard, Always, RequestInvalid, Fits, OfferDiffers, HardResetsLeft, Next, Stay, Same, SC, holds, table, anything_else, all_states, first, among, match_one, heard_of, row_of, deeds_of_row, asks_offer, is_request_valid}
 use Rattle.pd_source.specs.Acts.{after, all_after, limit_from, draft_from}
 use Rattle.pd_source.specs.Step.{before_row, row_at, deeds_at, stepped, query_of, requested, offer_query, fit_query, row_query, limit_after, polls, decides}
-use Rattle.pd_source.specs.Sound.{IsLimit, AreOffered, IsOffer, current_at, IsContract, limit_in, HasNothing, is_early, is_transition, IsSound, IsAnswer}
-use Rattle.pd_source.proofs.Walk.{and-left, and-right, all_rows, row_of-all, none_of, none_of_row, none_of-deeds}
-use Rattle.pd_source.proofs.Answered.{row-same, rejecting, rejected, state-before, valid-before}
+use Rattle.pd_source.specs.Sound.{IsLimit, AreOffered, IsOffer, current_at, IsContract, limit_in, HasNothing, is_early, is_transition, IsSound, IsAnswer, IsOfAnswer}
+use Rattle.pd_source.proofs.Walk.{and-left, and-right, all_rows, row_of-all, none_of}
+use Rattle.pd_source.proofs.Answered.{row-same, rejected, state-before}
 
 -- the limit
 limit_of-either : (objects : List ℕ) → IsLimit (Some (limit_of objects))
@@ -172,7 +174,12 @@ walk s [] now x a r t accepted nothing valid k e g h = record {
 }
 walk s (deed.Enter u ∷ ds) now x a r t accepted nothing valid k e g h =
     walk s ds now x a (record r { state = u; deadlines = idle; sent = false }) u accepted nothing valid k refl g (record {
-      limit = h.limit; draft = h.draft; delivered = h.delivered; requested = h.requested; contract = h.contract; none_accepted = h.none_accepted;
+      limit = h.limit;
+      draft = h.draft;
+      delivered = h.delivered;
+      requested = h.requested;
+      contract = h.contract;
+      none_accepted = h.none_accepted;
       has_nothing = λ q. let n = h.has_nothing q in record { draft = n.draft; delivered = n.delivered; accepted = n.accepted; contract = n.contract };
       is_valid = h.is_valid;
     })
@@ -184,7 +191,12 @@ walk s (deed.CableLimit ∷ ds) now x a r t accepted true valid k e g h =
 walk s (deed.CableLimit ∷ ds) now x a r t accepted false valid k e g h = absurd (cc)
 walk s (deed.KeepRequest ∷ ds) now x a r t accepted nothing valid k e g h =
     walk s ds now x a (after s deed.KeepRequest now x a r) t accepted nothing false k e g (record {
-      limit = h.limit; draft = h.draft; delivered = h.delivered; requested = h.requested; contract = h.contract; none_accepted = h.none_accepted;
+      limit = h.limit;
+      draft = h.draft;
+      delivered = h.delivered;
+      requested = h.requested;
+      contract = h.contract;
+      none_accepted = h.none_accepted;
       has_nothing = λ q. let n = h.has_nothing q in record { draft = n.draft; delivered = n.delivered; accepted = n.accepted; contract = n.contract };
       is_valid = λ q. absurd (cc);
     })
@@ -192,46 +204,80 @@ walk s (deed.Draft ∷ ds) now x a r t accepted nothing valid k e g h =
     let l : limit_after ds x r.limit ≡ r.limit = no-limit ds x r.limit (and-left (none_of is_limit ds) (keeps t accepted false valid ds) k) in
     let o : Given (limit_in r) s.supplies a = subst (λ (n : Option ℕ). Given (unwrap_or n cable_current) s.supplies a) l g in
     walk s ds now x a (record r { draft_offer = draft_from a r.draft_offer }) t accepted false valid (and-right (none_of is_limit ds) (keeps t accepted false valid ds) k) e g (record {
-      limit = h.limit; draft = drafted (limit_in r) s.supplies a r.draft_offer o h.draft; delivered = h.delivered; requested = h.requested; contract = h.contract; none_accepted = h.none_accepted;
+      limit = h.limit;
+      draft = drafted (limit_in r) s.supplies a r.draft_offer o h.draft;
+      delivered = h.delivered;
+      requested = h.requested;
+      contract = h.contract;
+      none_accepted = h.none_accepted;
       has_nothing = λ q. absurd (cc);
       is_valid = h.is_valid;
     })
 walk s (deed.Settle ∷ ds) now x a r t accepted nothing valid k e g h =
     let f = h.none_accepted (not-true accepted (and-left (not accepted) (keeps t accepted nothing false ds) k)) in
     walk s ds now x a (record r { delivered_offer = r.draft_offer }) t accepted nothing false (and-right (not accepted) (keeps t accepted nothing false ds) k) e g (record {
-      limit = h.limit; draft = h.draft; delivered = h.draft; requested = λ object q. absurd (none-some r.accepted_request object f q); contract = h.contract; none_accepted = h.none_accepted;
+      limit = h.limit;
+      draft = h.draft;
+      delivered = h.draft;
+      requested = λ object q. absurd (none-some r.accepted_request object f q);
+      contract = h.contract;
+      none_accepted = h.none_accepted;
       has_nothing = λ q. let n = h.has_nothing q in record { draft = n.draft; delivered = n.draft; accepted = n.accepted; contract = n.contract };
       is_valid = λ q. absurd (cc);
     })
 walk s (deed.Close ∷ ds) now x a r t accepted nothing valid k e g h =
     walk s ds now x a (record r { draft_offer = []; accepted_request = None }) t false nothing valid k e g (record {
-      limit = h.limit; draft = inl refl; delivered = h.delivered; requested = λ object q. absurd (cc); contract = h.contract; none_accepted = λ q. refl;
+      limit = h.limit;
+      draft = inl refl;
+      delivered = h.delivered;
+      requested = λ object q. absurd (cc);
+      contract = h.contract;
+      none_accepted = λ q. refl;
       has_nothing = λ q. let n = h.has_nothing q in record { draft = refl; delivered = n.delivered; accepted = refl; contract = n.contract };
       is_valid = h.is_valid;
     })
 walk s (deed.Take ∷ ds) now x a r t accepted nothing valid k e g h =
     let v = h.is_valid (and-left valid (keeps t true false valid ds) k) in
     walk s ds now x a (record r { accepted_request = r.kept_request }) t true false valid (and-right valid (keeps t true false valid ds) k) e g (record {
-      limit = h.limit; draft = h.draft; delivered = h.delivered; requested = λ object q. kept-valid r r.kept_request object q v; contract = h.contract; none_accepted = λ q. absurd (cc);
+      limit = h.limit;
+      draft = h.draft;
+      delivered = h.delivered;
+      requested = λ object q. kept-valid r r.kept_request object q v;
+      contract = h.contract;
+      none_accepted = λ q. absurd (cc);
       has_nothing = λ q. absurd (cc);
       is_valid = h.is_valid;
     })
 walk s (deed.Commit ∷ ds) now x a r t accepted nothing valid k e g h =
     walk s ds now x a (after s deed.Commit now x a r) t false false valid k e g (record {
-      limit = h.limit; draft = h.draft; delivered = h.delivered; requested = λ object q. absurd (cc);
-      contract = made (limit_in r) s.supplies r.delivered_offer r.accepted_request h.delivered h.requested; none_accepted = λ q. refl;
+      limit = h.limit;
+      draft = h.draft;
+      delivered = h.delivered;
+      requested = λ object q. absurd (cc);
+      contract = made (limit_in r) s.supplies r.delivered_offer r.accepted_request h.delivered h.requested;
+      none_accepted = λ q. refl;
       has_nothing = λ q. absurd (cc);
       is_valid = h.is_valid;
     })
 walk s (deed.Void ∷ ds) now x a r t accepted nothing valid k e g h =
     walk s ds now x a (after s deed.Void now x a r) t false true false k e g (record {
-      limit = h.limit; draft = inl refl; delivered = inl refl; requested = λ object q. absurd (cc); contract = λ c q. absurd (cc); none_accepted = λ q. refl;
+      limit = h.limit;
+      draft = inl refl;
+      delivered = inl refl;
+      requested = λ object q. absurd (cc);
+      contract = λ c q. absurd (cc);
+      none_accepted = λ q. refl;
       has_nothing = λ q. record { draft = refl; delivered = refl; accepted = refl; contract = refl };
       is_valid = λ q. absurd (cc);
     })
 walk s (d ∷ ds) now x a r t accepted nothing valid k e g h =
     walk s ds now x a (after s d now x a r) t accepted nothing valid k e g (record {
-      limit = h.limit; draft = h.draft; delivered = h.delivered; requested = h.requested; contract = h.contract; none_accepted = h.none_accepted;
+      limit = h.limit;
+      draft = h.draft;
+      delivered = h.delivered;
+      requested = h.requested;
+      contract = h.contract;
+      none_accepted = h.none_accepted;
       has_nothing = λ q. let n = h.has_nothing q in record { draft = n.draft; delivered = n.delivered; accepted = n.accepted; contract = n.contract };
       is_valid = h.is_valid;
     })
@@ -323,11 +369,21 @@ valid-fits g t h false i f =
 -- before the row nothing of this changes
 sound-before : (s : SourceSettings) (x : Stimulus) (r : SourceRecord) → IsSound s r → IsSound s (before_row x r)
 sound-before s (stimulus.Sent m) r h = record {
-  limit = h.limit; draft = h.draft; delivered = h.delivered; accepted = h.accepted; contract = h.contract; accepted_in_transition = h.accepted_in_transition;
+  limit = h.limit;
+  draft = h.draft;
+  delivered = h.delivered;
+  accepted = h.accepted;
+  contract = h.contract;
+  accepted_in_transition = h.accepted_in_transition;
   nothing_early = λ q. let n = h.nothing_early q in record { draft = n.draft; delivered = n.delivered; accepted = n.accepted; contract = n.contract };
 }
 sound-before s (stimulus.Ended t) r h = record {
-  limit = h.limit; draft = h.draft; delivered = h.delivered; accepted = h.accepted; contract = h.contract; accepted_in_transition = h.accepted_in_transition;
+  limit = h.limit;
+  draft = h.draft;
+  delivered = h.delivered;
+  accepted = h.accepted;
+  contract = h.contract;
+  accepted_in_transition = h.accepted_in_transition;
   nothing_early = λ q. let n = h.nothing_early q in record { draft = n.draft; delivered = n.delivered; accepted = n.accepted; contract = n.contract };
 }
 sound-before s _ r h = h
@@ -372,12 +428,22 @@ some-offer limit supplies a offer h e currents q =
 abbrev IsGiven : SourceSettings → Stimulus → Option Answer → SourceRecord → Type 0
 IsGiven s x a z = Given (unwrap_or (limit_after (deeds_at s x a z) x z.limit) cable_current) s.supplies a
 
-given-poll : (s : SourceSettings) (x : Stimulus) (a : Option Answer) (r : SourceRecord) → polls r.state (heard_of x) ≡ true → IsAnswer s (Some (offer_query s r.limit)) a → IsGiven s x a (before_row x r)
-given-poll s x a r p q =
+limit-poll : (s : SourceSettings) (x : Stimulus) (a : Option Answer) (r : SourceRecord) → polls r.state (heard_of x) ≡ true → limit_after (deeds_at s x a (before_row x r)) x (before_row x r).limit ≡ r.limit
+limit-poll s x a r p =
     let z = before_row x r in
     let w = polled (holds s a z) refl z.state (heard_of x) (ap (λ t. polls t (heard_of x)) (state-before x r) ∙ p) in
-    let e : limit_after (deeds_at s x a z) x z.limit ≡ r.limit = no-limit (deeds_at s x a z) x z.limit (poll-unlimited (holds s a z) (row_at s x a z) w) ∙ limit-before x r in
-    subst (λ (n : Option ℕ). Given (unwrap_or n cable_current) s.supplies a) (sym e) (some-offer (limit_in r) s.supplies a q.0 q.1 q.2)
+    no-limit (deeds_at s x a z) x z.limit (poll-unlimited (holds s a z) (row_at s x a z) w) ∙ limit-before x r
+
+deeds-row : (s : SourceSettings) (x : Stimulus) (a : Option Answer) (r : SourceRecord) → polls r.state (heard_of x) ≡ false → decides r.state (heard_of x) ≡ false → deeds_at s x a (before_row x r) ≡ deeds_at s x None (before_row x r)
+deeds-row s x a r p d =
+    let z = before_row x r in
+    let u : polls z.state (heard_of x) ≡ false = ap (λ t. polls t (heard_of x)) (state-before x r) ∙ p in
+    let v : decides z.state (heard_of x) ≡ false = ap (λ t. decides t (heard_of x)) (state-before x r) ∙ d in
+    ap (λ (w : Row). deeds_of_row (holds s a z) w) (row-same s a None z z.state (heard_of x) u v)
+
+given-poll : (s : SourceSettings) (x : Stimulus) (a : Option Answer) (r : SourceRecord) → polls r.state (heard_of x) ≡ true → IsAnswer s (Some (offer_query s r.limit)) a → IsGiven s x a (before_row x r)
+given-poll s x a r p q =
+    subst (λ (n : Option ℕ). Given (unwrap_or n cable_current) s.supplies a) (sym (limit-poll s x a r p)) (some-offer (limit_in r) s.supplies a q.0 q.1 q.2)
 
 given-fit : (s : SourceSettings) (limit : ℕ) (a : Option Answer) (power : ℕ) (b : Bool) → IsAnswer s (if b then Some (query.Fits power) else None) a → Given limit s.supplies a
 given-fit s limit a power true q = fits-no-offer limit s.supplies a q.0 q.1
@@ -393,11 +459,7 @@ given-cases : (s : SourceSettings) (x : Stimulus) (a : Option Answer) (r : Sourc
 given-cases s x a r true c p d q = given-poll s x a r p q
 given-cases s x a r false true p d q = given-fit s (unwrap_or (limit_after (deeds_at s x a (before_row x r)) x (before_row x r).limit) cable_current) a (requested s r.kept_request) (is_request_valid r) q
 given-cases s x a r false false p d q =
-    let z = before_row x r in
-    let u : polls z.state (heard_of x) ≡ false = ap (λ t. polls t (heard_of x)) (state-before x r) ∙ p in
-    let v : decides z.state (heard_of x) ≡ false = ap (λ t. decides t (heard_of x)) (state-before x r) ∙ d in
-    let e : deeds_at s x a z ≡ deeds_at s x None z = ap (λ (w : Row). deeds_of_row (holds s a z) w) (row-same s a None z z.state (heard_of x) u v) in
-    given-row s x a z (asks_offer (row_at s x None z).next) e q
+    given-row s x a (before_row x r) (asks_offer (row_at s x None (before_row x r)).next) (deeds-row s x a r p d) q
 
 given : (s : SourceSettings) (x : Stimulus) (a : Option Answer) (r : SourceRecord) → IsAnswer s (query_of s x r) a → IsGiven s x a (before_row x r)
 unfolding query_of
@@ -416,6 +478,7 @@ sound-off s = record {
   by_test : (b : Bool) → IsLimit (if b then Some cable_current else None)
   by_test true = inr (inl refl)
   by_test false = inl refl
+
   known : (n : ℕ) → IsLimit (if n == 0 then Some cable_current else None)
   known n = by_test (n == 0)
 
@@ -428,8 +491,72 @@ sound-stepped s now x a r h q =
     walk s (deeds_at s x a z) now x a z z.state (is_transition z.state) (is_early z.state) (is_fits w.guard)
     (row-kept (holds s a z) z.state (heard_of x)) refl (given s x a r q)
     (record {
-      limit = i.limit; draft = i.draft; delivered = i.delivered; requested = i.accepted; contract = i.contract;
+      limit = i.limit;
+      draft = i.draft;
+      delivered = i.delivered;
+      requested = i.accepted;
+      contract = i.contract;
       none_accepted = i.accepted_in_transition;
       has_nothing = i.nothing_early;
       is_valid = λ f. valid-fits (holds s a z) z.state (heard_of x) (is_request_valid z) refl f;
     })
+
+-- the limit after a step is that after the row's acts
+limit-all : (s : SourceSettings) (ds : List Deed) (now : ℕ) (x : Stimulus) (a : Option Answer) (r : SourceRecord) → (all_after s ds now x a r).limit ≡ limit_after ds x r.limit
+limit-all s [] now x a r = refl
+limit-all s (d ∷ ds) now x a r = limit-all s ds now x a (after s d now x a r) ∙ limit-head s d ds now x a r where
+  limit-head : (s : SourceSettings) (d : Deed) (ds : List Deed) (now : ℕ) (x : Stimulus) (a : Option Answer) (r : SourceRecord) → limit_after ds x (after s d now x a r).limit ≡ limit_after (d ∷ ds) x r.limit
+  limit-head s deed.LimitFromAnswer ds now x a r = refl
+  limit-head s _ ds now x a r = refl
+
+asked_limit : Option Query → ℕ
+asked_limit (Some (query.Offer supplies limit)) = limit
+asked_limit _ = 0
+
+some-limit : (b : Bool) (q : Query) (supplies : ArrayVec SupplyData) (limit : ℕ) → (if b then Some q else None) ≡ Some (query.Offer supplies limit) → asked_limit (Some q) ≡ limit
+unfolding asked_limit
+some-limit true q supplies limit h = ap asked_limit h
+some-limit false q supplies limit h = absurd (cc)
+
+no-fit : (b : Bool) (power : ℕ) (supplies : ArrayVec SupplyData) (limit : ℕ) → (if b then Some (query.Fits power) else None) ≡ Some (query.Offer supplies limit) → ⊥
+no-fit true power supplies limit h = absurd (cc)
+no-fit false power supplies limit h = absurd (cc)
+
+asked-cases : (s : SourceSettings) (x : Stimulus) (a : Option Answer) (r : SourceRecord) (supplies : ArrayVec SupplyData) (limit : ℕ) (b c : Bool) → polls r.state (heard_of x) ≡ b → decides r.state (heard_of x) ≡ c → (if b then Some (offer_query s r.limit) else (if c then fit_query s r else row_query s x (before_row x r))) ≡ Some (query.Offer supplies limit) → unwrap_or (limit_after (deeds_at s x a (before_row x r)) x (before_row x r).limit) cable_current ≡ limit
+unfolding asked_limit
+asked-cases s x a r supplies limit true c p d q =
+    ap (λ (n : Option ℕ). unwrap_or n cable_current) (limit-poll s x a r p) ∙ some-limit true (offer_query s r.limit) supplies limit q
+asked-cases s x a r supplies limit false true p d q = absurd (no-fit (is_request_valid r) (requested s r.kept_request) supplies limit q)
+asked-cases s x a r supplies limit false false p d q =
+    let z = before_row x r in
+    ap (λ (ds : List Deed). unwrap_or (limit_after ds x z.limit) cable_current) (deeds-row s x a r p d)
+    ∙ some-limit (asks_offer (row_at s x None z).next) (offer_query s (limit_after (deeds_at s x None z) x z.limit)) supplies limit q
+
+-- an offer is asked for under the limit that the step leaves
+pub asked-stepped : (s : SourceSettings) (now : ℕ) (x : Stimulus) (a : Option Answer) (r : SourceRecord) (supplies : ArrayVec SupplyData) (limit : ℕ) → query_of s x r ≡ Some (query.Offer supplies limit) → limit_in (stepped s now x a r) ≡ limit
+unfolding query_of stepped
+asked-stepped s now x a r supplies limit q =
+    let z = before_row x r in
+    ap (λ (n : Option ℕ). unwrap_or n cable_current) (limit-all s (deeds_at s x a z) now x a z)
+    ∙ asked-cases s x a r supplies limit (polls r.state (heard_of x)) (decides r.state (heard_of x)) refl refl q
+
+-- a limit comes from the plug's answer, or is the one of each cable
+abbrev IsFrom : Option ℕ → Stimulus → Option ℕ → Type 0
+IsFrom old x new = (new ≡ old) ⊎ ((new ≡ Some cable_current) ⊎ IsOfAnswer x new)
+
+limit_from-from : (old : Option ℕ) (x : Stimulus) (l : Option ℕ) → IsFrom old x l → IsFrom old x (limit_from x l)
+limit_from-from old (stimulus.Identity objects) l h = inr (inr refl)
+limit_from-from old _ l h = h
+
+limit_after-from : (old : Option ℕ) (ds : List Deed) (x : Stimulus) (l : Option ℕ) → IsFrom old x l → IsFrom old x (limit_after ds x l)
+limit_after-from old [] x l h = h
+limit_after-from old (deed.LimitFromAnswer ∷ ds) x l h = limit_after-from old ds x (limit_from x l) (limit_from-from old x l h)
+limit_after-from old (deed.CableLimit ∷ ds) x l h = limit_after-from old ds x (Some cable_current) (inr (inl refl))
+limit_after-from old (_ ∷ ds) x l h = limit_after-from old ds x l h
+
+pub limit-stepped : (s : SourceSettings) (now : ℕ) (x : Stimulus) (a : Option Answer) (r : SourceRecord) → IsFrom r.limit x (stepped s now x a r).limit
+unfolding stepped
+limit-stepped s now x a r =
+    let z = before_row x r in
+    let e : limit_after (deeds_at s x a z) x z.limit ≡ (all_after s (deeds_at s x a z) now x a z).limit = sym (limit-all s (deeds_at s x a z) now x a z) in
+    subst (λ (n : Option ℕ). IsFrom r.limit x n) e (limit_after-from r.limit (deeds_at s x a z) x z.limit (inl (limit-before x r)))

@@ -7,8 +7,11 @@ use Rattle.pd_objects.specs.declared.query.Answer.{Answer}
 use Rattle.pd_objects.specs.declared.query.Answer.TheVariants as answer
 use Rattle.pd_objects.specs.declared.query.Query.{Query}
 use Rattle.pd_objects.specs.declared.query.Query.TheVariants as query
+use Rattle.pd_identity.specs.Identity.{limit_of}
 use Rattle.pd_source.specs.declared.kinds.State.{State}
 use Rattle.pd_source.specs.declared.kinds.State.TheVariants as state
+use Rattle.pd_source.specs.declared.kinds.Stimulus.{Stimulus}
+use Rattle.pd_source.specs.declared.kinds.Stimulus.TheVariants as stimulus
 use Rattle.pd_source.specs.Record.{SourceSettings, SourceRecord, cable_current}
 use Rattle.pd_source.specs.Request.{is_valid, voltage_at}
 use Rattle.pd_source.specs.Table.{among}
@@ -74,3 +77,8 @@ IsAnswer s (Some (query.Offer supplies limit_ma)) a =
     (currents : List ℕ) × AreOffered limit_ma s.supplies currents × (a ≡ Some (answer.Offer (record { items = currents })))
 IsAnswer s (Some (query.Fits power)) a = (fits : Bool) × (a ≡ Some (answer.Fits fits))
 IsAnswer s (Some (query.Keep power)) a = (stays : Bool) × (a ≡ Some (answer.Fits stays))
+
+-- whether a limit is the one that a plug's answer tells
+abbrev pub IsOfAnswer : Stimulus → Option ℕ → Type 0
+IsOfAnswer (stimulus.Identity objects) limit = limit ≡ Some (limit_of objects.items)
+IsOfAnswer _ limit = ⊥

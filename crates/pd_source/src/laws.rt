@@ -1,6 +1,6 @@
 //! Laws of the engine's steps.
 
-ghost use Rattle.pd_source.specs.Laws.{StepsSetLater, StepsReadOnlyTheirAnswer, HoldsKeepTheFloor, HoldsOfDetachedAreFloors, HoldsStayAllowed, TheStartIsSound, StepsStaySound, ObjectsOfferTheirSupplies};
+ghost use Rattle.pd_source.specs.Laws.{StepsSetLater, StepsReadOnlyTheirAnswer, HoldsKeepTheFloor, HoldsOfDetachedAreFloors, HoldsStayAllowed, OffersAskUnderTheLimit, LimitsAreOfAnswers, TheStartIsSound, StepsStaySound, ObjectsOfferTheirSupplies};
 
 /// Each deadline that a step sets is later than the step, and the timer that fell due no longer runs.
 pub fn later()
@@ -17,6 +17,12 @@ pub fn holds()
     ensures floor { HoldsKeepTheFloor }
     ensures detached { HoldsOfDetachedAreFloors }
     ensures allowed { HoldsStayAllowed }
+{}
+
+/// An offer is asked for under the limit that the step leaves, and each limit has its cause.
+pub fn limits()
+    ensures asked { OffersAskUnderTheLimit }
+    ensures causes { LimitsAreOfAnswers }
 {}
 
 /// At each step the limit, the offers, the accepted request and the contract are as they should be, where each answer is
