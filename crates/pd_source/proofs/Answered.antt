@@ -52,15 +52,15 @@ unread s h p d =
     let e : all_rows (is_unread s h) table ≡ not (decides s h) && (not (polls s h) && true) = refl in
     e ∙ ap (λ b. not b && (not (polls s h) && true)) d ∙ ap (λ b. not b && true) p
 
-row-same : (s : SourceSettings) (a b : Option Answer) (r : SourceRecord) (t : State) (h : Heard) → polls t h ≡ false → decides t h ≡ false → row_of (holds s a r) t h ≡ row_of (holds s b r) t h
+pub row-same : (s : SourceSettings) (a b : Option Answer) (r : SourceRecord) (t : State) (h : Heard) → polls t h ≡ false → decides t h ≡ false → row_of (holds s a r) t h ≡ row_of (holds s b r) t h
 unfolding row_of
 row-same s a b r t h p d = first-same (holds s a r) (holds s b r) (guard-same s a b r) t h table (unread t h p d)
 
 -- an invalid request is rejected whatever the answer
-abbrev rejecting : Row
+abbrev pub rejecting : Row
 rejecting = row 17 (state.NegotiateCapability ∷ []) (Ended timer.Delay ∷ []) RequestInvalid (To state.CapabilityResponse) (deed.Close ∷ deed.Note note.Reject ∷ deed.Send message.Reject ∷ [])
 
-rejected : (g : Guard → Bool) → g RequestInvalid ≡ true → (t : State) (h : Heard) → decides t h ≡ true → row_of g t h ≡ rejecting
+pub rejected : (g : Guard → Bool) → g RequestInvalid ≡ true → (t : State) (h : Heard) → decides t h ≡ true → row_of g t h ≡ rejecting
 unfolding row_of
 rejected g e state.NegotiateCapability (heard.Ended timer.Delay) d = rw e
 rejected g e _ _ d = absurd (cc)
@@ -69,12 +69,12 @@ if-some : {A : Type 0} (b : Bool) (v : A) (o : Option A) → (if b then Some v e
 if-some true v o h = absurd (cc)
 if-some false v o h = (refl, h)
 
-state-before : (x : Stimulus) (r : SourceRecord) → (before_row x r).state ≡ r.state
+pub state-before : (x : Stimulus) (r : SourceRecord) → (before_row x r).state ≡ r.state
 state-before (stimulus.Sent m) r = refl
 state-before (stimulus.Ended t) r = refl
 state-before _ r = refl
 
-valid-before : (x : Stimulus) (r : SourceRecord) → is_request_valid (before_row x r) ≡ is_request_valid r
+pub valid-before : (x : Stimulus) (r : SourceRecord) → is_request_valid (before_row x r) ≡ is_request_valid r
 valid-before (stimulus.Sent m) r = refl
 valid-before (stimulus.Ended t) r = refl
 valid-before _ r = refl

@@ -6,3 +6,4 @@ pub mod Answered
 pub mod Holds
 pub mod Quiet
 pub mod Objects
+pub mod SoundSteps

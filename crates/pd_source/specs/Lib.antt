@@ -4,4 +4,5 @@ pub mod Table
 pub mod Facts
 pub mod Acts
 pub mod Step
+pub mod Sound
 pub mod Laws

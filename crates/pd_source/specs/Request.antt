@@ -17,12 +17,14 @@ operating_ma object = 10 * (request_of object).operating_current
 unfoldable pub maximum_ma : ℕ → ℕ
 maximum_ma object = 10 * (request_of object).maximum_current
 
+-- whether a current is offered and neither of a request's currents is above it
+abbrev pub is_at_most : ℕ → Option ℕ → Bool
+is_at_most object None = false
+is_at_most object (Some ma) = nat_le (operating_ma object) ma && nat_le (maximum_ma object) ma
+
 -- A request is valid where its position is in the offer and neither of its currents is above the offered one there.
 unfoldable pub is_valid : List ℕ → ℕ → Bool
-is_valid offer object = nat_le 1 (position_of object) && is_within (slice_get offer (position_of object - 1)) where
-  is_within : Option ℕ → Bool
-  is_within None = false
-  is_within (Some ma) = nat_le (operating_ma object) ma && nat_le (maximum_ma object) ma
+is_valid offer object = nat_le 1 (position_of object) && is_at_most object (slice_get offer (position_of object - 1))
 
 -- the voltage in mV of the supply at a position, from 1
 unfoldable pub voltage_at : List SupplyData → ℕ → ℕ
