@@ -11,16 +11,12 @@ use Rattle.pd_timers.specs.Deadlines.{deadline, first_of, IsFirst}
 use Rattle.pd_timers.proofs.FirstLemmas.{first_of-IsFirst}
 use Rattle.pd_timers.proofs.LaterLemmas.{SetsLater-same}
 use Rattle.pd_objects.specs.declared.query.Answer.TheVariants as answers
-use Rattle.pd_objects.specs.declared.query.Query.{Query}
 use Rattle.pd_objects.specs.declared.query.Query.TheVariants as query
 use Rattle.pd_source.specs.Record.{SourceSettings, SourceRecord, off}
 use Rattle.pd_source.specs.Step.{query_of, hold_of}
-use Rattle.pd_source.specs.Table.{row_of}
-use Rattle.pd_source.specs.declared.kinds.State.{State}
-use Rattle.pd_source.specs.declared.kinds.State.TheVariants as states
 use Rattle.pd_source.specs.declared.kinds.Stimulus.{Stimulus}
 use Rattle.pd_source.specs.declared.kinds.Stimulus.TheVariants as told
-use Rattle.pd_source.proofs.Holds.{hold_of-floor, hold_of-off, hold_of-stepped}
+use Rattle.pd_source.proofs.Holds.{hold_of-floor, hold_of-off, hold_of-stepped, hold_of-None}
 use Rattle.pd_line.specs.Record.{PortRecord, nothing_attached}
 use Rattle.pd_line.proofs.Later.{later_kept}
 use Rattle.pd_line.specs.Later.{Times, times_of, Later, line_end}
@@ -325,17 +321,10 @@ fits_told : (s : SourceSettings) (r : SourceRecord) (floor free t : ℕ) (x : Op
 fits_told s r floor free t None a h i = h
 fits_told s r floor free t (Some x) a h i = hold_of-stepped s floor free t x a r h i
 
--- shedding asks nothing
-shed_asks : (s : SourceSettings) (state : State) (r : SourceRecord) → query_of s told.Shed (record r { state = state }) ≡ None
-unfolding query_of row_of
-shed_asks s states.Off r = refl
-shed_asks s state r = refl
-
 -- where the hold may not stay, it is shed
 fits_shed : (s : SourceSettings) (r : SourceRecord) (floor free t : ℕ) (a : Option Answer) → hold_of s floor r ≤ free →
     hold_of s floor (source_after_told s t (told_if_shed a) None r) ≤ free
-fits_shed s r floor free t (Some (answers.Fits false)) h =
-    hold_of-stepped s floor free t told.Shed None r h (subst (λ (q : Option Query). IsAllowed free q None) (sym (shed_asks s r.state r)) refl)
+fits_shed s r floor free t (Some (answers.Fits false)) h = hold_of-None s floor free t told.Shed r h
 fits_shed s r floor free t a h = h
 
 -- a detached port's hold is its floor

@@ -12,7 +12,7 @@ use crate::{Due, Entry, Event, Meter, Settings, What};
 use arrayvec::ArrayVec;
 use pd_header::Side;
 use pd_line::{Record, Work};
-use pd_objects::{Answer, Query};
+use pd_objects::{Answer, Contract, Query};
 use std::marker::Model;
 use std::mem;
 
@@ -136,6 +136,13 @@ impl Port {
             .port
             .source
             .hold(u64::from(self.settings.floor_mw()) * 1_000)
+    }
+
+    /// The contract that is in force.
+    pub fn contract(&self) -> Option<Contract>
+        ensures { result ≡ self.now.record.source.contract }
+    {
+        self.work.port.source.contract()
     }
 
     /// Whether both ports' records are the same, whatever the ports are set to.
