@@ -14,7 +14,7 @@ pub enum Fault {
     SoftReset { side: Side },
     /// A side begins a Hard Reset.
     HardReset { side: Side },
-    /// The source has begun as many Hard Resets as it may.
+    /// The source gives up: nobody answers its offers, or it has begun as many Hard Resets as it may.
     SourceDisabled,
     /// The sink has begun as many Hard Resets as it may.
     SinkDisabled,
@@ -30,6 +30,8 @@ pub enum Fault {
 
 // What a list of a fixed capacity fills its free places with.
 impl Default for Fault {
+    ghost is_default = { λ f. f ≡ Fault.Ignored 0 };
+
     fn default() -> Fault {
         Fault::Ignored { id: 0 }
     }
