@@ -30,7 +30,10 @@ pub enum Fault {
 
 // What a list of a fixed capacity fills its free places with.
 impl Default for Fault {
-    ghost is_default = { λ f. f ≡ Fault.Ignored 0 };
+    ghost use Rattle.std.specs.Prelude.{◌≡◌};
+    ghost use Rattle.pd_line.specs.declared.notes.Fault.TheVariants.{Ignored};
+
+    ghost is_default = { λ f. f ≡ Ignored 0 };
 
     fn default() -> Fault {
         Fault::Ignored { id: 0 }
