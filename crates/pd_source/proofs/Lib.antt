@@ -6,4 +6,8 @@ pub mod Answered
 pub mod Holds
 pub mod Quiet
 pub mod Objects
+pub mod SoundActs
+pub mod SoundRows
+pub mod Limits
 pub mod SoundSteps
+pub mod Agreed

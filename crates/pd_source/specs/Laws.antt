@@ -10,7 +10,7 @@ use Rattle.pd_objects.specs.Supply.{SupplyData, IsSupply}
 use Rattle.pd_source.specs.declared.kinds.Stimulus.{Stimulus}
 use Rattle.pd_source.specs.Record.{SourceSettings, SourceRecord, off, cable_current}
 use Rattle.pd_source.specs.Acts.{object_of}
-use Rattle.pd_source.specs.Sound.{IsSound, IsAnswer, IsOfAnswer, limit_in}
+use Rattle.pd_source.specs.Sound.{IsSound, IsAnswer, IsOfAnswer, limit_in, IsMade, IsTaken, IsSettled}
 use Rattle.pd_source.specs.Step.{before_row, stepped, acts_of, query_of, hold_of}
 
 -- after a step, each deadline that runs ran before it, and wasn't the one that fell due, or is later than the step
@@ -61,6 +61,21 @@ abbrev pub StepsStaySound : Type 0
 StepsStaySound =
     (s : SourceSettings) (now : ℕ) (x : Stimulus) (a : Option Answer) (r : SourceRecord) →
     IsSound s r → IsAnswer s (query_of s x r) a → IsSound s (stepped s now x a r)
+
+-- what becomes of the contract, of the accepted request and of the delivered offer in a step
+abbrev pub ContractsAreMade : Type 0
+ContractsAreMade =
+    (s : SourceSettings) (now : ℕ) (x : Stimulus) (a : Option Answer) (r : SourceRecord) → IsMade s r (stepped s now x a r).contract
+
+abbrev pub RequestsAreTaken : Type 0
+RequestsAreTaken =
+    (s : SourceSettings) (now : ℕ) (x : Stimulus) (a : Option Answer) (r : SourceRecord) →
+    IsTaken a r (stepped s now x a r).accepted_request
+
+abbrev pub OffersAreSettled : Type 0
+OffersAreSettled =
+    (s : SourceSettings) (now : ℕ) (x : Stimulus) (a : Option Answer) (r : SourceRecord) →
+    IsSettled r (stepped s now x a r).delivered_offer
 
 -- An object of Source_Capabilities offers a supply at a current in mA: a fixed supply, of its voltage and this current.
 -- Bit 27 tells whether the power is unconstrained; no other flag is set, and there is no peak current.

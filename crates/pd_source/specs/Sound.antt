@@ -1,5 +1,5 @@
 -- What holds of the source's record at each step: the cable's limit, what is offered, and what is agreed on.
-use Rattle.std.specs.Prelude.{◌≡◌, ◌≤◌, ◌⊎◌, ℕ, ◌-◌, Bool, true, false, List, [], ◌∷◌, Option, Some, None, unwrap_or, slice_get}
+use Rattle.std.specs.Prelude.{◌≡◌, ◌≤◌, ◌⊎◌, ℕ, ◌-◌, Bool, true, false, List, [], ◌∷◌, Option, Some, None, unwrap_or, option_map, slice_get}
 use Rattle.std.specs.Option.{option_map_or}
 use Rattle.pd_objects.specs.Supply.{SupplyData}
 use Rattle.pd_objects.specs.declared.contract.Contract.{Contract}
@@ -13,8 +13,8 @@ use Rattle.pd_source.specs.declared.kinds.State.TheVariants as state
 use Rattle.pd_source.specs.declared.kinds.Stimulus.{Stimulus}
 use Rattle.pd_source.specs.declared.kinds.Stimulus.TheVariants as stimulus
 use Rattle.pd_source.specs.Record.{SourceSettings, SourceRecord, cable_current}
-use Rattle.pd_source.specs.Request.{is_valid, voltage_at}
-use Rattle.pd_source.specs.Table.{among}
+use Rattle.pd_source.specs.Request.{is_valid, voltage_at, contract_of}
+use Rattle.pd_source.specs.Table.{among, is_request_valid, says_fits}
 
 -- a limit is unknown, 3,000 mA or 5,000 mA
 abbrev pub IsLimit : Option ℕ → Type 0
@@ -82,3 +82,20 @@ IsAnswer s (Some (query.Keep power)) a = (stays : Bool) × (a ≡ Some (answer.F
 abbrev pub IsOfAnswer : Stimulus → Option ℕ → Type 0
 IsOfAnswer (stimulus.Identity objects) limit = limit ≡ Some (limit_of objects.items)
 IsOfAnswer _ limit = ⊥
+
+-- What a step may do to the contract: it stays, falls, or is made of the accepted request and the delivered offer.
+abbrev pub IsMade : SourceSettings → SourceRecord → Option Contract → Type 0
+IsMade s r new =
+    (new ≡ r.contract)
+    ⊎ ((new ≡ None) ⊎ (new ≡ option_map (contract_of s.supplies r.delivered_offer) r.accepted_request))
+
+-- What a step may do to the accepted request: it stays, falls, or is the kept request, which is valid and fits.
+abbrev pub IsTaken : Option Answer → SourceRecord → Option ℕ → Type 0
+IsTaken a r new =
+    (new ≡ r.accepted_request)
+    ⊎ ((new ≡ None) ⊎ ((new ≡ r.kept_request) × (is_request_valid r ≡ true) × (says_fits a ≡ true)))
+
+-- What a step may do to the delivered offer: it stays, falls, or is the draft; the last not in Transition_Supply.
+abbrev pub IsSettled : SourceRecord → List ℕ → Type 0
+IsSettled r new =
+    (new ≡ r.delivered_offer) ⊎ ((new ≡ []) ⊎ ((new ≡ r.draft_offer) × (is_transition r.state ≡ false)))

@@ -1,4 +1,4 @@
-use Rattle.pd_source.proofs.SoundSteps.{asked-stepped, limit-stepped}
+use Rattle.pd_source.proofs.Limits.{asked-stepped, limit-stepped}
 use Rattle.pd_source.proofs.laws.limits.Goals as goal
 
 pub returns-clause-asked : goal.returns-clause-asked
