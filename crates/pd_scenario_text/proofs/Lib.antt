@@ -1,2 +1,5 @@
+pub mod Differing
+pub mod Found
 pub mod Members
+pub mod Parts
 pub mod Sound

@@ -1,8 +1,9 @@
 -- The elements of an array and the keys of a table, where the code has a `Vec` and a map.
-use Rattle.std.proofs.Common.{◌≡◌, ℕ, zero, suc, Bool, true, false, not, ◌||◌, ◌&&◌, length, List, [], ◌∷◌, Option, Some, None, String, Vec, Global, BTreeMap, string_bytes, map, pos, ℤ, refl, arith, sym, ap, ◌∙◌, ◌++◌, ◌+◌, ◌<◌, take, get_or}
+use Rattle.std.proofs.Common.{◌≡◌, ℕ, zero, suc, Bool, true, false, not, ◌||◌, ◌&&◌, length, List, [], ◌∷◌, Option, Some, None, String, Vec, Global, BTreeMap, string_bytes, map, pos, ℤ, refl, arith, sym, ap, ◌∙◌, ◌++◌, ◌+◌, ◌<◌, ◌≤◌, take, get_or}
 use Rattle.std.specs.List.{list_any, list_all, filter_map, cons_option}
 use Rattle.std.specs.Option.{option_to_list}
-use Rattle.std.proofs.lemmas.List.{take_more}
+use Rattle.std.proofs.lemmas.Bool.{and_parts}
+use Rattle.std.proofs.lemmas.List.{take_more, length-map, length-take}
 use Rattle.std.proofs.lemmas.List.Elements.{filter_map-append}
 use Rattle.std.specs.Map.{keys_of as map_keys}
 use Rattle.toml.specs.Data.{Data, array}
@@ -66,3 +67,14 @@ pub are_rising-short : (vs : List Value) → length vs < 2 → are_rising (map (
 are_rising-short [] h = refl
 are_rising-short (v ∷ []) h = refl
 are_rising-short (v ∷ w ∷ vs) h = absurd (omega arith)
+
+-- what all elements pass, the one at a place passes
+pub all_at : {A B : Type 0} (p : B → Bool) (g : A → B) (xs : List A) (i : ℕ) (d : A) → i < length xs → list_all p (map g xs) ≡ true → p (g (get_or xs i d)) ≡ true
+all_at p g [] i d below h = absurd (omega arith)
+all_at p g (x ∷ xs) zero d below h = (and_parts (p (g x)) (list_all p (map g xs)) h).0
+all_at p g (x ∷ xs) (suc i) d below h = all_at p g xs i d (omega arith) ((and_parts (p (g x)) (list_all p (map g xs)) h).1)
+
+-- the elements before one of at most seven are fewer than seven
+pub room : (vs : List Value) (ds : List Data) (i : ℕ) → map view vs ≡ ds → length (map supply_of ds) ≤ 7 → i < length vs → length (map supply_of (map view (take i vs))) < 7
+room vs ds i is few below =
+    omega (arith, length-map (map view (take i vs)) supply_of, length-map (take i vs) view, length-take i vs, length-map ds supply_of, length-map vs view, ap length is, few, below)

@@ -1,5 +1,5 @@
 -- Names and ids that differ, and names that are there, as the code looks for them.
-use Rattle.std.specs.Prelude.{ℕ, Bool, true, ◌&&◌, List, map, Option, Some, None, bytes_eq, if◌then◌else◌}
+use Rattle.std.specs.Prelude.{◌≡◌, ℕ, Bool, true, ◌&&◌, List, map, Option, Some, None, bytes_eq, if◌then◌else◌}
 use Rattle.std.specs.Borrow.{Bor}
 use Rattle.std.specs.List.{list_any, list_all}
 use Rattle.std.specs.BTreeSet.{BTreeSet}
@@ -23,7 +23,11 @@ sink_names sinks = map (λ (sink : NamedSink). sink.name) sinks
 
 -- a set has a name
 abbrev pub has_text : BTreeSet (Bor (List ℕ)) → List ℕ → Bool
-has_text set name = list_any (λ (other : Bor (List ℕ)). bytes_eq other.now name) set.keys
+has_text set name = list_any (λ (other : Bor (List ℕ)). bytes_eq name other.now) set.keys
+
+-- a set has exactly these names
+abbrev pub Has : List (List ℕ) → BTreeSet (Bor (List ℕ)) → Type 0
+Has names set = (name : List ℕ) → has_text set name ≡ list_any (λ other. bytes_eq other name) names
 
 abbrev pub kind_is_in : BTreeSet (Bor (List ℕ)) → BTreeSet (Bor (List ℕ)) → ScenarioEventKind → Bool
 kind_is_in cables sinks (Attach cable sink) = has_text cables cable && has_text sinks sink

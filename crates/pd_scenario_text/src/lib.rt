@@ -1,6 +1,8 @@
 //! Scenario files: what a text says, and why it is refused.
 #![tactic(auto)]
 
+mod convert;
+mod distinct;
 mod fault;
 mod schema;
 mod tables;

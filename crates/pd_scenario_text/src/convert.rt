@@ -5,9 +5,9 @@ ghost use Rattle.std.specs.List.{list_all};
 ghost use Rattle.toml.specs.View.{view, table_view};
 ghost use Rattle.pd_objects.specs.Supply.{IsSupply};
 ghost use Rattle.pd_scenario_text.specs.Seen.{views};
-ghost use Rattle.pd_scenario_text.specs.Schema.{sink_rules};
+ghost use Rattle.pd_scenario_text.specs.Schema.{port_rules, sink_rules};
 ghost use Rattle.pd_scenario_text.specs.Values.{small, supply_of};
-ghost use Rattle.pd_scenario_text.specs.Tables.{value_at, need_of, default_whole, whole_in, word_at, is_sound, is_sound_event, is_sound_port};
+ghost use Rattle.pd_scenario_text.specs.Tables.{value_at, need_of, default_whole, whole_in, number_at as number_of_key, word_at, is_sound, is_sound_event, is_sound_port};
 ghost use Rattle.pd_scenario_text.specs.Convert.{settings_of, cable_of, sink_of, on, happening_of, event_of};
 
 use crate::schema::{EventName, Key, TableKind, Version};
@@ -31,6 +31,13 @@ fn number_at(table: &Table, key: Key) -> u32
     ensures { result ≡ small (whole_in (value_at key (table_view table.now)) (pos 0)) }
 {
     small(whole_at(table, key, 0))
+}
+
+/// How often a port's cables are asked who they are.
+fn tries_at(table: &Table) -> u32
+    ensures { result ≡ number_of_key port_rules Key.IdentityTries (table_view table.now) }
+{
+    small(whole_at(table, Key::IdentityTries, 3))
 }
 
 fn supply_of(value: &Value) -> Supply
@@ -59,7 +66,7 @@ fn settings_of(version: Version, ports: u64, table: &Table) -> Settings
 {
     let supplies = supplies_of(version, ports, table);
     let floor_mw = number_at(table, Key::Floor);
-    let tries = small(whole_at(table, Key::IdentityTries, 3));
+    let tries = tries_at(table);
     let unconstrained = truth_at(table, Key::Unconstrained, false);
     Settings::new(floor_mw, supplies, tries as u8, unconstrained)
 }
@@ -68,10 +75,11 @@ fn cable_of(version: Version, ports: u64, table: &Table) -> NamedCable
     requires { is_sound version ports TableKind.Cable (table_view table.now) ≡ true }
     ensures { result ≡ cable_of (table_view table.now) }
 {
+    let name = word_at(table, Key::Name);
     let plug = plug_of(word_at(table, Key::Plug)).unwrap_or(CablePlug::Absent);
     let rating = rating_of(whole_at(table, Key::Rating, 0)).unwrap_or(Rating::ThreeAmperes);
     NamedCable {
-        name: Name::new(word_at(table, Key::Name)),
+        name: Name::new(name),
         cable: Cable { plug, rating },
     }
 }
@@ -90,13 +98,14 @@ fn sink_of(version: Version, ports: u64, table: &Table) -> NamedSink
     requires { is_sound version ports TableKind.Sink (table_view table.now) ≡ true }
     ensures { result ≡ sink_of version (table_view table.now) }
 {
+    let name = word_at(table, Key::Name);
     let max_mv = number_at(table, Key::Max);
     let demand_mw = number_at(table, Key::Demand);
     let mode = mode_of(word_at(table, Key::Mode)).unwrap_or(SinkMode::PowerDelivery);
     let number = whole_at(table, Key::Revision, revision_default(version));
     let revision = revision_of(number).unwrap_or(SinkRevision::Revision3);
     NamedSink {
-        name: Name::new(word_at(table, Key::Name)),
+        name: Name::new(name),
         sink: SinkSettings::new(max_mv, demand_mw, mode, revision),
     }
 }
@@ -115,9 +124,11 @@ fn attach_of(version: Version, ports: u64, table: &Table) -> ScenarioEventKind
     requires { is_sound version ports (TableKind.Event EventName.Attach) (table_view table.now) ≡ true }
     ensures { result ≡ ScenarioEventKind.Attach (word_at Key.Cable (table_view table.now)) (word_at Key.Sink (table_view table.now)) }
 {
+    let cable = word_at(table, Key::Cable);
+    let sink = word_at(table, Key::Sink);
     ScenarioEventKind::Attach {
-        cable: Name::new(word_at(table, Key::Cable)),
-        sink: Name::new(word_at(table, Key::Sink)),
+        cable: Name::new(cable),
+        sink: Name::new(sink),
     }
 }
 
@@ -125,7 +136,8 @@ fn demand_of(version: Version, ports: u64, table: &Table) -> ScenarioEventKind
     requires { is_sound version ports (TableKind.Event EventName.Demand) (table_view table.now) ≡ true }
     ensures { result ≡ ScenarioEventKind.Demand (small (whole_in (value_at Key.Mw (table_view table.now)) (pos 0))) }
 {
-    ScenarioEventKind::Demand(Demand::new(number_at(table, Key::Mw)))
+    let mw = number_at(table, Key::Mw);
+    ScenarioEventKind::Demand(Demand::new(mw))
 }
 
 fn damage_of(version: Version, ports: u64, table: &Table) -> ScenarioEventKind

@@ -1,9 +1,9 @@
 //! Names and ids that differ, and names that are there.
 
-ghost use Rattle.std.specs.Prelude.{◌≡◌, ◌&&◌, ℕ, List, map, true, is_some, IfOk, IfSome, bytes_eq};
-ghost use Rattle.std.specs.List.{list_any, list_all};
-ghost use Rattle.pd_scenario.specs.Contents.{names_differ, ids_differ, names_are_known};
-ghost use Rattle.pd_scenario_text.specs.Names.{texts, cable_names, sink_names, has_text, kind_is_in, is_in, name_check};
+ghost use Rattle.std.specs.Prelude.{◌≡◌, is_some, IfOk, IfSome};
+ghost use Rattle.std.specs.List.{list_all};
+ghost use Rattle.pd_scenario.specs.Contents.{names_differ, ids_differ};
+ghost use Rattle.pd_scenario_text.specs.Names.{texts, cable_names, sink_names, has_text, Has, kind_is_in, is_in, name_check};
 
 use pd_scenario::{
     NamedCable, NamedSink, ScenarioEvent, ScenarioEventKind, ScenarioHappening,
@@ -37,11 +37,12 @@ fn set_of<'a>(
     names: &[&'a str],
 ) -> Result<Option<BTreeSet<&'a str>>, AllocError>
     ensures differ { IfOk result (λ set. is_some set ≡ names_differ (texts names.now)) }
-    ensures members { IfOk result (λ set. IfSome set (λ s. (name : List ℕ) → has_text s name ≡ list_any (λ other. bytes_eq other name) (texts names.now))) }
+    ensures members { IfOk result (λ set. IfSome set (Has (texts names.now))) }
 {
     let mut seen = BTreeSet::new(alloc);
     for name in names {
-        if !seen.insert(*name)? {
+        let is_new = seen.insert(*name)?;
+        if !is_new {
             return Ok(None);
         }
     }
@@ -54,7 +55,8 @@ fn ids_differ(alloc: Global, events: &[ScenarioEvent]) -> Result<bool, AllocErro
 {
     let mut seen = BTreeSet::new(alloc);
     for event in events {
-        if !seen.insert(event.id)? {
+        let is_new = seen.insert(event.id)?;
+        if !is_new {
             return Ok(false);
         }
     }
