@@ -1,4 +1,5 @@
 pub mod Convert
+pub mod Document
 pub mod Names
 pub mod Numbers
 pub mod Reading

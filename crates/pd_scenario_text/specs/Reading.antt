@@ -21,6 +21,11 @@ answered (Some fault) c = Err fault
 abbrev pub reading : ℕ → Members → Result Contents ScenarioFault
 reading ports t = answered (refusal ports (tables_of t)) (contents_of (tables_of t))
 
+-- that answer, or want of memory in its place
+abbrev pub Answers : Result Contents ScenarioFault → Result Contents ScenarioFault → Type 0
+Answers (Err Memory) expected = Unit {0}
+Answers answer expected = expected ≡ answer
+
 -- the bytes are the TOML text of a table
 pub record IsTextOf (text : List ℕ) (t : Members) : Type 0 where
   pub utf8 : IsUtf8 text

@@ -37,10 +37,13 @@ unfoldable pub has_unknown_name : Contents → Bool
 has_unknown_name c = not (list_all (λ (e : ScenarioEvent). names_are_known c.cables c.sinks e.happening) c.events)
 
 -- there are other than so many ports, or more events, cables or sinks than may be
-unfoldable pub exceeds_limit : ℕ → Contents → Bool
-exceeds_limit ports c =
-    not (length c.settings == ports)
-    || (nat_lt most_events (length c.events) || (nat_lt most_names (length c.cables) || nat_lt most_names (length c.sinks)))
+unfoldable pub exceed_limits : ℕ → List SettingsData → List NamedCable → List NamedSink → List ScenarioEvent → Bool
+exceed_limits ports settings cables sinks events =
+    not (length settings == ports)
+    || (nat_lt most_events (length events) || (nat_lt most_names (length cables) || nat_lt most_names (length sinks)))
+
+abbrev pub exceeds_limit : ℕ → Contents → Bool
+exceeds_limit ports c = exceed_limits ports c.settings c.cables c.sinks c.events
 
 -- the refusal applies to a file for so many ports
 abbrev pub applies : ScenarioFault → ℕ → Tables → Bool
@@ -61,6 +64,10 @@ applies Memory ports d = false
 abbrev pub refusals : List ScenarioFault
 refusals =
     UnknownKey ∷ WrongType ∷ MissingKey ∷ Range ∷ Name ∷ Duplicate ∷ Supplies ∷ Floors ∷ UnknownName ∷ Limit ∷ []
+
+-- those of them that are of single tables, up to the names
+abbrev pub table_refusals : List ScenarioFault
+table_refusals = UnknownKey ∷ WrongType ∷ MissingKey ∷ Range ∷ Name ∷ []
 
 -- the first that applies
 abbrev pub refusal : ℕ → Tables → Option ScenarioFault

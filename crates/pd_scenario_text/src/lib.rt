@@ -3,6 +3,7 @@
 
 mod convert;
 mod distinct;
+mod document;
 mod fault;
 mod schema;
 mod tables;
