@@ -1,3 +1,4 @@
+pub mod Answered
 pub mod Decided
 pub mod Differing
 pub mod Found

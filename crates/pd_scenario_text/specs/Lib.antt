@@ -1,5 +1,6 @@
 pub mod Convert
 pub mod Document
+pub mod Laws
 pub mod Names
 pub mod Numbers
 pub mod Reading
