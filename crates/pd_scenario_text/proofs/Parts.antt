@@ -127,7 +127,6 @@ supplies_in : (o : Option Data) → (true && is_none o) ≡ false → value_fail
 supplies_in None there ranged supplied = absurd (false≢true (sym there))
 supplies_in (Some d) there ranged supplied = (not-false (list_all is_supply (elements_of d)) ranged, not-false (are_supplies (supplies_of d)) supplied)
 
-
 pub port_supplies : (version : Version) (ports : ℕ) (t : Members) → is_sound_port version ports t ≡ true → (list_all is_supply (elements_at key.Supplies t) ≡ true) × (are_supplies (map supply_of (elements_at key.Supplies t)) ≡ true)
 unfolding is_sound_port fails
 port_supplies version ports t sound =
@@ -151,7 +150,7 @@ port_fits version ports t sound =
     let f = holds version ports Port t (rule key.Floor Required (form.Number quantity.Floor)) both.0 (0, lit< tt, refl) in
     let i = holds version ports Port t (rule key.IdentityTries (need.Number (pos 3)) (form.Number quantity.IdentityTries)) both.0 (2, lit< tt, refl) in
     is_settings (settings_of t) (needed version ports key.Floor quantity.Floor t f) (number_or version ports key.IdentityTries (pos 3) quantity.IdentityTries t refl i)
-        (map supply_of (elements_at key.Supplies t)) refl (port_supplies version ports t sound).1
+    (map supply_of (elements_at key.Supplies t)) refl (port_supplies version ports t sound).1
 
 pub few_tries : (version : Version) (ports : ℕ) (t : Members) → is_sound_port version ports t ≡ true → number_at port_rules key.IdentityTries t ≤ 20
 few_tries version ports t sound = (port_fits version ports t sound).most_tries

@@ -5,9 +5,7 @@ ghost use Rattle.std.specs.List.{list_all};
 ghost use Rattle.pd_scenario.specs.Contents.{names_differ, ids_differ};
 ghost use Rattle.pd_scenario_text.specs.Names.{texts, cable_names, sink_names, has_text, Has, kind_is_in, is_in, name_check};
 
-use pd_scenario::{
-    NamedCable, NamedSink, ScenarioEvent, ScenarioEventKind, ScenarioHappening,
-};
+use pd_scenario::{NamedCable, NamedSink, ScenarioEvent, ScenarioEventKind, ScenarioHappening};
 use std::alloc::{AllocError, Global};
 use std::collections::BTreeSet;
 
@@ -32,10 +30,7 @@ fn sink_names<'a>(alloc: Global, sinks: &'a [NamedSink]) -> Result<Vec<&'a str>,
 }
 
 /// The names in a set, or nothing where two are the same.
-fn set_of<'a>(
-    alloc: Global,
-    names: &[&'a str],
-) -> Result<Option<BTreeSet<&'a str>>, AllocError>
+fn set_of<'a>(alloc: Global, names: &[&'a str]) -> Result<Option<BTreeSet<&'a str>>, AllocError>
     ensures differ { IfOk result (λ set. is_some set ≡ names_differ (texts names.now)) }
     ensures members { IfOk result (λ set. IfSome set (Has (texts names.now))) }
 {

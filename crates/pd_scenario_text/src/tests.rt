@@ -34,12 +34,26 @@ fn changes_of_a_file(rt: HostRuntime) -> Result<(), Fail> {
     assert_eq!(rt; changed(&rt, "end = 1000000\n", "")?, 4);
     assert_eq!(rt; changed(&rt, "version = 1", "version = 3")?, 5);
     assert_eq!(rt; changed(&rt, "phone", "pho ne")?, 6);
-    assert_eq!(rt; changed(&rt, "[[event]]", "[[event]]\nid = 1\nat = 5\nport = 1\nkind = \"lose\"\n[[event]]")?, 7);
+    assert_eq!(rt;
+        changed(
+            &rt,
+            "[[event]]",
+            "[[event]]\nid = 1\nat = 5\nport = 1\nkind = \"lose\"\n[[event]]"
+        )?,
+        7
+    );
     assert_eq!(rt; changed(&rt, "[[5000, 3000]]", "[[9000, 3000]]")?, 8);
     assert_eq!(rt; changed(&rt, "floor = 2500", "floor = 60000")?, 0);
     assert_eq!(rt; changed(&rt, "floor = 2500", "floor = 60001")?, 9);
     assert_eq!(rt; changed(&rt, "sink = \"phone\"", "sink = \"fone\"")?, 10);
-    assert_eq!(rt; changed(&rt, "[[cable]]", "[[port]]\nfloor = 2500\nsupplies = [[5000, 3000]]\n[[cable]]")?, 11);
+    assert_eq!(rt;
+        changed(
+            &rt,
+            "[[cable]]",
+            "[[port]]\nfloor = 2500\nsupplies = [[5000, 3000]]\n[[cable]]"
+        )?,
+        11
+    );
     Ok(())
 }
 
@@ -55,7 +69,9 @@ fn second_version(rt: HostRuntime) -> Result<(), Fail> {
     assert_eq!(rt; read(&rt, both.as_bytes()), 0);
     let low = both.as_str().replace(rt.alloc(), "mw = 2500", "mw = 2499")?;
     assert_eq!(rt; read(&rt, low.as_bytes()), 9);
-    let ported = both.as_str().replace(rt.alloc(), "mw = 2500", "mw = 2500\nport = 1")?;
+    let ported = both
+        .as_str()
+        .replace(rt.alloc(), "mw = 2500", "mw = 2500\nport = 1")?;
     assert_eq!(rt; read(&rt, ported.as_bytes()), 2);
     Ok(())
 }

@@ -230,13 +230,7 @@ fn is_supplied(form: Form, value: &Value) -> bool
 }
 
 /// Whether a refusal of a single value doesn't apply to one that has to be of a form.
-pub fn passes(
-    fault: ScenarioFault,
-    version: Version,
-    ports: u64,
-    form: Form,
-    value: &Value,
-) -> bool
+pub fn passes(fault: ScenarioFault, version: Version, ports: u64, form: Form, value: &Value) -> bool
     ensures { result ≡ passes fault version ports form (view value.now) }
 {
     match fault {
