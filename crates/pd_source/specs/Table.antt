@@ -1,5 +1,5 @@
 -- The source's state table (the states of USB Power Delivery 3.0, section 8.3.3.2; the rows are this product's profile).
-use Rattle.std.specs.Prelude.{ℕ, Bool, true, false, ◌==◌, ◌&&◌, ◌||◌, not, nat_eq, nat_lt, nat_le, if◌then◌else◌, List, [], ◌∷◌, ◌++◌, Option, Some, None, is_some}
+use Rattle.std.specs.Prelude.{ℕ, Bool, true, false, ◌==◌, ◌&&◌, not, nat_eq, nat_lt, nat_le, if◌then◌else◌, List, [], ◌∷◌, ◌++◌, Option, Some, None, is_some}
 use Rattle.std.specs.Cmp.Lexicographic.{pointwise}
 use Rattle.pd_timers.specs.declared.Timer.{Timer}
 use Rattle.pd_timers.specs.declared.Timer.TheVariants as timer
@@ -49,7 +49,7 @@ state_place state.Disabled = 16
 
 abbrev pub among : State → List State → Bool
 among s [] = false
-among s (t ∷ ts) = (state_place s == state_place t) || among s ts
+among s (t ∷ ts) = if state_place s == state_place t then true else among s ts
 
 -- all states but these
 abbrev pub all_but : List State → List State
@@ -131,7 +131,7 @@ matches _ _ = false
 
 abbrev pub match_one : Heard → List Cue → Bool
 match_one h [] = false
-match_one h (c ∷ cs) = matches c h || match_one h cs
+match_one h (c ∷ cs) = if matches c h then true else match_one h cs
 
 -- how often Source_Capabilities is sent again to a sink that answers nothing, and Hard Reset before the source gives up
 abbrev pub n_caps_count : ℕ
