@@ -1,5 +1,7 @@
 //! `pdbench check SCENARIO`.
 
+ghost use Rattle.std.specs.Prelude.{◌≤◌};
+
 use crate::Ending;
 use crate::fault::tell;
 use crate::files::read_whole;
@@ -41,7 +43,10 @@ fn checked(alloc: Global, text: &[u8]) -> Result<(), ScenarioFault> {
 }
 
 /// Reads the text as a scenario of N ports.
-fn read_as<const N: usize>(alloc: Global, text: &[u8]) -> Result<(), ScenarioFault> {
+fn read_as<const N: usize>(alloc: Global, text: &[u8]) -> Result<(), ScenarioFault>
+    requires from_one { 1 ≤ N }
+    requires to_eight { N ≤ 8 }
+{
     let _scenario = scenario_from_text::<N>(alloc, text)?;
     Ok(())
 }

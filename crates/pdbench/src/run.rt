@@ -1,5 +1,7 @@
 //! `pdbench run SCENARIO EDITS`.
 
+ghost use Rattle.std.specs.Prelude.{◌≤◌};
+
 use crate::Ending;
 use crate::devices::{Input, Output};
 use crate::fault::{tell, tell_refused};
@@ -55,7 +57,10 @@ fn run_text<const N: usize, R: Files + Print + Eprint + Alloc<A = Global>>(
     rt: &R,
     scenario: &[u8],
     edits: &[u8],
-) -> Ending {
+) -> Ending
+    requires from_one { 1 ≤ N }
+    requires to_eight { N ≤ 8 }
+{
     let scenario = match scenario_from_text::<N>(rt.alloc(), scenario) {
         Ok(scenario) => scenario,
         Err(fault) => return tell_refused(rt, fault),
