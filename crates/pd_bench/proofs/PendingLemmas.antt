@@ -10,12 +10,12 @@ use Rattle.std.proofs.lemmas.List.Splits.{slice_split_at, slice_split_none, leng
 use Rattle.std.proofs.lemmas.Grind.{common_steps}
 use Rattle.std.specs.List.{slice_split}
 use Rattle.std.specs.Str.Lines.{lines, lines_of_parts, strip_carriage_return}
-use Rattle.pd_edit.specs.Grammar.{is_comment, are_spaces, line_of}
+use Rattle.pd_edit_lines.specs.Grammar.{is_comment, are_spaces, line_of}
 use Rattle.pd_bench.specs.Pending.{merged, kept_after, StandsForEnd, StandsFor, IsPending}
-use Rattle.pd_edit.specs.declared.line.Line.{Line}
-use Rattle.pd_edit.specs.declared.line.Line.TheVariants.{Skip}
-use Rattle.pd_edit.specs.declared.fault.EditFault.{EditFault}
-use Rattle.pd_edit.specs.declared.fault.EditFault.TheVariants.{Syntax}
+use Rattle.pd_edit_lines.specs.declared.line.Line.{Line}
+use Rattle.pd_edit_lines.specs.declared.line.Line.TheVariants.{Skip}
+use Rattle.pd_edit_lines.specs.declared.fault.EditFault.{EditFault}
+use Rattle.pd_edit_lines.specs.declared.fault.EditFault.TheVariants.{Syntax}
 
 -- 1. The carriage return at the end
 

@@ -6,14 +6,18 @@ use Rattle.pd_port.specs.declared.entry.Entry.{Entry}
 use Rattle.pd_scenario.specs.Contents.{Contents}
 use Rattle.pd_scenario.specs.Limits.{is_port}
 use Rattle.pd_scenario.specs.Plans.{plan_of}
-use Rattle.pd_edit.specs.Grammar.{line_of}
-use Rattle.pd_edit.specs.Edits.{edited}
-use Rattle.pd_edit.specs.Numbers as edit_numbers
-use Rattle.pd_edit.specs.declared.line.Line.{Line}
-use Rattle.pd_edit.specs.declared.line.Line.TheVariants as lines_read
-use Rattle.pd_edit.specs.declared.line.Show.TheVariants.{Transcript}
-use Rattle.pd_edit.specs.declared.fault.EditFault.{EditFault}
-use Rattle.pd_edit.specs.declared.fault.EditFault.TheVariants as edit_faults
+use Rattle.pd_edit_lines.specs.Grammar.{line_of}
+use Rattle.pd_edit.specs.Refusals.{edited}
+use Rattle.pd_edit_lines.specs.Numbers as edit_numbers
+use Rattle.pd_edit_lines.specs.declared.line.Line.{Line}
+use Rattle.pd_edit_lines.specs.declared.line.Line.TheVariants as lines_read
+use Rattle.pd_edit_lines.specs.declared.line.Show.{Show}
+use Rattle.pd_edit_lines.specs.declared.line.Show.TheVariants.{Transcript}
+use Rattle.pd_edit_lines.specs.declared.edit.Edit.{Edit}
+use Rattle.pd_edit_lines.specs.declared.edit.Edit.TheVariants.{Insert}
+use Rattle.pd_edit_lines.specs.declared.edit.EditHappening.TheVariants.{Budget}
+use Rattle.pd_edit_lines.specs.declared.fault.EditFault.{EditFault}
+use Rattle.pd_edit_lines.specs.declared.fault.EditFault.TheVariants as edit_faults
 use Rattle.pd_run.specs.Shown.{Shows}
 use Rattle.pd_report.specs.Device.{Begins, one_more}
 use Rattle.pd_report.specs.Report.{transcript_text}
@@ -62,16 +66,30 @@ EditReply s (Err fault) reply s' outcome = IsRefused (edit_numbers.number_of fau
 EditReply s (Ok after) reply s' outcome =
     ((reply ≡ ok_text) × (s' ≡ after) × (outcome ≡ Accepted)) ⊎ IsRefused (edit_numbers.number_of edit_faults.Memory) s reply s' outcome
 
+-- A budget that changes in time is no edit of this version, for the run doesn't follow it yet.
+abbrev pub as_today : Edit → Result Contents EditFault → Result Contents EditFault
+as_today (Insert id at (Budget mw)) result = Err edit_faults.Syntax
+as_today edit result = result
+
+-- the scenario of n ports after an edit, or its refusal
+abbrev pub edited_today : ℕ → Contents → Edit → Result Contents EditFault
+edited_today n s edit = as_today edit (edited n s edit)
+
 -- a show of a port: the transcript of the scenario's run, where there is such a port
-abbrev pub ShowReply : Bool → ℕ → Contents → List ℕ → Contents → Outcome → Type 0
-ShowReply true port s reply s' outcome =
+abbrev pub PortReply : Bool → ℕ → Contents → List ℕ → Contents → Outcome → Type 0
+PortReply true port s reply s' outcome =
     (entries : List (ℕ × Entry)) × Shows (plan_of s) entries × (reply ≡ transcript_text port entries) × (s' ≡ s) × (outcome ≡ Shown)
-ShowReply false port s reply s' outcome = IsRefused (edit_numbers.number_of edit_faults.NoSuchPort) s reply s' outcome
+PortReply false port s reply s' outcome = IsRefused (edit_numbers.number_of edit_faults.NoSuchPort) s reply s' outcome
+
+-- A show. Those of contracts, faults and margins are none of this version.
+abbrev pub ShowReply : ℕ → Show → Contents → List ℕ → Contents → Outcome → Type 0
+ShowReply n (Transcript port) s reply s' outcome = PortReply (is_port n port) port s reply s' outcome
+ShowReply n _ s reply s' outcome = IsRefused (edit_numbers.number_of edit_faults.Syntax) s reply s' outcome
 
 abbrev pub Reply : ℕ → Contents → Result Line EditFault → List ℕ → Contents → Outcome → Type 0
 Reply n s (Ok lines_read.Skip) reply s' outcome = (reply ≡ []) × (s' ≡ s) × (outcome ≡ Skipped)
-Reply n s (Ok (lines_read.Edit edit)) reply s' outcome = EditReply s (edited n s edit) reply s' outcome
-Reply n s (Ok (lines_read.Show (Transcript port))) reply s' outcome = ShowReply (is_port n port) port s reply s' outcome
+Reply n s (Ok (lines_read.Edit edit)) reply s' outcome = EditReply s (edited_today n s edit) reply s' outcome
+Reply n s (Ok (lines_read.Show show)) reply s' outcome = ShowReply n show s reply s' outcome
 Reply n s (Err fault) reply s' outcome = IsRefused (edit_numbers.number_of fault) s reply s' outcome
 
 -- ---- the whole session

@@ -6,9 +6,9 @@ use Rattle.pd_port.specs.declared.entry.Entry.{Entry}
 use Rattle.pd_scenario.specs.Contents.{Contents}
 use Rattle.pd_scenario.specs.Plan.{Plan}
 use Rattle.pd_scenario.specs.Plans.{plan_of}
-use Rattle.pd_edit.specs.Grammar.{line_of}
-use Rattle.pd_edit.specs.declared.line.Line.{Line}
-use Rattle.pd_edit.specs.declared.fault.EditFault.{EditFault}
+use Rattle.pd_edit_lines.specs.Grammar.{line_of}
+use Rattle.pd_edit_lines.specs.declared.line.Line.{Line}
+use Rattle.pd_edit_lines.specs.declared.fault.EditFault.{EditFault}
 use Rattle.pd_run.specs.Shown.{Shows}
 use Rattle.pd_report.specs.Device.{Begins}
 use Rattle.pd_report.specs.declared.fault.BenchFault.{BenchFault}

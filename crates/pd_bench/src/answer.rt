@@ -2,18 +2,19 @@
 
 ghost use Rattle.std.specs.Prelude.{◌≡◌, ◌+◌, ◌<◌, ◌≤◌, ◌^◌, List, ℕ};
 ghost use Rattle.pd_scenario.specs.Limits.{is_port};
-ghost use Rattle.pd_edit.specs.Edits.{edited};
-ghost use Rattle.pd_edit.specs.Grammar.{line_of};
-ghost use Rattle.pd_edit.specs.Numbers.{number_of};
-ghost use Rattle.pd_edit.specs.declared.fault.EditFault.TheVariants as edit_faults;
+ghost use Rattle.pd_edit.specs.Refusals.{Applies};
+ghost use Rattle.pd_edit_lines.specs.Grammar.{line_of};
+ghost use Rattle.pd_edit_lines.specs.Numbers.{number_of};
+ghost use Rattle.pd_edit_lines.specs.declared.fault.EditFault.TheVariants as edit_faults;
 ghost use Rattle.pd_report.specs.Device.{CountsFailure, Writes};
 ghost use Rattle.pd_bench.specs.declared.tally.Outcome.{Outcome as OutcomeData};
 ghost use Rattle.pd_bench.specs.declared.tally.Outcome.TheVariants as outcomes;
-ghost use Rattle.pd_bench.specs.Session.{EditReply, ShowReply, answered, counted, done_text, refused_text};
+ghost use Rattle.pd_bench.specs.Session.{EditReply, PortReply, ShowReply, edited_today, answered, counted, done_text, refused_text};
 ghost use Rattle.pd_bench.specs.Stream.{IsRunning, Replied};
 
 use crate::{Outcome, Tally};
-use pd_edit::{Edit, EditFault, Line, Show, apply};
+use pd_edit::apply;
+use pd_edit_lines::{Edit, EditFault, EditHappening, Line, Show};
 use pd_port::Meter;
 use pd_report::{BenchFault, Text, TextOut, transcript, write_all, write_text};
 use pd_run::Runner;
@@ -47,7 +48,7 @@ pub(crate) fn answer<const N: usize, T: Runner<N>, W: TextOut>(
     match Line::read(line) {
         Ok(Line::Skip) => Ok(()),
         Ok(Line::Edit(edit)) => change(alloc, &edit, state, runner, writer, meter),
-        Ok(Line::Show(Show::Transcript { port })) => show(port, state, runner, writer),
+        Ok(Line::Show(shown)) => show(shown, state, runner, writer),
         Err(fault) => refuse(fault, state, writer),
     }
 }
@@ -63,13 +64,13 @@ fn change<const N: usize, T: Runner<N>, W: TextOut>(
 ) -> Result<(), BenchFault>
     requires runs { IsRunning (T.plan runner.old) (T.entries runner.old) state.old.scenario }
     requires room { answered state.old.tally + 1 < 2 ^ 32 }
-    ensures reply { (reply : List ℕ) × (outcome : OutcomeData) × EditReply state.old.scenario (edited N state.old.scenario edit.now) reply state.new.scenario outcome
+    ensures reply { (reply : List ℕ) × (outcome : OutcomeData) × EditReply state.old.scenario (edited_today N state.old.scenario edit.now) reply state.new.scenario outcome
         × (state.new.tally ≡ counted state.old.tally outcome) × Writes (W.taken writer.old) (W.taken writer.new) result reply }
     ensures counts { CountsFailure (W.failures writer.old) (W.failures writer.new) result }
     ensures runs { IsRunning (T.plan runner.new) (T.entries runner.new) state.new.scenario }
     ensures room { answered state.new.tally ≤ answered state.old.tally + 1 }
 {
-    let edited = match apply(alloc, &state.scenario, edit) {
+    let edited = match edited_today(alloc, &state.scenario, edit) {
         Ok(edited) => edited,
         Err(fault) => return refuse(fault, state, writer),
     };
@@ -81,8 +82,47 @@ fn change<const N: usize, T: Runner<N>, W: TextOut>(
     write_all(writer, b"ok\n")
 }
 
-/// Answers a show of a port, the ports being numbered from 1.
+/// The scenario after an edit. A budget that changes in time is no edit of this version.
+fn edited_today<const N: usize>(
+    alloc: Global,
+    scenario: &Scenario<N>,
+    edit: &Edit,
+) -> Result<Scenario<N>, EditFault>
+    ensures { Applies result (edited_today N scenario.now edit.now) }
+{
+    if let Edit::Insert {
+        happening: EditHappening::Budget { .. },
+        ..
+    } = edit
+    {
+        return Err(EditFault::Syntax);
+    }
+    apply(alloc, scenario, edit)
+}
+
+/// Answers a show. Those of contracts, faults and margins are none of this version.
 fn show<const N: usize, T: Runner<N>, W: TextOut>(
+    show: Show,
+    state: &mut State<N>,
+    runner: &T,
+    writer: &mut W,
+) -> Result<(), BenchFault>
+    requires runs { IsRunning (T.plan runner.now) (T.entries runner.now) state.old.scenario }
+    requires room { answered state.old.tally + 1 < 2 ^ 32 }
+    ensures reply { (reply : List ℕ) × (outcome : OutcomeData) × ShowReply N show state.old.scenario reply state.new.scenario outcome
+        × (state.new.tally ≡ counted state.old.tally outcome) × Writes (W.taken writer.old) (W.taken writer.new) result reply }
+    ensures counts { CountsFailure (W.failures writer.old) (W.failures writer.new) result }
+    ensures same { state.new.scenario ≡ state.old.scenario }
+    ensures room { answered state.new.tally ≤ answered state.old.tally + 1 }
+{
+    match show {
+        Show::Transcript { port } => show_port(port, state, runner, writer),
+        Show::Contracts | Show::Faults | Show::Margins => refuse(EditFault::Syntax, state, writer),
+    }
+}
+
+/// Answers a show of a port, the ports being numbered from 1.
+fn show_port<const N: usize, T: Runner<N>, W: TextOut>(
     port: u64,
     state: &mut State<N>,
     runner: &T,
@@ -90,7 +130,7 @@ fn show<const N: usize, T: Runner<N>, W: TextOut>(
 ) -> Result<(), BenchFault>
     requires runs { IsRunning (T.plan runner.now) (T.entries runner.now) state.old.scenario }
     requires room { answered state.old.tally + 1 < 2 ^ 32 }
-    ensures reply { (reply : List ℕ) × (outcome : OutcomeData) × ShowReply (is_port N port) port state.old.scenario reply state.new.scenario outcome
+    ensures reply { (reply : List ℕ) × (outcome : OutcomeData) × PortReply (is_port N port) port state.old.scenario reply state.new.scenario outcome
         × (state.new.tally ≡ counted state.old.tally outcome) × Writes (W.taken writer.old) (W.taken writer.new) result reply }
     ensures counts { CountsFailure (W.failures writer.old) (W.failures writer.new) result }
     ensures same { state.new.scenario ≡ state.old.scenario }

@@ -32,7 +32,7 @@ fn insert<const N: usize>(
     let events = scenario.events();
     let event = inserted_event(N, id, at, happening);
     let edited = with_event(alloc, events, event)?;
-    Ok(scenario.copy(alloc)?.with_events(edited))
+    scenario.with_events(alloc, edited)
 }
 
 fn remove<const N: usize>(
@@ -45,7 +45,7 @@ fn remove<const N: usize>(
 {
     let events = scenario.events();
     let edited = without_event(alloc, events, id)?;
-    Ok(scenario.copy(alloc)?.with_events(edited))
+    scenario.with_events(alloc, edited)
 }
 
 fn move_event<const N: usize>(
@@ -59,7 +59,7 @@ fn move_event<const N: usize>(
 {
     let events = scenario.events();
     let edited = with_time(alloc, events, id, at as u32)?;
-    Ok(scenario.copy(alloc)?.with_events(edited))
+    scenario.with_events(alloc, edited)
 }
 
 fn change<const N: usize>(
@@ -73,7 +73,7 @@ fn change<const N: usize>(
 {
     let events = scenario.events();
     let edited = with_kind(alloc, events, id, kind)?;
-    Ok(scenario.copy(alloc)?.with_events(edited))
+    scenario.with_events(alloc, edited)
 }
 
 /// The cables of a scenario with a new one, or with another in place of the one of its name.
@@ -106,7 +106,7 @@ fn cable<const N: usize>(
     let _text = name.as_str();
     let new = written_cable(name, plug, rating);
     let edited = put_cable(alloc, scenario, new)?;
-    Ok(scenario.copy(alloc)?.with_cables(edited))
+    scenario.with_cables(alloc, edited)
 }
 
 fn drop_cable<const N: usize>(
@@ -119,7 +119,7 @@ fn drop_cable<const N: usize>(
 {
     let cables = scenario.cables();
     let edited = without_cable(alloc, cables, name)?;
-    Ok(scenario.copy(alloc)?.with_cables(edited))
+    scenario.with_cables(alloc, edited)
 }
 
 /// The sinks of a scenario with a new one, or with another in place of the one of its name.
@@ -154,7 +154,7 @@ fn sink<const N: usize>(
     let _text = name.as_str();
     let new = written_sink(name, max_mv, demand_mw, mode, revision);
     let edited = put_sink(alloc, scenario, new)?;
-    Ok(scenario.copy(alloc)?.with_sinks(edited))
+    scenario.with_sinks(alloc, edited)
 }
 
 fn drop_sink<const N: usize>(
@@ -167,7 +167,7 @@ fn drop_sink<const N: usize>(
 {
     let sinks = scenario.sinks();
     let edited = without_sink(alloc, sinks, name)?;
-    Ok(scenario.copy(alloc)?.with_sinks(edited))
+    scenario.with_sinks(alloc, edited)
 }
 
 fn caps<const N: usize>(
@@ -179,10 +179,10 @@ fn caps<const N: usize>(
     requires { IsAccepted N scenario.now (edits.Caps port supplies.now) }
     ensures { IfOk result (λ s. s ≡ outcome scenario.now (edits.Caps port supplies.now)) }
 {
-    let settings = scenario.all_settings();
+    let settings = scenario.ports();
     let supplies = supplies_of(supplies);
     let edited = with_port_supplies(alloc, settings, port, &supplies)?;
-    Ok(scenario.copy(alloc)?.with_settings(edited))
+    scenario.with_settings(alloc, edited)
 }
 
 fn floor<const N: usize>(
@@ -194,9 +194,9 @@ fn floor<const N: usize>(
     requires { IsAccepted N scenario.now (edits.Floor port mw) }
     ensures { IfOk result (λ s. s ≡ outcome scenario.now (edits.Floor port mw)) }
 {
-    let settings = scenario.all_settings();
+    let settings = scenario.ports();
     let edited = with_port_floor(alloc, settings, port, mw as u32)?;
-    Ok(scenario.copy(alloc)?.with_settings(edited))
+    scenario.with_settings(alloc, edited)
 }
 
 fn budget<const N: usize>(
@@ -207,8 +207,8 @@ fn budget<const N: usize>(
     requires { IsAccepted N scenario.now (edits.Budget mw) }
     ensures { IfOk result (λ s. s ≡ outcome scenario.now (edits.Budget mw)) }
 {
-    let _settings = scenario.all_settings();
-    Ok(scenario.copy(alloc)?.with_budget(mw as u32))
+    let _settings = scenario.ports();
+    scenario.with_numbers(alloc, mw as u32, scenario.end_us())
 }
 
 fn end<const N: usize>(
@@ -219,8 +219,8 @@ fn end<const N: usize>(
     requires { IsAccepted N scenario.now (edits.End at) }
     ensures { IfOk result (λ s. s ≡ outcome scenario.now (edits.End at)) }
 {
-    let _settings = scenario.all_settings();
-    Ok(scenario.copy(alloc)?.with_end(at as u32))
+    let _settings = scenario.ports();
+    scenario.with_numbers(alloc, scenario.budget_mw(), at as u32)
 }
 
 /// The scenario after an edit for which no refusal applies.

@@ -340,7 +340,7 @@ fn are_funded_with(settings: &[Settings], first: u64, port: u64, mw: u64, budget
 fn stays_funded<const N: usize>(scenario: &Scenario<N>, edit: &Edit) -> bool
     ensures { result ≡ stays_funded scenario.now edit.now }
 {
-    let settings = scenario.all_settings();
+    let settings = scenario.ports();
     let events = scenario.events();
     let budget_mw = scenario.budget_mw();
     match edit {

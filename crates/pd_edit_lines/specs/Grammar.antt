@@ -6,7 +6,7 @@
 --     caps PORT MV MA [MV MA]..      floor PORT MW      budget MW      end AT
 --     show transcript PORT      show contracts      show faults      show margins
 -- KIND is attach CABLE SINK, detach, demand MW, lose, damage PLACE MASK, get_source or get_sink.
-use Rattle.std.specs.Prelude.{ℕ, Bool, true, false, ◌&&◌, ◌==◌, ◌||◌, nat_lt, nat_le, List, [], ◌∷◌, ◌++◌, length, codes, Option, Some, None, option_map, Result, Ok, Err, bytes_eq, if◌then◌else◌}
+use Rattle.std.specs.Prelude.{ℕ, Bool, true, false, ◌&&◌, ◌==◌, ◌||◌, nat_lt, nat_le, List, [], ◌∷◌, ◌++◌, length, codes, Option, Some, None, option_map, ok_or, Result, Ok, Err, bytes_eq, if◌then◌else◌}
 use Rattle.std.specs.List.{list_all}
 use Rattle.arrayvec.specs.ArrayVec.{ArrayVec}
 use Rattle.pd_sink.specs.declared.settings.SinkRevision.{SinkRevision}
@@ -217,22 +217,10 @@ is_comment (c ∷ cs) = c == 35
 abbrev pub are_spaces : List ℕ → Bool
 are_spaces bytes = list_all (λ c. c == 32) bytes
 
--- What the bench does today: timed changes of the budget and three of the shows are read but not yet done.
-abbrev pub is_offered : Line → Bool
-is_offered lines.Skip = true
-is_offered (lines.Edit (edits.Insert id at (happens.Budget mw))) = false
-is_offered (lines.Edit edit) = true
-is_offered (lines.Show (Transcript port)) = true
-is_offered (lines.Show show) = false
-
-abbrev pub offered_of : Option Line → Result Line EditFault
-offered_of None = Err Syntax
-offered_of (Some line) = if is_offered line then Ok line else Err Syntax
-
 -- What a line is: comments and spaces are skipped; any other line of more than 256 bytes is none, nor is one that
 -- isn't a command.
 abbrev pub line_of : List ℕ → Result Line EditFault
 line_of bytes =
     if is_comment bytes || are_spaces bytes then Ok lines.Skip
     else if nat_lt 256 (length bytes) then Err Syntax
-    else offered_of (command_of (words bytes))
+    else ok_or (command_of (words bytes)) Syntax

@@ -11,4 +11,4 @@ mod words;
 
 pub use edit::{Edit, EditHappening, EditKind, WrittenSupply};
 pub use fault::EditFault;
-pub use line::{Line, Show, is_offered};
+pub use line::{Line, Show};

@@ -2,14 +2,14 @@
 
 ghost use Rattle.std.specs.Prelude.{◌≡◌, ◌<◌, ◌==◌};
 ghost use Rattle.pd_edit_lines.specs.Words.{words};
-ghost use Rattle.pd_edit_lines.specs.Grammar.{show_from, show_of, command_from, command_of, is_comment, are_spaces, is_offered, line_of, one_number};
+ghost use Rattle.pd_edit_lines.specs.Grammar.{show_from, show_of, command_from, command_of, is_comment, are_spaces, line_of, one_number};
 ghost use Rattle.pd_edit_lines.specs.declared.line.Show.TheVariants as shows;
 
 use crate::event_lines::{change_of, insert_of, move_of, remove_of};
 use crate::keywords::{Command, ShowWord, command_word, show_word};
 use crate::setting_lines::{budget_of, cable_of, caps_of, end_edit_of, floor_of, sink_of};
 use crate::words::{end_of, next, number_at};
-use crate::{Edit, EditFault, EditHappening};
+use crate::{Edit, EditFault};
 
 /// The most bytes of a line that isn't skipped.
 const LONGEST_LINE: usize = 256;
@@ -98,30 +98,11 @@ fn are_spaces(line: &[u8]) -> bool
     line.iter().all(|byte| *byte == b' ')
 }
 
-/// Whether the bench does today what a line asks for: not yet timed changes of the budget, nor the shows of contracts,
-/// faults and margins.
-pub fn is_offered(line: &Line) -> bool
-    ensures { result ≡ is_offered line.now }
-{
-    match line {
-        Line::Skip => true,
-        Line::Edit(
-            Edit::Insert {
-                happening: EditHappening::Budget { .. },
-                ..
-            },
-        ) => false,
-        Line::Edit(_) => true,
-        Line::Show(Show::Transcript { .. }) => true,
-        Line::Show(_) => false,
-    }
-}
-
 impl Line {
     /// What a line is, without its line end: the spaces before its first and after its last word don't count.
     ///
     /// # Errors
-    /// `Syntax` where the line is none of an edit script, or asks for what isn't offered.
+    /// `Syntax` where the line is none of an edit script.
     pub fn read(line: &[u8]) -> Result<Line, EditFault>
         ensures { result ≡ line_of line.now }
     {
@@ -131,9 +112,6 @@ impl Line {
         if line.len() > LONGEST_LINE {
             return Err(EditFault::Syntax);
         }
-        match command_of(line) {
-            Some(line) if is_offered(&line) => Ok(line),
-            _ => Err(EditFault::Syntax),
-        }
+        command_of(line).ok_or(EditFault::Syntax)
     }
 }

@@ -2,7 +2,7 @@
 use Rattle.std.specs.Prelude.{◌≡◌, ◌⊎◌, ℕ, ◌<◌, List, Option, Some, None}
 use Rattle.pd_timers.specs.Deadlines.{SetsLater}
 use Rattle.pd_line.specs.declared.record.Line.{Line}
-use Rattle.pd_line.specs.declared.record.Line.TheVariants.{Idle, Message, Pause, GoodCrc, NoAnswer}
+use Rattle.pd_line.specs.declared.record.Line.TheVariants.{Idle, Message, Pause, GoodCrc, NoAnswer, HardReset}
 use Rattle.pd_line.specs.Record.{PortRecord}
 
 -- when what is on the line ends
@@ -12,6 +12,7 @@ line_end (Message side p fate end) = Some end
 line_end (Pause side p end) = Some end
 line_end (GoodCrc side p a fate end) = Some end
 line_end (NoAnswer side p end) = Some end
+line_end (HardReset side end) = Some end
 
 -- each engine's deadlines, and the line's end
 pub record Times : Type 0 where

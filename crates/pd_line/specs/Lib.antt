@@ -1,5 +1,6 @@
 pub mod Later
 pub mod Lines
+pub mod Noise
 pub mod Record
 pub mod Told
 pub mod Work

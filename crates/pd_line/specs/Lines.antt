@@ -1,5 +1,5 @@
--- The rules of the line, N1 to N4 of docs/TABLES.md: when a message starts, when its GoodCRC starts and ends, and what
--- happens where none comes.
+-- The rules of the line, N1 to N5 of docs/TABLES.md: when a message or a Hard Reset starts, when a message's GoodCRC
+-- starts and ends, what happens where none comes, and what a Hard Reset does.
 use Rattle.std.specs.Prelude.{ℕ, ◌+◌, ◌-◌, ◌==◌, Bool, true, false, if◌then◌else◌, List, [], ◌∷◌, Option, Some, None, Result, Ok, Err}
 use Rattle.pd_symbols.specs.declared.channel.Channel.{Channel}
 use Rattle.pd_symbols.specs.declared.channel.Channel.TheVariants.{Sop, SopPrime}
@@ -8,7 +8,7 @@ use Rattle.pd_header.specs.declared.side.Side.TheVariants.{Source, Sink, Plug}
 use Rattle.pd_header.specs.Kinds.{kind_of_header}
 use Rattle.pd_header.specs.Header.{id_of}
 use Rattle.pd_packet.specs.Contents.{Contents}
-use Rattle.pd_packet.specs.Timing.{duration_of, symbols_of}
+use Rattle.pd_packet.specs.Timing.{duration_of, symbols_of, hard_reset_duration}
 use Rattle.pd_packet.specs.Hearing.{heard}
 use Rattle.pd_packet.specs.declared.fate.Fate.{Fate}
 use Rattle.pd_packet.specs.declared.fate.Fate.TheVariants.{Undisturbed, Lost as LostOnTheWay, Damaged as DamagedOnTheWay}
@@ -17,6 +17,7 @@ use Rattle.pd_protocol.specs.Messages.{acknowledges}
 use Rattle.pd_protocol.specs.declared.layer.LayerAct.{LayerAct}
 use Rattle.pd_protocol.specs.declared.layer.LayerAct.TheVariants as answer
 use Rattle.pd_source.specs.Step as source
+use Rattle.pd_source.specs.declared.kinds.Sent.TheVariants as sent
 use Rattle.pd_sink.specs.Step as sink
 use Rattle.pd_plug.specs.Step as plug
 use Rattle.pd_line.specs.declared.notes.Fault.TheVariants.{NoGoodCrc}
@@ -25,11 +26,12 @@ use Rattle.pd_line.specs.declared.notes.Start.TheVariants as start
 use Rattle.pd_line.specs.declared.record.Disturbance.{Disturbance}
 use Rattle.pd_line.specs.declared.record.Disturbance.TheVariants as disturbance
 use Rattle.pd_line.specs.declared.record.Line.{Line}
-use Rattle.pd_line.specs.declared.record.Line.TheVariants.{Idle, Message, Pause, GoodCrc, NoAnswer}
+use Rattle.pd_line.specs.declared.record.Line.TheVariants.{Idle, Message, Pause, GoodCrc, NoAnswer, HardReset}
 use Rattle.pd_line.specs.declared.record.Waiting.{Waiting}
 use Rattle.pd_line.specs.declared.record.Waiting.TheVariants as waits
 use Rattle.pd_line.specs.declared.work.Work.{Work}
-use Rattle.pd_line.specs.Work.{with_port, wait, noted, submit_on, good_crc_on, timed_out_on, received_on, tells_sent, tells_failed, tells_message}
+use Rattle.pd_line.specs.Told.{sent_as}
+use Rattle.pd_line.specs.Work.{with_port, wait, noted, submit_on, good_crc_on, timed_out_on, received_on, reset_on, tells_sent, tells_failed, tells_message, tells_reset}
 
 -- how long, in microseconds, the receiver waits before its GoodCRC
 abbrev pub pause : ℕ
@@ -85,6 +87,14 @@ taken_from (d ∷ rest) w = (with_port (record w.port { disturbances = record { 
 unfoldable pub taken : Work → Work × Fate
 taken w = taken_from w.port.disturbances.items w
 
+-- The revision bits of what a side sends on a channel, GoodCRCs included: on SOP its engine's, on SOP' 10, USB Power
+-- Delivery 3.0. A packet has those of the time at which it starts first.
+abbrev pub revision_on : Side → Channel → Work → ℕ
+revision_on Source Sop w = source.revision_bits w.port.source.record
+revision_on Source SopPrime w = 2
+revision_on Sink channel w = sink.revision_bits w.port.sink
+revision_on Plug channel w = 2
+
 -- a message's packet starts
 unfoldable pub packet_starts : Side → Contents → ℕ → Work → Work
 packet_starts side p t w =
@@ -94,7 +104,7 @@ packet_starts side p t w =
 unfoldable pub good_crc_starts : Side → Contents → ℕ → Work → Work
 good_crc_starts side p t w =
     let hearer = receiver side p.channel in
-    let a = acknowledges hearer 2 p in
+    let a = acknowledges hearer (revision_on hearer p.channel w) p in
     let r = taken w in
     started (start.Packet hearer a r.1) (with_line (GoodCrc side p a r.1 (t + lasts a)) r.0)
 
@@ -108,15 +118,15 @@ unfoldable pub message_ends : Side → Contents → Fate → ℕ → Work → Wo
 message_ends side p fate t w =
     message_heard side p t (if hears (receiver side p.channel) w then heard p fate else None) w
 
-abbrev pub told_sent : Side → ℕ → LayerAct → Work → Work
-told_sent side t answer.Sent w = tells_sent side t w
-told_sent side t act w = w
+abbrev pub told_sent : Side → Contents → ℕ → LayerAct → Work → Work
+told_sent side p t answer.Sent w = tells_sent side (sent_as (kind_of_header p.header)) t w
+told_sent side p t act w = w
 
 -- what is left of a GoodCRC reaches the sender, or nothing does
 abbrev pub acknowledged : Side → Contents → ℕ → Option Contents → Work → Work
 acknowledged side p t None w = with_line (NoAnswer side p (t + rest_of_time_out)) w
 acknowledged side p t (Some a) w =
-    let r = good_crc_on side p.channel (id_of a.header) w in told_sent side t r.1 r.0
+    let r = good_crc_on side p.channel (id_of a.header) w in told_sent side p t r.1 r.0
 
 abbrev pub told_message : Side → Contents → ℕ → LayerAct → Work → Work
 told_message side p t answer.Up w = tells_message side p t w
@@ -140,12 +150,42 @@ after_time_out side p t act w = w
 unfoldable pub times_out : Side → Contents → ℕ → Work → Work
 times_out side p t w = let r = timed_out_on side p.channel w in after_time_out side p t r.1 r.0
 
+-- all that waits is dropped
+unfoldable pub waiting_dropped : Work → Work
+waiting_dropped w = wait Plug waits.Nothing (wait Sink waits.Nothing (wait Source waits.Nothing w))
+
+-- all layers are reset
+unfoldable pub layers_reset : Work → Work
+layers_reset w = reset_on Plug SopPrime (reset_on Source SopPrime (reset_on Sink Sop (reset_on Source Sop w)))
+
+-- whether a side is this one
+abbrev pub is_side : Side → Side → Bool
+is_side Source Source = true
+is_side Sink Sink = true
+is_side Plug Plug = true
+is_side a b = false
+
+-- a side that hears, and isn't the sender, is stepped with a Hard Reset
+unfoldable pub hears_reset : Side → Side → ℕ → Work → Work
+hears_reset sender side t w =
+    if is_side side sender then w else (if hears side w then tells_reset side t w else w)
+
+-- the sender's engine is stepped, and then each other side that hears, in the order source, sink, plug
+unfoldable pub all_hear_reset : Side → ℕ → Work → Work
+all_hear_reset sender t w =
+    hears_reset sender Plug t (hears_reset sender Sink t (hears_reset sender Source t (tells_sent sender sent.Other t w)))
+
+-- N5: a Hard Reset has ended
+unfoldable pub hard_reset_ends : Side → ℕ → Work → Work
+hard_reset_ends sender t w = all_hear_reset sender t (layers_reset (waiting_dropped w))
+
 abbrev pub line_ends_at : Line → ℕ → Work → Work
 line_ends_at Idle t w = w
 line_ends_at (Message side p fate end) t w = message_ends side p fate t w
 line_ends_at (Pause side p end) t w = good_crc_starts side p t w
 line_ends_at (GoodCrc side p a fate end) t w = good_crc_ends side p a fate t w
 line_ends_at (NoAnswer side p end) t w = times_out side p t w
+line_ends_at (HardReset side end) t w = hard_reset_ends side t w
 
 -- the line's due: what is on it has ended
 unfoldable pub line_ends : ℕ → Work → Work
@@ -169,11 +209,17 @@ submitted side t (w, Err m) = wait side (waits.Message m) w
 
 -- a message goes to its layer, and starts
 unfoldable pub message_starts : Side → MessageData → ℕ → Work → Work
-message_starts side m t w = submitted side t (submit_on side (channel_for side m.kind) m 2 w)
+message_starts side m t w =
+    let channel = channel_for side m.kind in submitted side t (submit_on side channel m (revision_on side channel w) w)
+
+-- A Hard Reset starts. It goes to no layer, and takes no disturbance.
+unfoldable pub hard_reset_starts : Side → ℕ → Work → Work
+hard_reset_starts side t w = started (start.HardReset side) (with_line (HardReset side (t + hard_reset_duration)) w)
 
 abbrev pub waiting_starts : Side → ℕ → Waiting → Work → Work
 waiting_starts side t waits.Nothing w = w
 waiting_starts side t (waits.Message m) w = message_starts side m t w
+waiting_starts side t waits.HardReset w = hard_reset_starts side t w
 
 -- what waits on a side starts
 unfoldable pub side_starts : Side → ℕ → Work → Work

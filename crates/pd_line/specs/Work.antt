@@ -17,6 +17,7 @@ use Rattle.pd_source.specs.declared.kinds.Act.TheVariants as source_act_is
 use Rattle.pd_source.specs.declared.kinds.Act.{Act as SourceAct}
 use Rattle.pd_source.specs.declared.kinds.Stimulus.{Stimulus as SourceStimulus}
 use Rattle.pd_source.specs.declared.kinds.Stimulus.TheVariants as source_told
+use Rattle.pd_source.specs.declared.kinds.Sent.{Sent}
 use Rattle.pd_sink.specs.Settings.{SinkData}
 use Rattle.pd_sink.specs.Step as sink
 use Rattle.pd_sink.specs.declared.kinds.Act.TheVariants as sink_act_is
@@ -31,9 +32,9 @@ use Rattle.pd_plug.specs.declared.kinds.Stimulus.TheVariants as plug_told
 use Rattle.pd_line.specs.declared.notes.Fault.{Fault}
 use Rattle.pd_line.specs.declared.record.Record.{Record}
 use Rattle.pd_line.specs.declared.record.Waiting.{Waiting}
-use Rattle.pd_line.specs.declared.record.Waiting.TheVariants.{Nothing, Message}
+use Rattle.pd_line.specs.declared.record.Waiting.TheVariants.{Nothing, Message, HardReset}
 use Rattle.pd_line.specs.declared.work.Work.{Work}
-use Rattle.pd_line.specs.Told.{message_of, sink_hears_as}
+use Rattle.pd_line.specs.Told.{source_hears_as, sink_hears_as, plug_hears_as, source_message, sink_message, plug_message, source_fault, sink_fault}
 
 -- the port is this
 abbrev pub with_port : Record → Work → Work
@@ -80,9 +81,17 @@ timed_out_on side channel = on_layer side channel layer.timed_out
 unfoldable pub received_on : Side → Channel → ℕ → Work → Work × LayerAct
 received_on side channel header = on_layer side channel (λ l. layer.received l header)
 
+-- the layer of a side on a channel is reset
+unfoldable pub reset_on : Side → Channel → Work → Work
+reset_on side channel w = with_layer side channel (layer.reset (layer_on side channel w)) w
+
 -- an act of the sink
 abbrev pub sink_act : SinkAct → Work → Work
 sink_act sink_act_is.DropWaiting w = wait Sink Nothing w
+sink_act sink_act_is.ResetLayer w = reset_on Sink Sop w
+sink_act (sink_act_is.Note note) w = noted (sink_fault note) w
+sink_act (sink_act_is.Send sending) w = wait Sink (Message (sink_message sending)) w
+sink_act sink_act_is.SendHardReset w = wait Sink HardReset w
 
 -- the acts of the sink, in order
 abbrev pub sink_acts : List SinkAct → Work → Work
@@ -97,6 +106,7 @@ sink_steps t x w =
 -- an act of the plug
 abbrev pub plug_act : PlugAct → Work → Work
 plug_act plug_act_is.DropWaiting w = wait Plug Nothing w
+plug_act (plug_act_is.SendIdentity objects) w = wait Plug (Message (plug_message objects.items)) w
 
 -- the acts of the plug, in order
 abbrev pub plug_acts : List PlugAct → Work → Work
@@ -108,11 +118,15 @@ unfoldable pub plug_steps : ℕ → PlugStimulus → Work → Work
 plug_steps t x w =
     plug_acts (plug.acts_of t x w.port.plug) (with_port (record w.port { plug = plug.stepped t x w.port.plug }) w)
 
--- an act of the source: where it turns the power on, the sink is stepped at once
+-- N6, an act of the source: where it turns the power on, the sink is stepped at once; where it turns it off, nobody is
 abbrev pub source_act : ℕ → SourceAct → Work → Work
 source_act t source_act_is.DropWaiting w = wait Source Nothing w
 source_act t source_act_is.On w = sink_steps t sink_told.Vbus w
-source_act t (source_act_is.Send sending) w = wait Source (Message (message_of sending)) w
+source_act t source_act_is.Off w = w
+source_act t source_act_is.ResetLayer w = reset_on Source Sop w
+source_act t (source_act_is.Note note) w = noted (source_fault note) w
+source_act t (source_act_is.Send sending) w = wait Source (Message (source_message sending)) w
+source_act t source_act_is.SendHardReset w = wait Source HardReset w
 
 -- the acts of the source, in order
 abbrev pub source_acts : ℕ → List SourceAct → Work → Work
@@ -133,11 +147,11 @@ unfoldable pub source_steps : ℕ → SourceStimulus → Work → Work
 source_steps t x w =
     source_acts t (source.acts_of w.port.source.settings t x w.answer w.port.source.record) (source_after t x w)
 
--- a side's message has reached its receiver
-unfoldable pub tells_sent : Side → ℕ → Work → Work
-tells_sent Source t = source_steps t source_told.Sent
-tells_sent Sink t = sink_steps t sink_told.Sent
-tells_sent Plug t = plug_steps t plug_told.Sent
+-- what a side has sent has reached its receiver: a message of this kind, or a Hard Reset
+unfoldable pub tells_sent : Side → Sent → ℕ → Work → Work
+tells_sent Source m t = source_steps t (source_told.Sent m)
+tells_sent Sink m t = sink_steps t sink_told.Sent
+tells_sent Plug m t = plug_steps t plug_told.Sent
 
 -- a side's message was sent as often as it may be, and nobody has answered
 unfoldable pub tells_failed : Side → ℕ → Work → Work
@@ -147,9 +161,15 @@ tells_failed Plug t = plug_steps t plug_told.Failed
 
 -- a side gets a message
 unfoldable pub tells_message : Side → Contents → ℕ → Work → Work
-tells_message Source p t = source_steps t source_told.Other
+tells_message Source p t = source_steps t (source_hears_as (kind_of_header p.header) p.header p.objects)
 tells_message Sink p t = sink_steps t (sink_hears_as (kind_of_header p.header) p.objects)
-tells_message Plug p t = plug_steps t plug_told.Other
+tells_message Plug p t = plug_steps t (plug_hears_as (kind_of_header p.header) p.objects)
+
+-- a side gets a Hard Reset
+unfoldable pub tells_reset : Side → ℕ → Work → Work
+tells_reset Source t = source_steps t source_told.HardReset
+tells_reset Sink t = sink_steps t sink_told.HardReset
+tells_reset Plug t = plug_steps t plug_told.HardReset
 
 -- a side's timer has ended
 unfoldable pub tells_timer : Side → Timer → ℕ → Work → Work

@@ -10,4 +10,5 @@ mod work;
 
 pub use notes::{Fault, Start};
 pub use record::{Disturbance, Line, Record, Waiting};
+pub use told::{sent_as, source_hears_as};
 pub use work::Work;

@@ -1,14 +1,16 @@
 //! What happens on the line.
 
-ghost use Rattle.std.specs.Prelude.{◌≡◌, ℕ, ◌<◌, ◌≤◌, length};
+ghost use Rattle.std.specs.Prelude.{◌≡◌, ℕ, ◌+◌, ◌<◌, ◌≤◌, length};
 ghost use Rattle.pd_line.specs.Lines.{receiver, channel_for, rest_of_time_out, fate_of};
 
 use crate::notes::{Fault, Start};
 use crate::record::{Disturbance, Line, Waiting};
+use crate::told::sent_as;
 use crate::work::Work;
 use pd_header::{Side, header_id, header_kind};
-use pd_packet::{Fate, Packet, duration, packet_duration, reaches};
+use pd_packet::{Fate, Packet, duration, hard_reset_duration, packet_duration, reaches};
 use pd_protocol::{LayerAct, Message, good_crc_for};
+use pd_source::Sent;
 use pd_symbols::Channel;
 use std::mem;
 
@@ -21,8 +23,8 @@ const TIME_OUT: u64 = 1_000;
 /// How many symbols a GoodCRC has.
 const GOOD_CRC_SYMBOLS: u32 = 17;
 
-/// The revision bits of packets: 10, USB Power Delivery 3.0.
-const REVISION: u8 = 2;
+/// The revision bits of packets on SOP': 10, USB Power Delivery 3.0.
+const REVISION_3: u8 = 2;
 
 /// What is left of the time-out where a GoodCRC has ended.
 #[tactic(auto, unfolding(pd_packet::specs::Timing::duration_of))]
@@ -80,8 +82,9 @@ impl Disturbance {
 
 impl Work {
     ghost use Rattle.pd_packet.specs.Hearing.{heard};
+    ghost use Rattle.pd_line.specs.Noise.{most, most_besides};
     ghost use Rattle.pd_line.specs.Work.{wait};
-    ghost use Rattle.pd_line.specs.Lines.{hears, taken, packet_starts, good_crc_starts, message_ends, goes_up, good_crc_ends, times_out, line_ends, line_starts, acknowledged, waiting_on, message_starts, side_starts};
+    ghost use Rattle.pd_line.specs.Lines.{hears, taken, revision_on, packet_starts, good_crc_starts, message_ends, goes_up, good_crc_ends, times_out, waiting_dropped, layers_reset, hears_reset, all_hear_reset, hard_reset_ends, line_ends, line_starts, acknowledged, waiting_on, message_starts, hard_reset_starts, side_starts};
 
     /// Whether a side hears.
     #[tactic(auto, unfolding(crate::specs::Lines::hears))]
@@ -92,6 +95,19 @@ impl Work {
             Side::Source => self.port.source.hears(),
             Side::Sink => self.port.sink.hears(),
             Side::Plug => self.port.plug.hears(),
+        }
+    }
+
+    /// The revision bits of what a side sends on a channel.
+    fn revision_on(&self, side: Side, channel: Channel) -> u8
+        ensures value { result ≡ revision_on side channel self.now }
+        ensures fits { result < 4 }
+    {
+        match (side, channel) {
+            (Side::Source, Channel::Sop) => self.port.source.revision(),
+            (Side::Source, Channel::SopPrime) => REVISION_3,
+            (Side::Sink, _) => self.port.sink.revision(),
+            (Side::Plug, _) => REVISION_3,
         }
     }
 
@@ -135,7 +151,8 @@ impl Work {
         ensures faults { self.new.faults ≡ self.old.faults }
     {
         let hearer = receiver_of(side, packet.channel());
-        let answer = good_crc_for(hearer, &packet, REVISION);
+        let revision = self.revision_on(hearer, packet.channel());
+        let answer = good_crc_for(hearer, &packet, revision);
         let fate = self.take_fate();
         let end = t + u64::from(packet_duration(&answer));
         self.start = Some(start_of(hearer, &answer, &fate));
@@ -175,9 +192,10 @@ impl Work {
     /// A message goes up where it is no repeat.
     #[tactic(auto, unfolding(crate::specs::Lines::goes_up))]
     fn goes_up(&mut self, side: Side, packet: &Packet, t: u64)
-        requires { t ≤ 120000000 }
+        requires time { t ≤ 120000000 }
+        requires room { length self.old.faults.items + most side ≤ 8 }
         ensures after { self.new ≡ goes_up side packet.now t self.old }
-        ensures faults { self.new.faults ≡ self.old.faults }
+        ensures faults { length self.new.faults.items ≤ length self.old.faults.items + most side }
     {
         if let LayerAct::Up = self.received_on(side, packet.channel(), packet.header()) {
             self.tell_message(side, packet, t);
@@ -187,9 +205,10 @@ impl Work {
     /// A GoodCRC has ended, for the sender.
     #[tactic(auto, unfolding(crate::specs::Lines::with_line))]
     fn acknowledged(&mut self, side: Side, packet: &Packet, answer: &Packet, fate: Fate, t: u64)
-        requires { t ≤ 120000000 }
+        requires time { t ≤ 120000000 }
+        requires room { length self.old.faults.items + most side ≤ 8 }
         ensures after { self.new ≡ acknowledged side packet.now t (heard answer.now fate) self.old }
-        ensures faults { self.new.faults ≡ self.old.faults }
+        ensures faults { length self.new.faults.items ≤ length self.old.faults.items + most side }
     {
         if !reaches(answer, fate) {
             self.port.line = Line::NoAnswer {
@@ -204,16 +223,17 @@ impl Work {
             packet.channel(),
             header_id(answer.header()),
         ) {
-            self.tell_sent(side, t);
+            self.tell_sent(side, sent_as(packet), t);
         }
     }
 
     /// A GoodCRC has ended.
     #[tactic(auto, unfolding(crate::specs::Lines::good_crc_ends))]
     fn good_crc_ends(&mut self, side: Side, packet: &Packet, answer: &Packet, fate: Fate, t: u64)
-        requires { t ≤ 120000000 }
+        requires time { t ≤ 120000000 }
+        requires room { length self.old.faults.items ≤ 4 }
         ensures after { self.new ≡ good_crc_ends side packet.now answer.now fate t self.old }
-        ensures faults { self.new.faults ≡ self.old.faults }
+        ensures faults { length self.new.faults.items ≤ length self.old.faults.items + 4 }
     {
         self.acknowledged(side, packet, answer, fate, t);
         self.goes_up(receiver_of(side, packet.channel()), packet, t);
@@ -223,8 +243,9 @@ impl Work {
     #[tactic(auto, unfolding(crate::specs::Lines::times_out))]
     fn times_out(&mut self, side: Side, packet: &Packet, t: u64)
         requires time { t ≤ 120000000 }
-        requires room { length self.old.faults.items < 8 }
+        requires room { length self.old.faults.items ≤ 4 }
         ensures after { self.new ≡ times_out side packet.now t self.old }
+        ensures faults { length self.new.faults.items ≤ length self.old.faults.items + 4 }
     {
         match self.timed_out_on(side, packet.channel()) {
             LayerAct::Retry(again) => self.packet_starts(side, again, t),
@@ -239,12 +260,76 @@ impl Work {
         }
     }
 
+    /// Drops all that waits.
+    #[tactic(auto, unfolding(crate::specs::Lines::waiting_dropped))]
+    fn drop_waiting(&mut self)
+        ensures after { self.new ≡ waiting_dropped self.old }
+        ensures faults { self.new.faults ≡ self.old.faults }
+    {
+        self.wait(Side::Source, Waiting::Nothing);
+        self.wait(Side::Sink, Waiting::Nothing);
+        self.wait(Side::Plug, Waiting::Nothing);
+    }
+
+    /// Resets all layers.
+    #[tactic(auto, unfolding(crate::specs::Lines::layers_reset))]
+    fn reset_layers(&mut self)
+        ensures after { self.new ≡ layers_reset self.old }
+        ensures faults { self.new.faults ≡ self.old.faults }
+    {
+        self.reset_on(Side::Source, Channel::Sop);
+        self.reset_on(Side::Sink, Channel::Sop);
+        self.reset_on(Side::Source, Channel::SopPrime);
+        self.reset_on(Side::Plug, Channel::SopPrime);
+    }
+
+    /// A side that hears, and isn't the sender, gets a Hard Reset.
+    #[tactic(auto, unfolding(crate::specs::Lines::hears_reset))]
+    fn hear_reset(&mut self, sender: Side, side: Side, t: u64)
+        requires time { t ≤ 120000000 }
+        requires room { length self.old.faults.items + most_besides sender side ≤ 8 }
+        ensures after { self.new ≡ hears_reset sender side t self.old }
+        ensures faults { length self.new.faults.items ≤ length self.old.faults.items + most_besides sender side }
+    {
+        if side != sender && self.hears(side) {
+            self.tell_reset(side, t);
+        }
+    }
+
+    /// A Hard Reset has ended, for the engines.
+    #[tactic(auto, using(crate::proofs::Noise::three_at_most), unfolding(crate::specs::Lines::all_hear_reset))]
+    fn all_hear_reset(&mut self, sender: Side, t: u64)
+        requires time { t ≤ 120000000 }
+        requires room { length self.old.faults.items ≤ 4 }
+        ensures after { self.new ≡ all_hear_reset sender t self.old }
+        ensures faults { length self.new.faults.items ≤ length self.old.faults.items + 4 }
+    {
+        self.tell_sent(sender, Sent::Other, t);
+        self.hear_reset(sender, Side::Source, t);
+        self.hear_reset(sender, Side::Sink, t);
+        self.hear_reset(sender, Side::Plug, t);
+    }
+
+    /// A Hard Reset has ended.
+    #[tactic(auto, unfolding(crate::specs::Lines::hard_reset_ends))]
+    fn hard_reset_ends(&mut self, sender: Side, t: u64)
+        requires time { t ≤ 120000000 }
+        requires room { length self.old.faults.items ≤ 4 }
+        ensures after { self.new ≡ hard_reset_ends sender t self.old }
+        ensures faults { length self.new.faults.items ≤ length self.old.faults.items + 4 }
+    {
+        self.drop_waiting();
+        self.reset_layers();
+        self.all_hear_reset(sender, t);
+    }
+
     /// What is on the line has ended.
     #[tactic(auto, unfolding(crate::specs::Lines::line_ends, crate::specs::Lines::with_line))]
     pub fn line_ends(&mut self, t: u64)
         requires time { t ≤ 120000000 }
-        requires room { length self.old.faults.items < 8 }
-        ensures { self.new ≡ line_ends t self.old }
+        requires room { length self.old.faults.items ≤ 4 }
+        ensures after { self.new ≡ line_ends t self.old }
+        ensures faults { length self.new.faults.items ≤ length self.old.faults.items + 4 }
     {
         match mem::replace(&mut self.port.line, Line::Idle) {
             Line::Idle => {}
@@ -263,6 +348,7 @@ impl Work {
                 ..
             } => self.good_crc_ends(side, &packet, &answer, fate, t),
             Line::NoAnswer { side, packet, .. } => self.times_out(side, &packet, t),
+            Line::HardReset { side, .. } => self.hard_reset_ends(side, t),
         }
     }
 
@@ -288,10 +374,23 @@ impl Work {
         ensures faults { self.new.faults ≡ self.old.faults }
     {
         let channel = channel_for(side, message.kind());
-        match self.submit_on(side, channel, message, REVISION) {
+        let revision = self.revision_on(side, channel);
+        match self.submit_on(side, channel, message, revision) {
             Ok(packet) => self.packet_starts(side, packet, t),
             Err(message) => self.wait(side, Waiting::Message(message)),
         }
+    }
+
+    /// A Hard Reset starts.
+    #[tactic(auto, unfolding(crate::specs::Lines::hard_reset_starts, crate::specs::Lines::with_line, crate::specs::Lines::started))]
+    fn hard_reset_starts(&mut self, side: Side, t: u64)
+        requires { t ≤ 120000000 }
+        ensures after { self.new ≡ hard_reset_starts side t self.old }
+        ensures faults { self.new.faults ≡ self.old.faults }
+    {
+        let end = t + u64::from(hard_reset_duration());
+        self.start = Some(Start::HardReset { side });
+        self.port.line = Line::HardReset { side, end };
     }
 
     /// What waits on a side starts.
@@ -304,6 +403,7 @@ impl Work {
         match self.take_waiting(side) {
             Waiting::Nothing => {}
             Waiting::Message(message) => self.message_starts(side, message, t),
+            Waiting::HardReset => self.hard_reset_starts(side, t),
         }
     }
 

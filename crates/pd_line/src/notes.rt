@@ -10,10 +10,31 @@ pub enum Fault {
     Ignored { id: u32 },
     /// A side's message of this kind was sent as often as it may be, and no GoodCRC came.
     NoGoodCrc { side: Side, kind: Kind },
+    /// A side begins a Soft Reset.
+    SoftReset { side: Side },
+    /// A side begins a Hard Reset.
+    HardReset { side: Side },
+    /// The source gives up: nobody answers its offers, or it has begun as many Hard Resets as it may.
+    SourceDisabled,
+    /// The sink has begun as many Hard Resets as it may.
+    SinkDisabled,
+    /// The cable didn't tell who it is.
+    CableUnread,
+    /// The sink asks for less than it needs.
+    Mismatch,
+    /// The source rejects a request.
+    Reject,
+    /// The source lets a request wait.
+    Wait,
 }
 
 // What a list of a fixed capacity fills its free places with.
 impl Default for Fault {
+    ghost use Rattle.std.specs.Prelude.{◌≡◌};
+    ghost use Rattle.pd_line.specs.declared.notes.Fault.TheVariants.{Ignored};
+
+    ghost is_default = { λ f. f ≡ Ignored 0 };
+
     fn default() -> Fault {
         Fault::Ignored { id: 0 }
     }
@@ -27,6 +48,10 @@ pub enum Start {
         side: Side,
         packet: Packet,
         fate: Fate,
+    },
+    /// A side's Hard Reset.
+    HardReset {
+        side: Side,
     },
 }
 
@@ -43,6 +68,7 @@ impl Start {
                 packet: packet.copy(),
                 fate: *fate,
             },
+            Start::HardReset { side } => Start::HardReset { side: *side },
         }
     }
 }

@@ -22,6 +22,7 @@ pub enum Disturbance {
 pub enum Waiting {
     Nothing,
     Message(Message),
+    HardReset,
 }
 
 /// What is on the line, and when its next end comes, in microseconds.
@@ -53,6 +54,11 @@ pub enum Line {
     NoAnswer {
         side: Side,
         packet: Packet,
+        end: u64,
+    },
+    /// A side's Hard Reset is sent.
+    HardReset {
+        side: Side,
         end: u64,
     },
 }

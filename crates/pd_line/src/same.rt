@@ -20,6 +20,7 @@ impl Waiting {
         match (self, other) {
             (Waiting::Nothing, Waiting::Nothing) => true,
             (Waiting::Message(message), Waiting::Message(other)) => message.same(other),
+            (Waiting::HardReset, Waiting::HardReset) => true,
             _ => false,
         }
     }
@@ -31,6 +32,7 @@ impl Waiting {
         match self {
             Waiting::Nothing => Waiting::Nothing,
             Waiting::Message(message) => Waiting::Message(message.copy()),
+            Waiting::HardReset => Waiting::HardReset,
         }
     }
 }
@@ -96,6 +98,9 @@ impl Line {
                     end: u,
                 },
             ) => a == b && p == q && t == u,
+            (Line::HardReset { side: a, end: t }, Line::HardReset { side: b, end: u }) => {
+                a == b && t == u
+            }
             _ => false,
         }
     }
@@ -138,6 +143,10 @@ impl Line {
             Line::NoAnswer { side, packet, end } => Line::NoAnswer {
                 side: *side,
                 packet: packet.copy(),
+                end: *end,
+            },
+            Line::HardReset { side, end } => Line::HardReset {
+                side: *side,
                 end: *end,
             },
         }

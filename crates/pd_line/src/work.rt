@@ -4,7 +4,10 @@ ghost use Rattle.std.specs.Prelude.{◌≡◌, ℕ, ◌<◌, ◌≤◌, length};
 
 use crate::notes::{Fault, Start};
 use crate::record::{Record, Waiting};
-use crate::told::{message_of, sink_hears_as};
+use crate::told::{
+    plug_hears_as, plug_message, sink_fault, sink_hears_as, sink_message, source_fault,
+    source_hears_as, source_message,
+};
 use arrayvec::ArrayVec;
 use pd_header::Side;
 use pd_identity::Cable;
@@ -13,7 +16,7 @@ use pd_packet::Packet;
 use pd_plug::{Act as PlugAct, Stimulus as PlugStimulus};
 use pd_protocol::{LayerAct, Message};
 use pd_sink::{Act as SinkAct, SinkSettings, Stimulus as SinkStimulus};
-use pd_source::{Act as SourceAct, Stimulus as SourceStimulus};
+use pd_source::{Act as SourceAct, Sent, Stimulus as SourceStimulus};
 use pd_symbols::Channel;
 use pd_timers::Timer;
 
@@ -28,13 +31,18 @@ pub struct Work {
 }
 
 impl Work {
-    ghost use Rattle.pd_line.specs.Work.{wait, sink_acts, sink_steps, plug_acts, plug_steps, source_act, source_acts, source_steps, noted, submit_on, good_crc_on, timed_out_on, received_on, tells_sent, tells_failed, tells_message, tells_timer, tells_attach};
+    ghost use Rattle.std.specs.Prelude.{◌+◌};
+    ghost use Rattle.pd_source.specs.Acts.{noise as source_noise, noise_of as source_noise_of};
+    ghost use Rattle.pd_sink.specs.Acts.{noise as sink_noise, noise_of as sink_noise_of};
+    ghost use Rattle.pd_line.specs.Noise.{most};
+    ghost use Rattle.pd_line.specs.Work.{wait, reset_on, sink_act, sink_acts, sink_steps, plug_act, plug_acts, plug_steps, source_act, source_acts, source_steps, noted, submit_on, good_crc_on, timed_out_on, received_on, tells_sent, tells_failed, tells_message, tells_reset, tells_timer, tells_attach};
 
     /// Notes a fault.
     #[tactic(auto, unfolding(crate::specs::Work::noted))]
     pub fn note(&mut self, fault: Fault)
         requires { length self.old.faults.items < 8 }
-        ensures { self.new ≡ noted fault self.old }
+        ensures after { self.new ≡ noted fault self.old }
+        ensures faults { length self.new.faults.items ≡ length self.old.faults.items + 1 }
     {
         self.faults.push(fault);
     }
@@ -121,27 +129,72 @@ impl Work {
         }
     }
 
-    /// The acts of the sink, in order.
-    fn sink_acts(&mut self, mut rest: ArrayVec<SinkAct, 8>)
-        ensures after { self.new ≡ sink_acts rest.items self.old }
+    /// Resets the layer of a side.
+    #[tactic(auto, unfolding(crate::specs::Work::reset_on))]
+    pub(crate) fn reset_on(&mut self, side: Side, channel: Channel)
+        ensures after { self.new ≡ reset_on side channel self.old }
         ensures faults { self.new.faults ≡ self.old.faults }
     {
-        'acts: while !rest.is_empty() {
-            match rest.remove(0) {
-                SinkAct::DropWaiting => self.wait(Side::Sink, Waiting::Nothing),
+        match (side, channel) {
+            (Side::Source, Channel::Sop) => self.port.source_sop.reset(),
+            (Side::Source, Channel::SopPrime) => self.port.source_sop_prime.reset(),
+            (Side::Sink, _) => self.port.sink_sop.reset(),
+            (Side::Plug, _) => self.port.plug_sop_prime.reset(),
+        }
+    }
+
+    /// An act of the sink.
+    fn sink_act(&mut self, act: SinkAct)
+        requires { length self.old.faults.items + sink_noise_of act ≤ 8 }
+        ensures after { self.new ≡ sink_act act self.old }
+        ensures faults { length self.new.faults.items ≤ length self.old.faults.items + sink_noise_of act }
+    {
+        match act {
+            SinkAct::DropWaiting => self.wait(Side::Sink, Waiting::Nothing),
+            SinkAct::ResetLayer => self.reset_on(Side::Sink, Channel::Sop),
+            SinkAct::Note(note) => self.note(sink_fault(note)),
+            SinkAct::Send(sending) => {
+                self.wait(Side::Sink, Waiting::Message(sink_message(sending)));
             }
+            SinkAct::SendHardReset => self.wait(Side::Sink, Waiting::HardReset),
+        }
+    }
+
+    /// The acts of the sink, in order.
+    fn sink_acts(&mut self, mut rest: ArrayVec<SinkAct, 8>)
+        requires { length self.old.faults.items + sink_noise rest.items ≤ 8 }
+        ensures after { self.new ≡ sink_acts rest.items self.old }
+        ensures faults { length self.new.faults.items ≤ length self.old.faults.items + sink_noise rest.items }
+    {
+        'acts: while !rest.is_empty() {
+            let next = rest.remove(0);
+            self.sink_act(next);
         }
     }
 
     /// Steps the sink's engine.
     #[tactic(auto, unfolding(crate::specs::Work::sink_steps))]
-    pub(crate) fn sink_steps(&mut self, t: u64, stimulus: &SinkStimulus)
-        requires { t ≤ 120000000 }
+    pub fn sink_steps(&mut self, t: u64, stimulus: &SinkStimulus)
+        requires time { t ≤ 120000000 }
+        requires room { length self.old.faults.items + 1 ≤ 8 }
         ensures after { self.new ≡ sink_steps t stimulus.now self.old }
-        ensures faults { self.new.faults ≡ self.old.faults }
+        ensures faults { length self.new.faults.items ≤ length self.old.faults.items + 1 }
     {
         let acts = self.port.sink.step(t, stimulus);
         self.sink_acts(acts);
+    }
+
+    /// An act of the plug.
+    fn plug_act(&mut self, act: PlugAct)
+        ensures after { self.new ≡ plug_act act self.old }
+        ensures faults { self.new.faults ≡ self.old.faults }
+    {
+        match act {
+            PlugAct::DropWaiting => self.wait(Side::Plug, Waiting::Nothing),
+            PlugAct::SendIdentity(objects) => {
+                self.wait(Side::Plug, Waiting::Message(plug_message(objects)));
+            }
+        }
     }
 
     /// The acts of the plug, in order.
@@ -150,9 +203,8 @@ impl Work {
         ensures faults { self.new.faults ≡ self.old.faults }
     {
         'acts: while !rest.is_empty() {
-            match rest.remove(0) {
-                PlugAct::DropWaiting => self.wait(Side::Plug, Waiting::Nothing),
-            }
+            let next = rest.remove(0);
+            self.plug_act(next);
         }
     }
 
@@ -169,24 +221,30 @@ impl Work {
 
     /// An act of the source.
     fn source_act(&mut self, t: u64, act: SourceAct)
-        requires { t ≤ 120000000 }
+        requires time { t ≤ 120000000 }
+        requires room { length self.old.faults.items + source_noise_of act ≤ 8 }
         ensures after { self.new ≡ source_act t act self.old }
-        ensures faults { self.new.faults ≡ self.old.faults }
+        ensures faults { length self.new.faults.items ≤ length self.old.faults.items + source_noise_of act }
     {
         match act {
             SourceAct::DropWaiting => self.wait(Side::Source, Waiting::Nothing),
             SourceAct::On => self.sink_steps(t, &SinkStimulus::Vbus),
+            SourceAct::Off => {}
+            SourceAct::ResetLayer => self.reset_on(Side::Source, Channel::Sop),
+            SourceAct::Note(note) => self.note(source_fault(note)),
             SourceAct::Send(sending) => {
-                self.wait(Side::Source, Waiting::Message(message_of(sending)));
+                self.wait(Side::Source, Waiting::Message(source_message(sending)));
             }
+            SourceAct::SendHardReset => self.wait(Side::Source, Waiting::HardReset),
         }
     }
 
     /// The acts of the source, in order.
     fn source_acts(&mut self, t: u64, mut rest: ArrayVec<SourceAct, 8>)
-        requires { t ≤ 120000000 }
+        requires time { t ≤ 120000000 }
+        requires room { length self.old.faults.items + source_noise rest.items ≤ 8 }
         ensures after { self.new ≡ source_acts t rest.items self.old }
-        ensures faults { self.new.faults ≡ self.old.faults }
+        ensures faults { length self.new.faults.items ≤ length self.old.faults.items + source_noise rest.items }
     {
         'acts: while !rest.is_empty() {
             let next = rest.remove(0);
@@ -196,24 +254,26 @@ impl Work {
 
     /// Steps the source's engine.
     #[tactic(auto, unfolding(crate::specs::Work::source_steps))]
-    pub(crate) fn source_steps(&mut self, t: u64, stimulus: &SourceStimulus)
-        requires { t ≤ 120000000 }
+    pub fn source_steps(&mut self, t: u64, stimulus: &SourceStimulus)
+        requires time { t ≤ 120000000 }
+        requires room { length self.old.faults.items + 2 ≤ 8 }
         ensures after { self.new ≡ source_steps t stimulus.now self.old }
-        ensures faults { self.new.faults ≡ self.old.faults }
+        ensures faults { length self.new.faults.items ≤ length self.old.faults.items + 2 }
     {
         let acts = self.port.source.step(t, stimulus, self.answer.take());
         self.source_acts(t, acts);
     }
 
-    /// A side's message has reached its receiver.
+    /// What a side has sent has reached its receiver.
     #[tactic(auto, unfolding(crate::specs::Work::tells_sent))]
-    pub(crate) fn tell_sent(&mut self, side: Side, t: u64)
-        requires { t ≤ 120000000 }
-        ensures after { self.new ≡ tells_sent side t self.old }
-        ensures faults { self.new.faults ≡ self.old.faults }
+    pub(crate) fn tell_sent(&mut self, side: Side, sent: Sent, t: u64)
+        requires time { t ≤ 120000000 }
+        requires room { length self.old.faults.items + most side ≤ 8 }
+        ensures after { self.new ≡ tells_sent side sent t self.old }
+        ensures faults { length self.new.faults.items ≤ length self.old.faults.items + most side }
     {
         match side {
-            Side::Source => self.source_steps(t, &SourceStimulus::Sent),
+            Side::Source => self.source_steps(t, &SourceStimulus::Sent(sent)),
             Side::Sink => self.sink_steps(t, &SinkStimulus::Sent),
             Side::Plug => self.plug_steps(t, &PlugStimulus::Sent),
         }
@@ -222,9 +282,10 @@ impl Work {
     /// A side's message was sent as often as it may be, and nobody has answered.
     #[tactic(auto, unfolding(crate::specs::Work::tells_failed))]
     pub(crate) fn tell_failed(&mut self, side: Side, t: u64)
-        requires { t ≤ 120000000 }
+        requires time { t ≤ 120000000 }
+        requires room { length self.old.faults.items + most side ≤ 8 }
         ensures after { self.new ≡ tells_failed side t self.old }
-        ensures faults { self.new.faults ≡ self.old.faults }
+        ensures faults { length self.new.faults.items ≤ length self.old.faults.items + most side }
     {
         match side {
             Side::Source => self.source_steps(t, &SourceStimulus::Failed),
@@ -236,23 +297,40 @@ impl Work {
     /// A side gets a message.
     #[tactic(auto, unfolding(crate::specs::Work::tells_message))]
     pub(crate) fn tell_message(&mut self, side: Side, packet: &Packet, t: u64)
-        requires { t ≤ 120000000 }
+        requires time { t ≤ 120000000 }
+        requires room { length self.old.faults.items + most side ≤ 8 }
         ensures after { self.new ≡ tells_message side packet.now t self.old }
-        ensures faults { self.new.faults ≡ self.old.faults }
+        ensures faults { length self.new.faults.items ≤ length self.old.faults.items + most side }
     {
         match side {
-            Side::Source => self.source_steps(t, &SourceStimulus::Other),
+            Side::Source => self.source_steps(t, &source_hears_as(packet)),
             Side::Sink => self.sink_steps(t, &sink_hears_as(packet)),
-            Side::Plug => self.plug_steps(t, &PlugStimulus::Other),
+            Side::Plug => self.plug_steps(t, &plug_hears_as(packet)),
+        }
+    }
+
+    /// A side gets a Hard Reset.
+    #[tactic(auto, unfolding(crate::specs::Work::tells_reset))]
+    pub(crate) fn tell_reset(&mut self, side: Side, t: u64)
+        requires time { t ≤ 120000000 }
+        requires room { length self.old.faults.items + most side ≤ 8 }
+        ensures after { self.new ≡ tells_reset side t self.old }
+        ensures faults { length self.new.faults.items ≤ length self.old.faults.items + most side }
+    {
+        match side {
+            Side::Source => self.source_steps(t, &SourceStimulus::HardReset),
+            Side::Sink => self.sink_steps(t, &SinkStimulus::HardReset),
+            Side::Plug => self.plug_steps(t, &PlugStimulus::HardReset),
         }
     }
 
     /// A side's timer has ended.
     #[tactic(auto, unfolding(crate::specs::Work::tells_timer))]
     pub fn tell_timer(&mut self, side: Side, timer: Timer, t: u64)
-        requires { t ≤ 120000000 }
+        requires time { t ≤ 120000000 }
+        requires room { length self.old.faults.items + most side ≤ 8 }
         ensures after { self.new ≡ tells_timer side timer t self.old }
-        ensures faults { self.new.faults ≡ self.old.faults }
+        ensures faults { length self.new.faults.items ≤ length self.old.faults.items + most side }
     {
         match side {
             Side::Source => self.source_steps(t, &SourceStimulus::Ended(timer)),
@@ -264,9 +342,10 @@ impl Work {
     /// A sink is attached through a cable.
     #[tactic(auto, unfolding(crate::specs::Work::tells_attach))]
     pub fn tell_attach(&mut self, cable: Cable, sink: SinkSettings, t: u64)
-        requires { t ≤ 120000000 }
+        requires time { t ≤ 120000000 }
+        requires room { length self.old.faults.items + 3 ≤ 8 }
         ensures after { self.new ≡ tells_attach cable sink t self.old }
-        ensures faults { self.new.faults ≡ self.old.faults }
+        ensures faults { length self.new.faults.items ≤ length self.old.faults.items + 3 }
     {
         self.port.cable = Some(cable);
         self.source_steps(t, &SourceStimulus::Attach);

@@ -60,6 +60,8 @@ impl Supply {
 
 // What a list of a fixed capacity fills its free places with.
 impl Default for Supply {
+    ghost is_default = { λ s. s ≡ record { mv = 5000; ma = 10 } };
+
     fn default() -> Supply {
         Supply::new(5_000, 10)
     }

@@ -129,6 +129,6 @@ impl Event {
     pub fn same(&self, other: &Event) -> bool
         ensures { IsTrue result ↔ (self.now ≡ other.now) }
     {
-        self.at == other.at && self.happening.same(&other.happening)
+        other.at == self.at && self.happening.same(&other.happening)
     }
 }

@@ -82,7 +82,7 @@ impl Settings {
     pub fn same(&self, other: &Settings) -> bool
         ensures { IsTrue result ↔ (self.now ≡ other.now) }
     {
-        self.floor_mw == other.floor_mw
+        other.floor_mw == self.floor_mw
             && same_supplies(self.supplies.as_slice(), other.supplies.as_slice())
             && self.identity_tries == other.identity_tries
             && self.unconstrained == other.unconstrained

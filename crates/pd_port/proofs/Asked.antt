@@ -1,5 +1,5 @@
 -- What a port asks is what its source's engine asks: the step steps it once, with what `source_told` says.
-use Rattle.std.proofs.Common.{◌≡◌, ℕ, Bool, true, false, is_some, if◌then◌else◌, Option, Some, None, option_and_then, refl, ◌∙◌, sym, ap, subst}
+use Rattle.std.proofs.Common.{◌≡◌, ℕ, Bool, true, false, is_some, if◌then◌else◌, nat_lt, ◌++◌, [], ◌∷◌, length, Option, Some, None, option_and_then, refl, ◌∙◌, sym, ap, subst}
 use Rattle.pd_symbols.specs.declared.channel.Channel.{Channel}
 use Rattle.pd_symbols.specs.declared.channel.Channel.TheVariants.{Sop, SopPrime}
 use Rattle.pd_header.specs.declared.side.Side.{Side}
@@ -12,59 +12,76 @@ use Rattle.pd_packet.specs.Hearing.{heard}
 use Rattle.pd_packet.specs.declared.fate.Fate.{Fate}
 use Rattle.pd_timers.specs.declared.Timer.{Timer}
 use Rattle.pd_objects.specs.declared.query.Answer.{Answer}
+use Rattle.pd_objects.specs.declared.query.Answer.TheVariants as answers
 use Rattle.pd_protocol.specs.Layer as layer
 use Rattle.pd_protocol.specs.LayerRecord.{LayerRecord}
 use Rattle.pd_protocol.specs.declared.layer.LayerAct.{LayerAct}
 use Rattle.pd_protocol.specs.declared.layer.LayerAct.TheVariants as answer
-use Rattle.pd_source.specs.Record.{SourceData}
-use Rattle.pd_source.specs.Step.{query_of}
+use Rattle.pd_source.specs.Record.{SourceRecord, SourceData, off}
+use Rattle.pd_source.specs.Step as source
+use Rattle.pd_source.specs.declared.kinds.Sent.TheVariants as sent
 use Rattle.pd_source.specs.declared.kinds.Stimulus.{Stimulus}
 use Rattle.pd_source.specs.declared.kinds.Stimulus.TheVariants as told
 use Rattle.pd_sink.specs.Settings.{SinkData}
+use Rattle.pd_sink.specs.Step as sink
 use Rattle.pd_sink.specs.declared.kinds.Stimulus.TheVariants as sink_told
+use Rattle.pd_plan.specs.declared.event.EventKind.{EventKind}
+use Rattle.pd_plan.specs.declared.event.EventKind.TheVariants.{Attach, Detach, Demand, Lose, Damage, GetSource, GetSink}
+use Rattle.pd_plan.specs.declared.event.Happening.{Happening}
+use Rattle.pd_plan.specs.declared.event.Happening.TheVariants.{Port, Budget}
+use Rattle.pd_plan.specs.Settings.{SettingsData}
 use Rattle.pd_line.specs.declared.notes.Fault.TheVariants.{NoGoodCrc, Ignored}
+use Rattle.pd_line.specs.declared.record.Disturbance.{Disturbance}
+use Rattle.pd_line.specs.declared.record.Disturbance.TheVariants.{Lost, Damaged}
 use Rattle.pd_line.specs.declared.record.Record.{Record}
 use Rattle.pd_line.specs.declared.record.Line.{Line}
-use Rattle.pd_line.specs.declared.record.Line.TheVariants.{Idle, Message, Pause, GoodCrc, NoAnswer}
+use Rattle.pd_line.specs.declared.record.Line.TheVariants.{Idle, Message, Pause, GoodCrc, NoAnswer, HardReset}
 use Rattle.pd_line.specs.declared.work.Work.{Work}
-use Rattle.pd_line.specs.Record.{without_settings}
-use Rattle.pd_line.specs.Work.{with_port, noted, layer_on, good_crc_on, timed_out_on, received_on, sink_steps, plug_steps, source_steps, tells_sent, tells_failed, tells_message, tells_timer, tells_attach}
-use Rattle.pd_line.specs.Lines.{with_line, receiver, told_sent, acknowledged, told_message, goes_up, good_crc_ends, after_time_out, times_out, line_ends_at, line_ends, line_starts}
-use Rattle.pd_line.proofs.Source.{IsOther, acknowledged_spares, acknowledged_layer, goes_up_spares, times_out_spares, line_layer, tells_timer_spares, unanswered, Spares, SparesWith, spares, none, noted_spares, good_crc_spares, timed_out_spares, received_spares, sink_steps_spare, plug_steps_spare, source_steps_step, line_spares, packet_starts_spares, good_crc_starts_spares, message_ends_spares, line_starts_spares}
+use Rattle.pd_line.specs.Record.{without_settings, nothing_attached}
+use Rattle.pd_line.specs.Told.{sent_as, source_hears_as}
+use Rattle.pd_line.specs.Work.{with_port, noted, layer_on, on_layer, good_crc_on, timed_out_on, received_on, sink_steps, plug_steps, source_steps, tells_sent, tells_failed, tells_message, tells_reset, tells_timer, tells_attach}
+use Rattle.pd_line.specs.Lines.{with_line, receiver, hears, told_sent, acknowledged, told_message, goes_up, good_crc_ends, after_time_out, times_out, waiting_dropped, layers_reset, hears_reset, all_hear_reset, hard_reset_ends, line_ends_at, line_ends, line_starts}
+use Rattle.pd_line.proofs.Kept.{OfSource, unanswered, choice, noted_kept, sink_steps_kept, plug_steps_kept, tells_sent_kept, packet_starts_kept, good_crc_starts_kept, message_ends_kept, acknowledged_kept, goes_up_kept, times_out_kept, waiting_dropped_kept, layers_reset_kept, hears_reset_kept, attached_kept, line_starts_kept}
+use Rattle.pd_line.proofs.Source.{acknowledged_layer, line_layer, tells_timer_spares, Spares, SparesWith, spares, none, joins, on_layer_spares, source_steps_step, line_spares, sparing}
 use Rattle.pd_port.specs.declared.due.Due.{Due}
 use Rattle.pd_port.specs.declared.due.What.{What}
 use Rattle.pd_port.specs.declared.due.What.TheVariants as what
 use Rattle.pd_port.specs.declared.entry.Entry.{Entry}
-use Rattle.pd_plan.specs.declared.event.EventKind.{EventKind}
-use Rattle.pd_plan.specs.declared.event.EventKind.TheVariants.{Attach}
-use Rattle.pd_plan.specs.Settings.{SettingsData}
-use Rattle.pd_port.specs.Laws.{source_after_told}
-use Rattle.pd_port.specs.Port.{PortRecord, attaches, event_happens, happens, begun, portstep, whole, source_settings, record_after, entry_of, ask, query, source_layer, told_if_sent, told_if_up, told_if_failed, told_of_good_crc, told_at_good_crc, told_at_time_out, told_by_line, told_by_event, source_told}
+use Rattle.pd_port.specs.Laws.{source_after_told, source_after}
+use Rattle.pd_port.specs.Happens.{detaches, disturbs, gets_source, gets_sink, happens_attached, happens_detached, shed, budget_changes}
+use Rattle.pd_port.specs.Told.{source_layer, told_if_sent, told_if_up, told_if_failed, told_of_good_crc, told_at_good_crc, told_at_time_out, told_of_reset, told_by_line, told_attached, told_detached, source_told, told_if_shed}
+use Rattle.pd_port.specs.Port.{PortRecord, happens, begun, portstep, whole, source_settings, record_after, entry_of, ask, asks}
+
+-- What was done to w makes the source this, and is v now. Where nothing is asked, the answer doesn't matter: done to w
+-- without its answer it is u, which is v without its answer.
+record Becomes (after : SourceRecord) (unasked : Type 0) (w v u : Work) : Type 0 where
+  becomes : v.port.source.record ≡ after
+  blind : unasked → u ≡ unanswered v
 
 -- the source asks nothing about what it is told
 abbrev AsksNothing : Option Stimulus → SourceData → Type 0
-AsksNothing x s = option_and_then (λ y. query_of s.settings y s.record) x ≡ None
+AsksNothing x s = option_and_then (λ y. source.query_of s.settings y s.record) x ≡ None
 
--- What was done to w tells the source x, and is v now. Where the source asks nothing, the answer doesn't matter: done to
--- w without its answer it is u, which is v without its answer.
-record Tells (t : ℕ) (x : Option Stimulus) (w v u : Work) : Type 0 where
-  stepped : v.port.source.record ≡ source_after_told w.port.source.settings t x w.answer w.port.source.record
-  blind : AsksNothing x w.port.source → u ≡ unanswered v
+-- what was done to w tells the source x
+abbrev Tells : ℕ → Option Stimulus → Work → Work → Work → Type 0
+Tells t x w v u = Becomes (source_after_told w.port.source.settings t x w.answer w.port.source.record) (AsksNothing x w.port.source) w v u
 
 spares_tell : (t : ℕ) (w v u : Work) → Spares w v u → Tells t None w v u
-spares_tell t w v u h = record { stepped = ap (λ (s : SourceData). s.record) h.source; blind = λ q. h.blind }
+spares_tell t w v u h = record { becomes = ap (λ (s : SourceData). s.record) h.source; blind = λ q. h.blind }
 
 source_steps_tell : (t : ℕ) (x : Stimulus) (w : Work) → Tells t (Some x) w (source_steps t x w) (source_steps t x (unanswered w))
-source_steps_tell t x w = let h = source_steps_step t x w in record { stepped = h.stepped; blind = h.blind }
+source_steps_tell t x w = let h = source_steps_step t x w in record { becomes = h.stepped; blind = h.blind }
 
--- first the source is told, and what comes then spares it
+-- first the source becomes this, and what comes then spares it
+becomes_first : (after : SourceRecord) (unasked : Type 0) (g : Work → Work) (w v u : Work) → Becomes after unasked w v u →
+    Spares v (g v) (g (unanswered v)) → Becomes after unasked w (g v) (g u)
+becomes_first after unasked g w v u h k =
+    record { becomes = ap (λ (s : SourceData). s.record) k.source ∙ h.becomes; blind = λ q. ap g (h.blind q) ∙ k.blind }
+
 told_first : (t : ℕ) (x : Option Stimulus) (g : Work → Work) (w v u : Work) → Tells t x w v u → Spares v (g v) (g (unanswered v)) →
     Tells t x w (g v) (g u)
 told_first t x g w v u h k =
-    record {
-      stepped = ap (λ (s : SourceData). s.record) k.source ∙ h.stepped;
-      blind = λ q. ap g (h.blind q) ∙ k.blind;
-    }
+    becomes_first (source_after_told w.port.source.settings t x w.answer w.port.source.record) (AsksNothing x w.port.source) g w v u h k
 
 -- what the source is told, after something that spared it
 after_spared : (t : ℕ) (x : Option Stimulus) (w v : Work) (s : SourceData) → v.port.source ≡ w.port.source → v.answer ≡ w.answer →
@@ -79,7 +96,7 @@ told_then : (t : ℕ) (x : Option Stimulus) (g : Work → Work) (w v u : Work) �
     Tells t x w (g v) (g u)
 told_then t x g w v u h k =
     record {
-      stepped = after_spared t x w v (g v).port.source h.source h.answer k.stepped;
+      becomes = after_spared t x w v (g v).port.source h.source h.answer k.becomes;
       blind = λ q. ap g h.blind ∙ k.blind (subst (AsksNothing x) (sym h.source) q);
     }
 
@@ -87,7 +104,7 @@ told_then_with : {A : Type 0} (t : ℕ) (x : Option Stimulus) (g : Work × A →
     Tells t x v.0 (g v) (g (unanswered v.0, v.1)) → Tells t x w (g v) (g u)
 told_then_with t x g w v u h k =
     record {
-      stepped = after_spared t x w v.0 (g v).port.source h.source h.answer k.stepped;
+      becomes = after_spared t x w v.0 (g v).port.source h.source h.answer k.becomes;
       blind = λ q. ap g h.blind ∙ k.blind (subst (AsksNothing x) (sym h.source) q);
     }
 
@@ -103,56 +120,64 @@ its_layers w SopPrime = refl
 retold : (t : ℕ) (x y : Option Stimulus) (w v u : Work) → x ≡ y → Tells t x w v u → Tells t y w v u
 retold t x y w v u e h = subst (λ (z : Option Stimulus). Tells t z w v u) e h
 
-told_sent_tells : (t : ℕ) (act : LayerAct) (w : Work) → Tells t (told_if_sent act) w (told_sent Source t act w) (told_sent Source t act (unanswered w))
+told_sent_tells : (p : Contents) (t : ℕ) (act : LayerAct) (w : Work) →
+    Tells t (told_if_sent p act) w (told_sent Source p t act w) (told_sent Source p t act (unanswered w))
 unfolding tells_sent
-told_sent_tells t answer.Sent w = source_steps_tell t told.Sent w
-told_sent_tells t act w = spares_tell t w _ _ (none w)
+told_sent_tells p t answer.Sent w = source_steps_tell t (told.Sent (sent_as (kind_of_header p.header))) w
+told_sent_tells p t act w = spares_tell t w _ _ (none w)
 
 told_message_tells : (p : Contents) (t : ℕ) (act : LayerAct) (w : Work) →
-    Tells t (told_if_up act) w (told_message Source p t act w) (told_message Source p t act (unanswered w))
+    Tells t (told_if_up p act) w (told_message Source p t act w) (told_message Source p t act (unanswered w))
 unfolding tells_message
-told_message_tells p t answer.Up w = source_steps_tell t told.Other w
+told_message_tells p t answer.Up w = source_steps_tell t (source_hears_as (kind_of_header p.header) p.header p.objects) w
 told_message_tells p t act w = spares_tell t w _ _ (none w)
 
 after_time_out_tells : (p : Contents) (t : ℕ) (act : LayerAct) (w : Work) →
     Tells t (told_if_failed act) w (after_time_out Source p t act w) (after_time_out Source p t act (unanswered w))
 unfolding tells_failed
-after_time_out_tells p t (answer.Retry q) w = spares_tell t w _ _ (packet_starts_spares Source q t w)
+after_time_out_tells p t (answer.Retry q) w = spares_tell t w _ _ (packet_starts_kept t (sparing t) tt tt Source q w)
 after_time_out_tells p t answer.Failed w =
-    let v = noted (NoGoodCrc Source (kind_of_header p.header)) w in
-    told_then t (Some told.Failed) (source_steps t told.Failed) w v _ (noted_spares _ w) (source_steps_tell t told.Failed v)
+    let f = NoGoodCrc Source (kind_of_header p.header) in
+    let v = noted f w in
+    told_then t (Some told.Failed) (source_steps t told.Failed) w v _ (noted_kept t (sparing t) f w) (source_steps_tell t told.Failed v)
 after_time_out_tells p t act w = spares_tell t w _ _ (none w)
 
 acknowledged_tells : (p : Contents) (t : ℕ) (a : Option Contents) (w : Work) (r : Record) → HasLayers w r →
-    Tells t (told_of_good_crc p.channel r a) w (acknowledged Source p t a w) (acknowledged Source p t a (unanswered w))
+    Tells t (told_of_good_crc p r a) w (acknowledged Source p t a w) (acknowledged Source p t a (unanswered w))
 unfolding good_crc_on
 acknowledged_tells p t None w r h = spares_tell t w _ _ (line_spares _ w)
 acknowledged_tells p t (Some a) w r h =
-    let id = id_of a.header in
-    let v = good_crc_on Source p.channel id w in
-    retold t (told_if_sent v.1) _ w _ _ (ap (λ (l : LayerRecord). told_if_sent (layer.good_crc l id).1) (h p.channel))
-    (told_then_with t (told_if_sent v.1) (λ z. told_sent Source t z.1 z.0) w v _ (good_crc_spares Source p.channel id w) (told_sent_tells t v.1 v.0))
+    let call : LayerRecord → LayerRecord × LayerAct = λ l. layer.good_crc l (id_of a.header) in
+    let v = on_layer Source p.channel call w in
+    retold t (told_if_sent p v.1) _ w _ _ (ap (λ (l : LayerRecord). told_if_sent p (call l).1) (h p.channel))
+    (told_then_with t (told_if_sent p v.1) (λ z. told_sent Source p t z.1 z.0) w v _ (on_layer_spares LayerAct Source p.channel call w) (told_sent_tells p t v.1 v.0))
 
 goes_up_tells : (p : Contents) (t : ℕ) (w : Work) (r : Record) → HasLayers w r →
-    Tells t (told_if_up (layer.received (source_layer p.channel r) p.header).1) w (goes_up Source p t w) (goes_up Source p t (unanswered w))
+    Tells t (told_if_up p (layer.received (source_layer p.channel r) p.header).1) w (goes_up Source p t w) (goes_up Source p t (unanswered w))
 unfolding goes_up received_on
 goes_up_tells p t w r h =
-    let v = received_on Source p.channel p.header w in
-    retold t (told_if_up v.1) _ w _ _ (ap (λ (l : LayerRecord). told_if_up (layer.received l p.header).1) (h p.channel))
-    (told_then_with t (told_if_up v.1) (λ z. told_message Source p t z.1 z.0) w v _ (received_spares Source p.channel p.header w) (told_message_tells p t v.1 v.0))
+    let call : LayerRecord → LayerRecord × LayerAct = λ l. layer.received l p.header in
+    let v = on_layer Source p.channel call w in
+    retold t (told_if_up p v.1) _ w _ _ (ap (λ (l : LayerRecord). told_if_up p (call l).1) (h p.channel))
+    (told_then_with t (told_if_up p v.1) (λ z. told_message Source p t z.1 z.0) w v _ (on_layer_spares LayerAct Source p.channel call w) (told_message_tells p t v.1 v.0))
 
 -- the source speaks to another side
-others_hear : (c : Channel) → IsOther (receiver Source c)
+others_hear : (c : Channel) → OfSource ⊥ (receiver Source c)
 others_hear Sop = tt
 others_hear SopPrime = tt
 
+any_touches : (side : Side) → OfSource (Unit {0}) side
+any_touches Source = tt
+any_touches Sink = tt
+any_touches Plug = tt
+
 -- another side's message is acknowledged, and goes up to the source
-other_good_crc_tells : (side : Side) → IsOther side → (p a : Contents) (fate : Fate) (t : ℕ) (w : Work) (r : Record) → HasLayers w r →
-    Tells t (told_if_up (layer.received (source_layer p.channel r) p.header).1) w
+other_good_crc_tells : (side : Side) → OfSource ⊥ side → (p a : Contents) (fate : Fate) (t : ℕ) (w : Work) (r : Record) → HasLayers w r →
+    Tells t (told_if_up p (layer.received (source_layer p.channel r) p.header).1) w
     (goes_up Source p t (acknowledged side p t (heard a fate) w)) (goes_up Source p t (acknowledged side p t (heard a fate) (unanswered w)))
 other_good_crc_tells side o p a fate t w r h =
     let v = acknowledged side p t (heard a fate) w in
-    told_then t _ (goes_up Source p t) w v _ (acknowledged_spares side o p t (heard a fate) w)
+    told_then t _ (goes_up Source p t) w v _ (acknowledged_kept t (sparing t) tt side (any_touches side) o p (heard a fate) w)
     (goes_up_tells p t v r (λ c. acknowledged_layer side o p t (heard a fate) c w ∙ h c))
 
 good_crc_ends_tells : (side : Side) (p a : Contents) (fate : Fate) (t : ℕ) (w : Work) (r : Record) → HasLayers w r →
@@ -161,7 +186,8 @@ unfolding good_crc_ends
 good_crc_ends_tells Source p a fate t w r h =
     let v = acknowledged Source p t (heard a fate) w in
     let hearer = receiver Source p.channel in
-    told_first t _ (goes_up hearer p t) w v _ (acknowledged_tells p t (heard a fate) w r h) (goes_up_spares hearer (others_hear p.channel) p t v)
+    told_first t _ (goes_up hearer p t) w v _ (acknowledged_tells p t (heard a fate) w r h)
+    (goes_up_kept t (sparing t) hearer (any_touches hearer) (others_hear p.channel) p v)
 good_crc_ends_tells Sink p a fate t w r h = other_good_crc_tells Sink tt p a fate t w r h
 good_crc_ends_tells Plug p a fate t w r h = other_good_crc_tells Plug tt p a fate t w r h
 
@@ -169,53 +195,95 @@ times_out_tells : (side : Side) (p : Contents) (t : ℕ) (w : Work) (r : Record)
     Tells t (told_at_time_out side p r) w (times_out side p t w) (times_out side p t (unanswered w))
 unfolding times_out timed_out_on
 times_out_tells Source p t w r h =
-    let v = timed_out_on Source p.channel w in
+    let v = on_layer Source p.channel layer.timed_out w in
     retold t (told_if_failed v.1) _ w _ _ (ap (λ (l : LayerRecord). told_if_failed (layer.timed_out l).1) (h p.channel))
-    (told_then_with t (told_if_failed v.1) (λ z. after_time_out Source p t z.1 z.0) w v _ (timed_out_spares Source p.channel w) (after_time_out_tells p t v.1 v.0))
-times_out_tells Sink p t w r h = spares_tell t w _ _ (times_out_spares Sink tt p t w)
-times_out_tells Plug p t w r h = spares_tell t w _ _ (times_out_spares Plug tt p t w)
+    (told_then_with t (told_if_failed v.1) (λ z. after_time_out Source p t z.1 z.0) w v _ (on_layer_spares LayerAct Source p.channel layer.timed_out w) (after_time_out_tells p t v.1 v.0))
+times_out_tells Sink p t w r h = spares_tell t w _ _ (times_out_kept t (sparing t) tt tt Sink tt tt p w)
+times_out_tells Plug p t w r h = spares_tell t w _ _ (times_out_kept t (sparing t) tt tt Plug tt tt p w)
 
-line_ends_at_tells : (line : Line) (t : ℕ) (w : Work) (r : Record) → HasLayers w r →
+-- all is reset at a Hard Reset's end, which spares the source
+reset_spares : (t : ℕ) (w : Work) → Spares w (layers_reset (waiting_dropped w)) (layers_reset (waiting_dropped (unanswered w)))
+reset_spares t w =
+    let v = waiting_dropped w in
+    joins layers_reset w v _ (waiting_dropped_kept t (sparing t) w) (layers_reset_kept t (sparing t) tt v)
+
+-- the source's own Hard Reset
+own_reset_tells : (t : ℕ) (w : Work) →
+    Tells t (Some (told.Sent sent.Other)) w (hard_reset_ends Source t w) (hard_reset_ends Source t (unanswered w))
+unfolding hard_reset_ends all_hear_reset hears_reset tells_sent
+own_reset_tells t w =
+    let x : Stimulus = told.Sent sent.Other in
+    let a = layers_reset (waiting_dropped w) in
+    let b = source_steps t x a in
+    let c = hears_reset Source Sink t b in
+    told_first t (Some x) (hears_reset Source Plug t) w c _
+    (told_first t (Some x) (hears_reset Source Sink t) w b _
+    (told_then t (Some x) (source_steps t x) w a _ (reset_spares t w) (source_steps_tell t x a))
+    (hears_reset_kept t (sparing t) Source Sink tt b))
+    (hears_reset_kept t (sparing t) Source Plug tt c)
+
+told_if_hears : Bool → Option Stimulus
+told_if_hears b = if b then Some told.HardReset else None
+
+-- the source gets another side's Hard Reset, where it hears
+source_gets_reset : (b : Bool) (t : ℕ) (w : Work) →
+    Tells t (told_if_hears b) w (if b then source_steps t told.HardReset w else w) (if b then source_steps t told.HardReset (unanswered w) else unanswered w)
+unfolding told_if_hears
+source_gets_reset true t w = source_steps_tell t told.HardReset w
+source_gets_reset false t w = spares_tell t w _ _ (none w)
+
+source_hears_reset : (side : Side) → OfSource ⊥ side → (t : ℕ) (w : Work) →
+    Tells t (told_if_hears (source.hears_in w.port.source.record)) w (hears_reset side Source t w) (hears_reset side Source t (unanswered w))
+unfolding hears_reset hears tells_reset
+source_hears_reset Source o t w = absurd o
+source_hears_reset Sink o t w = source_gets_reset (source.hears_in w.port.source.record) t w
+source_hears_reset Plug o t w = source_gets_reset (source.hears_in w.port.source.record) t w
+
+-- another side's Hard Reset
+other_reset_tells : (side : Side) → OfSource ⊥ side → (t : ℕ) (w : Work) →
+    Tells t (told_if_hears (source.hears_in w.port.source.record)) w (hard_reset_ends side t w) (hard_reset_ends side t (unanswered w))
+unfolding hard_reset_ends all_hear_reset
+other_reset_tells side o t w =
+    let a = layers_reset (waiting_dropped w) in
+    let b = tells_sent side sent.Other t a in
+    let s = joins (tells_sent side sent.Other t) w a _ (reset_spares t w) (tells_sent_kept t (sparing t) side o sent.Other a) in
+    let x = told_if_hears (source.hears_in w.port.source.record) in
+    let c = hears_reset side Source t b in
+    let d = hears_reset side Sink t c in
+    let e : told_if_hears (source.hears_in b.port.source.record) ≡ x =
+    ap (λ (z : SourceData). told_if_hears (source.hears_in z.record)) s.source in
+    told_first t x (hears_reset side Plug t) w d _
+    (told_first t x (hears_reset side Sink t) w c _
+    (told_then t x (hears_reset side Source t) w b _ s (retold t (told_if_hears (source.hears_in b.port.source.record)) x b _ _ e (source_hears_reset side o t b)))
+    (hears_reset_kept t (sparing t) side Sink tt c))
+    (hears_reset_kept t (sparing t) side Plug tt d)
+
+hard_reset_tells : (side : Side) (t : ℕ) (w : Work) (r : Record) → w.port.source ≡ r.source →
+    Tells t (told_of_reset side r) w (hard_reset_ends side t w) (hard_reset_ends side t (unanswered w))
+unfolding told_if_hears
+hard_reset_tells Source t w r e = own_reset_tells t w
+hard_reset_tells Sink t w r e =
+    retold t (told_if_hears (source.hears_in w.port.source.record)) _ w _ _ (ap (λ (z : SourceData). told_if_hears (source.hears_in z.record)) e)
+    (other_reset_tells Sink tt t w)
+hard_reset_tells Plug t w r e =
+    retold t (told_if_hears (source.hears_in w.port.source.record)) _ w _ _ (ap (λ (z : SourceData). told_if_hears (source.hears_in z.record)) e)
+    (other_reset_tells Plug tt t w)
+
+line_ends_at_tells : (line : Line) (t : ℕ) (w : Work) (r : Record) → HasLayers w r → w.port.source ≡ r.source →
     Tells t (told_by_line line r) w (line_ends_at line t w) (line_ends_at line t (unanswered w))
-line_ends_at_tells Idle t w r h = spares_tell t w _ _ (none w)
-line_ends_at_tells (Message side p fate end) t w r h = spares_tell t w _ _ (message_ends_spares side p fate t w)
-line_ends_at_tells (Pause side p end) t w r h = spares_tell t w _ _ (good_crc_starts_spares side p t w)
-line_ends_at_tells (GoodCrc side p a fate end) t w r h = good_crc_ends_tells side p a fate t w r h
-line_ends_at_tells (NoAnswer side p end) t w r h = times_out_tells side p t w r h
+line_ends_at_tells Idle t w r h e = spares_tell t w _ _ (none w)
+line_ends_at_tells (Message side p fate end) t w r h e = spares_tell t w _ _ (message_ends_kept t (sparing t) tt side p fate w)
+line_ends_at_tells (Pause side p end) t w r h e = spares_tell t w _ _ (good_crc_starts_kept t (sparing t) tt tt side p w)
+line_ends_at_tells (GoodCrc side p a fate end) t w r h e = good_crc_ends_tells side p a fate t w r h
+line_ends_at_tells (NoAnswer side p end) t w r h e = times_out_tells side p t w r h
+line_ends_at_tells (HardReset side end) t w r h e = hard_reset_tells side t w r e
 
 line_ends_tells : (t : ℕ) (w : Work) → Tells t (told_by_line w.port.line w.port) w (line_ends t w) (line_ends t (unanswered w))
 unfolding line_ends
 line_ends_tells t w =
     let v = with_line Idle w in
     told_then t _ (line_ends_at w.port.line t) w v _ (line_spares Idle w)
-    (line_ends_at_tells w.port.line t v w.port (λ c. line_layer Idle c w ∙ its_layers w c))
-
-tells_attach_tells : (cable : Cable) (device : SinkData) (t : ℕ) (w : Work) →
-    Tells t (Some told.Attach) w (tells_attach cable device t w) (tells_attach cable device t (unanswered w))
-unfolding tells_attach
-tells_attach_tells cable device t w =
-    let x : Option Stimulus = Some told.Attach in
-    let a : Work = with_port (record w.port { cable = Some cable }) w in
-    let b = source_steps t told.Attach a in
-    let c = sink_steps t (sink_told.Attach device) b in
-    told_first t x (plug_steps t _) w c _
-    (told_first t x (sink_steps t (sink_told.Attach device)) w b _
-    (told_then t x (source_steps t told.Attach) w a _ (spares w a refl refl) (source_steps_tell t told.Attach a))
-    (sink_steps_spare t (sink_told.Attach device) b))
-    (plug_steps_spare t _ c)
-
-attaches_tells : (id : ℕ) (cable : Cable) (device : SinkData) (t : ℕ) (w : Work) →
-    Tells t (told_by_event (Attach cable device) w.port) w (attaches id cable device t w) (attaches id cable device t (unanswered w))
-unfolding attaches
-attaches_tells id cable device t w = either (is_some w.port.cable) where
-  either : (b : Bool) → Tells t (if b then None else Some told.Attach) w (if b then noted (Ignored id) w else tells_attach cable device t w)
-      (if b then noted (Ignored id) (unanswered w) else tells_attach cable device t (unanswered w))
-  either true = spares_tell t w _ _ (noted_spares (Ignored id) w)
-  either false = tells_attach_tells cable device t w
-
-event_tells : (id : ℕ) (k : EventKind) (t : ℕ) (w : Work) →
-    Tells t (told_by_event k w.port) w (event_happens id k t w) (event_happens id k t (unanswered w))
-event_tells id (Attach cable device) t w = attaches_tells id cable device t w
+    (line_ends_at_tells w.port.line t v w.port (λ c. line_layer Idle c w ∙ its_layers w c) (line_spares Idle w).source)
 
 timer_tells : (side : Side) (timer : Timer) (t : ℕ) (w : Work) →
     Tells t (source_told (what.Timer side timer) w.port) w (tells_timer side timer t w) (tells_timer side timer t (unanswered w))
@@ -224,30 +292,138 @@ timer_tells Source timer t w = source_steps_tell t (told.Ended timer) w
 timer_tells Sink timer t w = spares_tell t w _ _ (tells_timer_spares Sink tt timer t w)
 timer_tells Plug timer t w = spares_tell t w _ _ (tells_timer_spares Plug tt timer t w)
 
-happens_tells : (x : What) (t : ℕ) (w : Work) → Tells t (source_told x w.port) w (happens x t w) (happens x t (unanswered w))
-happens_tells (what.Event e) t w = event_tells e.id e.kind t w
-happens_tells what.Line t w = line_ends_tells t w
-happens_tells (what.Timer side timer) t w = timer_tells side timer t w
+attach_tells : (cable : Cable) (device : SinkData) (t : ℕ) (w : Work) →
+    Tells t (Some told.Attach) w (tells_attach cable device t w) (tells_attach cable device t (unanswered w))
+unfolding tells_attach
+attach_tells cable device t w =
+    let x : Option Stimulus = Some told.Attach in
+    let a : Work = with_port (record w.port { cable = Some cable }) w in
+    let b = source_steps t told.Attach a in
+    let c = sink_steps t (sink_told.Attach device) b in
+    told_first t x (plug_steps t _) w c _
+    (told_first t x (sink_steps t (sink_told.Attach device)) w b _
+    (told_then t x (source_steps t told.Attach) w a _ (attached_kept t (sparing t) cable w) (source_steps_tell t told.Attach a))
+    (sink_steps_kept t (sparing t) (sink_told.Attach device) b refl))
+    (plug_steps_kept t (sparing t) _ c refl)
 
-portstep_tells : (r : Record) (d : Due) (given : Option Answer) →
-    Tells d.time (source_told d.what r) (begun r given) (portstep r d given) (portstep r d None)
+disturbs_spares : (id : ℕ) (d : Disturbance) (t : ℕ) (w : Work) → Spares w (disturbs id d w) (disturbs id d (unanswered w))
+unfolding disturbs
+disturbs_spares id d t w =
+    let waits : Work → Work = λ z. with_port (record z.port { disturbances = record { items = z.port.disturbances.items ++ d ∷ [] } }) z in
+    choice t (sparing t) (nat_lt (length w.port.disturbances.items) 8) waits (noted (Ignored id)) w (spares w _ refl refl) (noted_kept t (sparing t) (Ignored id) w)
+
+gets_source_spares : (id t : ℕ) (w : Work) → Spares w (gets_source id t w) (gets_source id t (unanswered w))
+unfolding gets_source
+gets_source_spares id t w =
+    choice t (sparing t) (sink.is_ready w.port.sink) (sink_steps t sink_told.GetSource) (noted (Ignored id)) w
+    (sink_steps_kept t (sparing t) sink_told.GetSource w refl) (noted_kept t (sparing t) (Ignored id) w)
+
+gets_sink_tells : (id t : ℕ) (w : Work) →
+    Tells t (if source.is_ready w.port.source.record then Some told.GetSink else None) w (gets_sink id t w) (gets_sink id t (unanswered w))
+unfolding gets_sink
+gets_sink_tells id t w = either (source.is_ready w.port.source.record) where
+  either : (b : Bool) → Tells t (if b then Some told.GetSink else None) w (if b then source_steps t told.GetSink w else noted (Ignored id) w)
+      (if b then source_steps t told.GetSink (unanswered w) else noted (Ignored id) (unanswered w))
+  either true = source_steps_tell t told.GetSink w
+  either false = spares_tell t w _ _ (noted_kept t (sparing t) (Ignored id) w)
+
+-- an event while nothing is attached
+detached_tells : (id : ℕ) (k : EventKind) (t : ℕ) (w : Work) →
+    Tells t (told_detached k) w (happens_detached id k t w) (happens_detached id k t (unanswered w))
+detached_tells id (Attach cable device) t w = attach_tells cable device t w
+detached_tells id k t w = spares_tell t w _ _ (noted_kept t (sparing t) (Ignored id) w)
+
+-- how a step of the port begins
+abbrev first_work : SettingsData → PortRecord → Option Answer → Work
+first_work s r given = begun (whole s r) given
+
+-- what happens makes the source what the law says
+abbrev Happens : SettingsData → PortRecord → What → ℕ → Option Answer → Type 0
+Happens s r x t given =
+    let d : Due = record { time = t; what = x } in
+    Becomes (source_after s r d given) (ask s r d ≡ None) (first_work s r given) (happens x t (first_work s r given)) (happens x t (first_work s r None))
+
+-- what is told at the beginning of a step
+abbrev TellsFirst : SettingsData → PortRecord → Option Stimulus → ℕ → Option Answer → (Work → Work) → Type 0
+TellsFirst s r x t given f = Tells t x (first_work s r given) (f (first_work s r given)) (f (first_work s r None))
+
+-- one thing while a sink is attached, and else another
+by_cable : (b : Bool) (s : SettingsData) (r : PortRecord) (t : ℕ) (given : Option Answer) (x y : Option Stimulus) (f g : Work → Work) →
+    TellsFirst s r x t given f → TellsFirst s r y t given g → TellsFirst s r (if b then x else y) t given (λ z. if b then f z else g z)
+by_cable true s r t given x y f g h k = h
+by_cable false s r t given x y f g h k = k
+
+-- an event that doesn't pull the cable out
+told_event : (s : SettingsData) (r : PortRecord) (id : ℕ) (k : EventKind) (t : ℕ) (given : Option Answer) →
+    TellsFirst s r (told_attached k (whole s r)) t given (happens_attached id k t) →
+    TellsFirst s r (if is_some r.cable then told_attached k (whole s r) else told_detached k) t given
+    (λ z. if is_some r.cable then happens_attached id k t z else happens_detached id k t z)
+told_event s r id k t given h =
+    by_cable (is_some r.cable) s r t given (told_attached k (whole s r)) (told_detached k) (happens_attached id k t) (happens_detached id k t) h
+    (detached_tells id k t (first_work s r given))
+
+-- the cable is pulled out, where a sink is attached
+pulled_out : (b : Bool) (s : SettingsData) (r : PortRecord) (id t : ℕ) (given : Option Answer) →
+    Becomes (if b then off (source_settings s) else source_after_told (source_settings s) t (if b then None else None) given r.source)
+    (asks (whole s r) (if b then None else None) ≡ None) (first_work s r given)
+    (if b then detaches (first_work s r given) else noted (Ignored id) (first_work s r given))
+    (if b then detaches (first_work s r None) else noted (Ignored id) (first_work s r None))
+unfolding detaches noted nothing_attached
+pulled_out true s r id t given = record { becomes = refl; blind = λ q. refl }
+pulled_out false s r id t given = record { becomes = refl; blind = λ q. refl }
+
+kind_happens : (s : SettingsData) (r : PortRecord) (at id t : ℕ) (given : Option Answer) (k : EventKind) →
+    Happens s r (what.Event (record { at = at; happening = Port id k })) t given
+unfolding ask
+kind_happens s r at id t given (Attach cable device) =
+    told_event s r id (Attach cable device) t given (spares_tell t _ _ _ (noted_kept t (sparing t) (Ignored id) (first_work s r given)))
+kind_happens s r at id t given Detach = pulled_out (is_some r.cable) s r id t given
+kind_happens s r at id t given (Demand mw) =
+    told_event s r id (Demand mw) t given (spares_tell t _ _ _ (sink_steps_kept t (sparing t) (sink_told.Demand mw) (first_work s r given) refl))
+kind_happens s r at id t given Lose =
+    told_event s r id Lose t given (spares_tell t _ _ _ (disturbs_spares id Lost t (first_work s r given)))
+kind_happens s r at id t given (Damage d) =
+    told_event s r id (Damage d) t given (spares_tell t _ _ _ (disturbs_spares id (Damaged d) t (first_work s r given)))
+kind_happens s r at id t given GetSource =
+    told_event s r id GetSource t given (spares_tell t _ _ _ (gets_source_spares id t (first_work s r given)))
+kind_happens s r at id t given GetSink = told_event s r id GetSink t given (gets_sink_tells id t (first_work s r given))
+
+-- where the hold may not stay, the source sheds it
+shed_becomes : (a : Option Answer) (t : ℕ) (w : Work) →
+    (shed a t (unanswered w)).port.source.record ≡ source_after_told w.port.source.settings t (told_if_shed a) None w.port.source.record
+shed_becomes (Some (answers.Fits false)) t w = (source_steps_step t told.Shed (unanswered w)).stepped
+shed_becomes a t w = refl
+
+event_becomes : (s : SettingsData) (r : PortRecord) (at : ℕ) (h : Happening) (t : ℕ) (given : Option Answer) →
+    Happens s r (what.Event (record { at = at; happening = h })) t given
+unfolding ask budget_changes
+event_becomes s r at (Port id k) t given = kind_happens s r at id t given k
+event_becomes s r at Budget t given =
+    record { becomes = shed_becomes given t (first_work s r given); blind = λ q. absurd (cc) }
+
+what_becomes : (s : SettingsData) (r : PortRecord) (x : What) (t : ℕ) (given : Option Answer) → Happens s r x t given
+unfolding ask
+what_becomes s r (what.Event e) t given = event_becomes s r e.at e.happening t given
+what_becomes s r what.Line t given = line_ends_tells t (first_work s r given)
+what_becomes s r (what.Timer side timer) t given = timer_tells side timer t (first_work s r given)
+
+portstep_becomes : (s : SettingsData) (r : PortRecord) (d : Due) (given : Option Answer) →
+    Becomes (source_after s r d given) (ask s r d ≡ None) (first_work s r given) (portstep (whole s r) d given) (portstep (whole s r) d None)
 unfolding portstep
-portstep_tells r d given =
-    let w = begun r given in
-    let v = happens d.what d.time w in
-    told_first d.time _ (line_starts d.time) w v _ (happens_tells d.what d.time w) (line_starts_spares d.time v)
+portstep_becomes s r d given =
+    let v = happens d.what d.time (first_work s r given) in
+    becomes_first (source_after s r d given) (ask s r d ≡ None) (line_starts d.time) (first_work s r given) v _
+    (what_becomes s r d.what d.time given) (line_starts_kept d.time (sparing d.time) tt tt tt v)
 
 -- the source is stepped once, with what it is told and with the answer
-pub record_after-source : (s : SettingsData) (r : PortRecord) (d : Due) (given : Option Answer) →
-    (record_after s r d given).source ≡ source_after_told (source_settings s) d.time (source_told d.what (whole s r)) given r.source
+pub record_after-source : (s : SettingsData) (r : PortRecord) (d : Due) (given : Option Answer) → (record_after s r d given).source ≡ source_after s r d given
 unfolding record_after
-record_after-source s r d given = (portstep_tells (whole s r) d given).stepped
+record_after-source s r d given = (portstep_becomes s r d given).becomes
 
 -- where nothing is asked, a step is the same with each answer
 portstep-blind : (s : SettingsData) (r : PortRecord) (d : Due) (a b : Option Answer) → ask s r d ≡ None →
     unanswered (portstep (whole s r) d a) ≡ unanswered (portstep (whole s r) d b)
-unfolding ask query
-portstep-blind s r d a b h = sym ((portstep_tells (whole s r) d a).blind h) ∙ (portstep_tells (whole s r) d b).blind h
+portstep-blind s r d a b h = sym ((portstep_becomes s r d a).blind h) ∙ (portstep_becomes s r d b).blind h
 
 pub record_after-blind : (s : SettingsData) (r : PortRecord) (d : Due) (a b : Option Answer) → ask s r d ≡ None → record_after s r d a ≡ record_after s r d b
 unfolding record_after

@@ -1,5 +1,6 @@
 -- What the run of a charger relies on of a port's step.
 use Rattle.std.proofs.Common.{◌≡◌, ◌⊎◌, ℕ, ◌<◌, ◌≤◌, true, false, List, Option, Some, None, refl, ◌∙◌, sym, ap, subst, inl, inr, arith}
+use Rattle.std.proofs.Common.{Bool, ◌&&◌, if◌then◌else◌, is_some}
 use Rattle.std.specs.Option.{option_and_then}
 use Rattle.pd_header.specs.declared.side.Side.{Side}
 use Rattle.pd_header.specs.declared.side.Side.TheVariants.{Source, Sink, Plug}
@@ -9,22 +10,28 @@ use Rattle.pd_timers.specs.declared.Timer.{Timer}
 use Rattle.pd_timers.specs.Deadlines.{deadline, first_of, IsFirst}
 use Rattle.pd_timers.proofs.FirstLemmas.{first_of-IsFirst}
 use Rattle.pd_timers.proofs.LaterLemmas.{SetsLater-same}
-use Rattle.pd_source.specs.Record.{SourceSettings, SourceRecord}
+use Rattle.pd_objects.specs.declared.query.Answer.TheVariants as answers
+use Rattle.pd_objects.specs.declared.query.Query.TheVariants as query
+use Rattle.pd_source.specs.Record.{SourceSettings, SourceRecord, off}
 use Rattle.pd_source.specs.Step.{query_of, hold_of}
 use Rattle.pd_source.specs.declared.kinds.Stimulus.{Stimulus}
-use Rattle.pd_source.proofs.Holds.{IsSafe, safe-None, safe-query, hold_of-floor, hold_of-off}
+use Rattle.pd_source.specs.declared.kinds.Stimulus.TheVariants as told
+use Rattle.pd_source.proofs.Holds.{hold_of-floor, hold_of-off, hold_of-stepped, hold_of-None}
 use Rattle.pd_line.specs.Record.{PortRecord, nothing_attached}
-use Rattle.pd_line.proofs.Later.{IsBounded, later_kept}
+use Rattle.pd_line.proofs.Later.{later_kept}
 use Rattle.pd_line.specs.Later.{Times, times_of, Later, line_end}
 use Rattle.pd_port.specs.declared.due.Due.{Due}
 use Rattle.pd_port.specs.declared.due.What.{What}
 use Rattle.pd_port.specs.declared.due.What.TheVariants as what
 use Rattle.pd_plan.specs.Events.{EventData}
 use Rattle.pd_plan.specs.Settings.{SettingsData, floor_of}
-use Rattle.pd_port.specs.Laws.{NotBefore, pending_at, pending, without, IsOneOf, IsEarliest}
-use Rattle.pd_port.specs.Port.{is_event, event_due, line_due, timer_due, dues, due, detached, source_settings, whole, begun, portstep, source_told, query, ask, record_after, hold}
+use Rattle.pd_port.specs.Laws.{NotBefore, pending_at, pending, without, IsOneOf, IsEarliest, source_after_told}
+use Rattle.pd_port.specs.Happens.{is_budget, is_detach}
+use Rattle.pd_port.specs.Told.{source_told, told_if_shed}
+use Rattle.pd_port.specs.Port.{is_event, event_due, line_due, timer_due, dues, due, detached, source_settings, whole, ask, asks, record_after, hold}
 use Rattle.pd_port.proofs.Earliest.{is_before-time, due-IsEarliest}
-use Rattle.pd_port.proofs.Later.{record_after-later, portstep-bounded, portstep-settings}
+use Rattle.pd_port.proofs.Asked.{record_after-source}
+use Rattle.pd_port.proofs.Later.{record_after-later}
 use Rattle.pd_port.proofs.Pending.{stopped-later, pending_at-few, pending_at-falls, pending_at-line, pending_at-source, pending_at-sink, pending_at-plug}
 
 -- a deadline that is the first one runs
@@ -308,20 +315,43 @@ pub hold_detached : (s : SettingsData) → hold s (detached s) ≡ floor_of s
 unfolding hold detached nothing_attached
 hold_detached s = hold_of-off (source_settings s) (floor_of s)
 
-safe_told : (s : SourceSettings) (r : SourceRecord) (floor free : ℕ) (told : Option Stimulus) (x : Option Answer) → floor ≤ free →
-    IsAllowed free (option_and_then (λ y. query_of s y r) told) x → IsSafe s floor free x
-safe_told s r floor free None x l h = rw h (safe-None s floor free)
-safe_told s r floor free (Some y) x l h = safe-query s floor free y x r l h
+-- a hold that is within the free power stays within it where an answer is allowed
+fits_told : (s : SourceSettings) (r : SourceRecord) (floor free t : ℕ) (x : Option Stimulus) (a : Option Answer) → hold_of s floor r ≤ free →
+    IsAllowed free (option_and_then (λ y. query_of s y r) x) a → hold_of s floor (source_after_told s t x a r) ≤ free
+fits_told s r floor free t None a h i = h
+fits_told s r floor free t (Some x) a h i = hold_of-stepped s floor free t x a r h i
+
+-- where the hold may not stay, it is shed
+fits_shed : (s : SourceSettings) (r : SourceRecord) (floor free t : ℕ) (a : Option Answer) → hold_of s floor r ≤ free →
+    hold_of s floor (source_after_told s t (told_if_shed a) None r) ≤ free
+fits_shed s r floor free t (Some (answers.Fits false)) h = hold_of-None s floor free t told.Shed r h
+fits_shed s r floor free t a h = h
+
+-- a detached port's hold is its floor
+fits_off : (b : Bool) (s : SettingsData) (r new : SourceRecord) (f : ℕ) → hold_of (source_settings s) (floor_of s) r ≤ f →
+    hold_of (source_settings s) (floor_of s) new ≤ f →
+    hold_of (source_settings s) (floor_of s) (if b then off (source_settings s) else new) ≤ f
+fits_off true s r new f h k =
+    let least = hold_of-floor (source_settings s) (floor_of s) r in
+    let e = hold_of-off (source_settings s) (floor_of s) in
+    omega arith
+fits_off false s r new f h k = k
+
+by_budget : (b : Bool) (s : SettingsData) (r : PortRecord) (d : Due) (x : Option Answer) (f : ℕ) → hold_of (source_settings s) (floor_of s) r.source ≤ f →
+    IsAllowed f (if b then Some (query.Keep (hold s r)) else asks (whole s r) (source_told d.what (whole s r))) x →
+    hold_of (source_settings s) (floor_of s)
+    (if b then source_after_told (source_settings s) d.time (told_if_shed x) None r.source
+    else (if is_detach d.what && is_some r.cable then off (source_settings s)
+    else source_after_told (source_settings s) d.time (source_told d.what (whole s r)) x r.source)) ≤ f
+by_budget true s r d x f h i = fits_shed (source_settings s) r.source (floor_of s) f d.time x h
+by_budget false s r d x f h i =
+    fits_off (is_detach d.what && is_some r.cable) s r.source _ f h
+    (fits_told (source_settings s) r.source (floor_of s) f d.time (source_told d.what (whole s r)) x h i)
 
 -- with an allowed answer the hold stays within the free power
 pub hold_fits : (s : SettingsData) (r : PortRecord) (d : Due) (x : Option Answer) (f : ℕ) → hold s r ≤ f → IsAllowed f (ask s r d) x →
     hold s (record_after s r d x) ≤ f
-unfolding hold ask query record_after
+unfolding hold ask
 hold_fits s r d x f h i =
-    let set = source_settings s in
-    let least = hold_of-floor set (floor_of s) r.source in
-    let begin : IsBounded f (floor_of s) (begun (whole s r) x) =
-    record { answer = safe_told set r.source (floor_of s) f (source_told d.what (whole s r)) x (omega arith) i; held = h } in
-    let end = (portstep-bounded (whole s r) d x f (floor_of s) begin).held in
-    let same = portstep-settings (whole s r) d x in
-    subst (λ (z : SourceSettings). hold_of z (floor_of s) (portstep (whole s r) d x).port.source.record ≤ f) same end
+    subst (λ (n : SourceRecord). hold_of (source_settings s) (floor_of s) n ≤ f) (sym (record_after-source s r d x))
+    (by_budget (is_budget d.what) s r d x f h i)

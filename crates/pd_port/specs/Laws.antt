@@ -1,8 +1,8 @@
 -- What the run of a charger relies on of a port's step.
-use Rattle.std.specs.Prelude.{◌≡◌, ◌⊎◌, ℕ, ◌+◌, ◌≤◌, nat_le, if◌then◌else◌, Bool, true, false, List, [], ◌∷◌, Option, Some, None}
+use Rattle.std.specs.Prelude.{◌≡◌, ◌⊎◌, ℕ, ◌+◌, ◌≤◌, nat_le, if◌then◌else◌, ◌&&◌, Bool, true, false, is_some, List, [], ◌∷◌, Option, Some, None}
 use Rattle.pd_header.specs.declared.side.Side.TheVariants.{Source, Sink, Plug}
 use Rattle.pd_objects.specs.declared.query.Answer.{Answer}
-use Rattle.pd_source.specs.Record.{SourceSettings, SourceRecord}
+use Rattle.pd_source.specs.Record.{SourceSettings, SourceRecord, off}
 use Rattle.pd_source.specs.Step as source
 use Rattle.pd_source.specs.declared.kinds.Stimulus.{Stimulus}
 use Rattle.pd_timers.specs.declared.Timer.{Timer}
@@ -16,7 +16,9 @@ use Rattle.pd_port.specs.declared.due.What.{What}
 use Rattle.pd_port.specs.declared.due.What.TheVariants as what
 use Rattle.pd_plan.specs.Events.{EventData}
 use Rattle.pd_plan.specs.Settings.{SettingsData}
-use Rattle.pd_port.specs.Port.{dues, due, is_before, begun, happens, portstep, whole, source_settings, source_told, ask, record_after, entry_of}
+use Rattle.pd_port.specs.Happens.{is_budget, is_detach}
+use Rattle.pd_port.specs.Told.{source_told, told_if_shed}
+use Rattle.pd_port.specs.Port.{dues, due, is_before, begun, happens, portstep, whole, detached, source_settings, ask, record_after, entry_of}
 
 -- the next event isn't before t
 abbrev pub NotBefore : ℕ → Option EventData → Type 0
@@ -73,12 +75,24 @@ abbrev pub source_after_told : SourceSettings → ℕ → Option Stimulus → Op
 source_after_told s t None given r = r
 source_after_told s t (Some x) given r = source.stepped s t x given r
 
--- in a step of the port the source takes one step, with what `source_told` says and with the answer, and none where it
--- says nothing
+-- The source after a step of the port. Where the budget changes, it is told to shed its hold where that may not stay, and
+-- gets no answer; where the cable is pulled out, it is off; and else it takes one step with what `source_told` says and
+-- with the answer, and none where that says nothing.
+abbrev pub source_after : SettingsData → PortRecord → Due → Option Answer → SourceRecord
+source_after s r d given =
+    if is_budget d.what then source_after_told (source_settings s) d.time (told_if_shed given) None r.source
+    else (if is_detach d.what && is_some r.cable then off (source_settings s)
+    else source_after_told (source_settings s) d.time (source_told d.what (whole s r)) given r.source)
+
 abbrev pub SourceStepsOnce : Type 0
 SourceStepsOnce =
-    (s : SettingsData) (r : PortRecord) (d : Due) (given : Option Answer) →
-    (record_after s r d given).source ≡ source_after_told (source_settings s) d.time (source_told d.what (whole s r)) given r.source
+    (s : SettingsData) (r : PortRecord) (d : Due) (given : Option Answer) → (record_after s r d given).source ≡ source_after s r d given
+
+-- where the cable is pulled out, the port is as at the start, whatever was on the line
+abbrev pub DetachedAreNew : Type 0
+DetachedAreNew =
+    (s : SettingsData) (r : PortRecord) (d : Due) (given : Option Answer) → is_detach d.what ≡ true → is_some r.cable ≡ true →
+    record_after s r d given ≡ detached s
 
 -- where the port asks nothing, no answer matters: not to what it becomes, and not to what is read of its step
 abbrev pub AnswersMatterOnlyWhereAsked : Type 0
@@ -104,8 +118,10 @@ abbrev pub is_line : What → Bool
 is_line what.Line = true
 is_line _ = false
 
--- while something is on the line, its own end alone changes the line, and starts anything
+-- while something is on the line, nothing but its own end changes the line or starts anything, unless the cable is pulled
+-- out
 abbrev pub BusyLinesAreLeft : Type 0
 BusyLinesAreLeft =
-    (s : SettingsData) (r : PortRecord) (d : Due) (given : Option Answer) → is_idle r.line ≡ false → is_line d.what ≡ false →
+    (s : SettingsData) (r : PortRecord) (d : Due) (given : Option Answer) →
+    is_idle r.line ≡ false → is_line d.what ≡ false → is_detach d.what ≡ false →
     ((record_after s r d given).line ≡ r.line) × ((entry_of s r d given).start ≡ None)

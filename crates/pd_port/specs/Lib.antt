@@ -1,3 +1,5 @@
+pub mod Happens
 pub mod Laws
 pub mod Meter
 pub mod Port
+pub mod Told

@@ -1,46 +1,31 @@
 -- One port: what falls due on it next, what it asks before its step, the step, and what it holds of the shared budget.
-use Rattle.std.specs.Prelude.{ℕ, ◌+◌, ◌*◌, ◌==◌, nat_lt, Bool, true, false, ◌&&◌, ◌||◌, if◌then◌else◌, is_some, List, [], ◌∷◌, Option, Some, None, option_and_then}
-use Rattle.pd_symbols.specs.declared.channel.Channel.{Channel}
-use Rattle.pd_symbols.specs.declared.channel.Channel.TheVariants.{Sop, SopPrime}
+use Rattle.std.specs.Prelude.{ℕ, ◌+◌, ◌*◌, ◌==◌, nat_lt, Bool, true, false, ◌&&◌, ◌||◌, if◌then◌else◌, List, [], ◌∷◌, Option, Some, None, option_and_then}
 use Rattle.pd_header.specs.declared.side.Side.{Side}
 use Rattle.pd_header.specs.declared.side.Side.TheVariants.{Source, Sink, Plug}
-use Rattle.pd_header.specs.Header.{id_of}
-use Rattle.pd_identity.specs.declared.Cable.{Cable}
-use Rattle.pd_packet.specs.Contents.{Contents}
-use Rattle.pd_packet.specs.Hearing.{heard}
-use Rattle.pd_packet.specs.declared.fate.Fate.{Fate}
 use Rattle.pd_objects.specs.declared.query.Query.{Query}
+use Rattle.pd_objects.specs.declared.query.Query.TheVariants as query
 use Rattle.pd_objects.specs.declared.query.Answer.{Answer}
 use Rattle.pd_timers.specs.declared.Timer.{Timer}
 use Rattle.pd_timers.specs.Timers.{place}
 use Rattle.pd_timers.specs.Deadlines.{first_of}
-use Rattle.pd_protocol.specs.LayerRecord.{LayerRecord}
-use Rattle.pd_protocol.specs.Layer as layer
-use Rattle.pd_protocol.specs.declared.layer.LayerAct.{LayerAct}
-use Rattle.pd_protocol.specs.declared.layer.LayerAct.TheVariants as answer
 use Rattle.pd_source.specs.Record.{SourceSettings}
 use Rattle.pd_source.specs.Step as source
 use Rattle.pd_source.specs.declared.kinds.Stimulus.{Stimulus}
-use Rattle.pd_source.specs.declared.kinds.Stimulus.TheVariants as told
-use Rattle.pd_sink.specs.Settings.{SinkData}
-use Rattle.pd_line.specs.declared.notes.Fault.TheVariants.{Ignored}
+use Rattle.pd_plan.specs.Events.{EventData}
+use Rattle.pd_plan.specs.Settings.{SettingsData, floor_of}
 use Rattle.pd_line.specs.declared.record.Record.{Record}
-use Rattle.pd_line.specs.declared.record.Line.{Line}
-use Rattle.pd_line.specs.declared.record.Line.TheVariants.{GoodCrc, NoAnswer}
 use Rattle.pd_line.specs.declared.work.Work.{Work}
 pub use Rattle.pd_line.specs.Record.{PortRecord}
 use Rattle.pd_line.specs.Record.{with_settings, without_settings, nothing_attached}
 use Rattle.pd_line.specs.Later.{line_end}
-use Rattle.pd_line.specs.Work.{noted, tells_timer, tells_attach}
+use Rattle.pd_line.specs.Work.{tells_timer}
 use Rattle.pd_line.specs.Lines.{line_ends, line_starts}
 use Rattle.pd_port.specs.declared.due.Due.{Due}
 use Rattle.pd_port.specs.declared.due.What.{What}
 use Rattle.pd_port.specs.declared.due.What.TheVariants as what
 use Rattle.pd_port.specs.declared.entry.Entry.{Entry}
-use Rattle.pd_plan.specs.declared.event.EventKind.{EventKind}
-use Rattle.pd_plan.specs.declared.event.EventKind.TheVariants.{Attach}
-use Rattle.pd_plan.specs.Events.{EventData}
-use Rattle.pd_plan.specs.Settings.{SettingsData, floor_of}
+use Rattle.pd_port.specs.Happens.{event_happens, is_budget}
+use Rattle.pd_port.specs.Told.{source_told}
 
 -- what a port is set to, and what it keeps from step to step
 pub record PortData : Type 0 where
@@ -98,16 +83,9 @@ abbrev pub is_event : What → Bool
 is_event (what.Event e) = true
 is_event _ = false
 
--- a sink is attached through a cable, where nothing is attached yet
-unfoldable pub attaches : ℕ → Cable → SinkData → ℕ → Work → Work
-attaches id cable device t w = if is_some w.port.cable then noted (Ignored id) w else tells_attach cable device t w
-
-abbrev pub event_happens : ℕ → EventKind → ℕ → Work → Work
-event_happens id (Attach cable device) t w = attaches id cable device t w
-
 -- what falls due happens
 abbrev pub happens : What → ℕ → Work → Work
-happens (what.Event e) t w = event_happens e.id e.kind t w
+happens (what.Event e) t w = event_happens e.happening t w
 happens what.Line t w = line_ends t w
 happens (what.Timer side timer) t w = tells_timer side timer t w
 
@@ -134,64 +112,21 @@ detached s = nothing_attached (source_settings s)
 unfoldable pub record_after : SettingsData → PortRecord → Due → Option Answer → PortRecord
 record_after s r d given = without_settings (portstep (whole s r) d given).port
 
--- the source's layer on a channel
-abbrev pub source_layer : Channel → Record → LayerRecord
-source_layer Sop r = r.source_sop
-source_layer SopPrime r = r.source_sop_prime
+-- what the port holds of the shared budget, in microwatts
+unfoldable pub hold : SettingsData → PortRecord → ℕ
+hold s r = source.hold_of (source_settings s) (floor_of s) r.source
 
-abbrev pub told_if_sent : LayerAct → Option Stimulus
-told_if_sent answer.Sent = Some told.Sent
-told_if_sent act = None
+-- what the source asks before it is stepped with this
+abbrev pub asks : Record → Option Stimulus → Option Query
+asks r x = option_and_then (λ y. source.query_of r.source.settings y r.source.record) x
 
-abbrev pub told_if_up : LayerAct → Option Stimulus
-told_if_up answer.Up = Some told.Other
-told_if_up act = None
-
-abbrev pub told_if_failed : LayerAct → Option Stimulus
-told_if_failed answer.Failed = Some told.Failed
-told_if_failed act = None
-
-abbrev pub told_of_good_crc : Channel → Record → Option Contents → Option Stimulus
-told_of_good_crc channel r None = None
-told_of_good_crc channel r (Some a) = told_if_sent (layer.good_crc (source_layer channel r) (id_of a.header)).1
-
-abbrev pub told_at_good_crc : Side → Contents → Contents → Fate → Record → Option Stimulus
-told_at_good_crc Source p a fate r = told_of_good_crc p.channel r (heard a fate)
-told_at_good_crc side p a fate r = told_if_up (layer.received (source_layer p.channel r) p.header).1
-
-abbrev pub told_at_time_out : Side → Contents → Record → Option Stimulus
-told_at_time_out Source p r = told_if_failed (layer.timed_out (source_layer p.channel r)).1
-told_at_time_out side p r = None
-
-abbrev pub told_by_line : Line → Record → Option Stimulus
-told_by_line (GoodCrc side p a fate end) r = told_at_good_crc side p a fate r
-told_by_line (NoAnswer side p end) r = told_at_time_out side p r
-told_by_line line r = None
-
-abbrev pub told_by_event : EventKind → Record → Option Stimulus
-told_by_event (Attach cable device) r = if is_some r.cable then None else Some told.Attach
-
--- with what the source's engine is stepped for this due
-abbrev pub source_told : What → Record → Option Stimulus
-source_told (what.Event e) r = told_by_event e.kind r
-source_told what.Line r = told_by_line r.line r
-source_told (what.Timer Source timer) r = Some (told.Ended timer)
-source_told (what.Timer side timer) r = None
-
--- what the source asks in the step for this due
-unfoldable pub query : Record → Due → Option Query
-query r d = option_and_then (λ x. source.query_of r.source.settings x r.source.record) (source_told d.what r)
-
--- what the port asks of the shared budget before the step for this due
+-- What the port asks of the shared budget before the step for this due: where the budget has changed, whether its hold
+-- may stay, and else what its source asks.
 unfoldable pub ask : SettingsData → PortRecord → Due → Option Query
-ask s r d = query (whole s r) d
+ask s r d = if is_budget d.what then Some (query.Keep (hold s r)) else asks (whole s r) (source_told d.what (whole s r))
 
 -- what the step for this due leaves to be read
 unfoldable pub entry_of : SettingsData → PortRecord → Due → Option Answer → Entry
 entry_of s r d given =
     let w = portstep (whole s r) d given in
     record { at = d.time; due = d; query = ask s r d; faults = w.faults; start = w.start }
-
--- what the port holds of the shared budget, in microwatts
-unfoldable pub hold : SettingsData → PortRecord → ℕ
-hold s r = source.hold_of (source_settings s) (floor_of s) r.source

@@ -1,14 +1,15 @@
 //! With what the source is stepped, and so what it asks.
 
 ghost use Rattle.std.specs.Prelude.{◌≡◌};
-ghost use Rattle.pd_port.specs.Port.{source_layer, told_at_good_crc, told_at_time_out, told_by_line, source_told};
+ghost use Rattle.pd_port.specs.Happens.{is_budget};
+ghost use Rattle.pd_port.specs.Told.{source_layer, told_at_good_crc, told_at_time_out, told_of_reset, told_by_line, told_by_event, source_told};
 
-use crate::{EventKind, What};
+use crate::{EventKind, Happening, What};
 use pd_header::{Side, header_id};
-use pd_line::{Line, Record};
+use pd_line::{Line, Record, sent_as, source_hears_as};
 use pd_packet::{Fate, Packet, reaches};
 use pd_protocol::{Layer, LayerAct};
-use pd_source::Stimulus;
+use pd_source::{Sent, Stimulus};
 use pd_symbols::Channel;
 
 fn copy_of_source_layer(port: &Record, channel: Channel) -> Layer
@@ -35,12 +36,12 @@ fn told_at_good_crc(
             return None;
         }
         return match layer.good_crc(header_id(answer.header())) {
-            LayerAct::Sent => Some(Stimulus::Sent),
+            LayerAct::Sent => Some(Stimulus::Sent(sent_as(packet))),
             _ => None,
         };
     }
     match layer.received(packet.header()) {
-        LayerAct::Up => Some(Stimulus::Other),
+        LayerAct::Up => Some(source_hears_as(packet)),
         _ => None,
     }
 }
@@ -57,6 +58,19 @@ fn told_at_time_out(port: &Record, side: Side, packet: &Packet) -> Option<Stimul
     }
 }
 
+fn told_of_reset(port: &Record, side: Side) -> Option<Stimulus>
+    ensures { result ≡ told_of_reset side port.now }
+{
+    if let Side::Source = side {
+        return Some(Stimulus::Sent(Sent::Other));
+    }
+    if port.source.hears() {
+        Some(Stimulus::HardReset)
+    } else {
+        None
+    }
+}
+
 fn told_by_line(port: &Record) -> Option<Stimulus>
     ensures { result ≡ told_by_line port.now.line port.now }
 {
@@ -70,28 +84,46 @@ fn told_by_line(port: &Record) -> Option<Stimulus>
             ..
         } => told_at_good_crc(port, *side, packet, answer, *fate),
         Line::NoAnswer { side, packet, .. } => told_at_time_out(port, *side, packet),
+        Line::HardReset { side, .. } => told_of_reset(port, *side),
     }
 }
 
-/// With what the source is stepped for what falls due.
+fn told_by_event(port: &Record, happening: &Happening) -> Option<Stimulus>
+    ensures { result ≡ told_by_event happening.now port.now }
+{
+    let Happening::Port { kind, .. } = happening else {
+        return None;
+    };
+    let attached = port.cable.is_some();
+    match kind {
+        EventKind::Attach { .. } if !attached => Some(Stimulus::Attach),
+        EventKind::GetSink if attached && port.source.ready() => Some(Stimulus::GetSink),
+        _ => None,
+    }
+}
+
+/// With what the source is stepped for what falls due, where that is no change of the budget.
 pub(crate) fn source_told(port: &Record, what: &What) -> Option<Stimulus>
     ensures { result ≡ source_told what.now port.now }
 {
     match what {
-        What::Event(event) => match event.kind() {
-            EventKind::Attach { .. } => {
-                if port.cable.is_some() {
-                    None
-                } else {
-                    Some(Stimulus::Attach)
-                }
-            }
-        },
+        What::Event(event) => told_by_event(port, &event.happening()),
         What::Line => told_by_line(port),
         What::Timer {
             side: Side::Source,
             timer,
         } => Some(Stimulus::Ended(*timer)),
         What::Timer { .. } => None,
+    }
+}
+
+/// Whether a change of the shared budget falls due.
+pub(crate) fn is_budget(what: &What) -> bool
+    ensures { result ≡ is_budget what.now }
+{
+    match what {
+        What::Event(event) => matches!(event.happening(), Happening::Budget),
+        What::Line => false,
+        What::Timer { .. } => false,
     }
 }

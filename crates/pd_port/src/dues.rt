@@ -64,6 +64,7 @@ pub(crate) fn due_of_line(line: &Line) -> Option<Due>
         Line::Pause { end, .. } => *end,
         Line::GoodCrc { end, .. } => *end,
         Line::NoAnswer { end, .. } => *end,
+        Line::HardReset { end, .. } => *end,
     };
     Some(Due {
         time: end,

@@ -1,6 +1,6 @@
 //! Laws of a port's step. They run nothing.
 
-ghost use Rattle.pd_port.specs.Laws.{StepsSetLater, DuesAreEarliest, SourceStepsOnce, AnswersMatterOnlyWhereAsked, WaitsWhileBusy, StartsNoTwo, BusyLinesAreLeft};
+ghost use Rattle.pd_port.specs.Laws.{StepsSetLater, DuesAreEarliest, SourceStepsOnce, DetachedAreNew, AnswersMatterOnlyWhereAsked, WaitsWhileBusy, StartsNoTwo, BusyLinesAreLeft};
 
 /// Each deadline and each line's end that a step sets is later than the step.
 pub fn later()
@@ -13,9 +13,15 @@ pub fn earliest_first()
 {}
 
 /// In a step of the port the source takes one step, with what the port says before it that the source is told, and with
-/// the answer. Where it is told nothing, it takes none.
+/// the answer. Where it is told nothing, it takes none. Where the budget changes, the answer says whether the source is told
+/// to shed its hold; where the cable is pulled out, it is off.
 pub fn steps_once()
     ensures { SourceStepsOnce }
+{}
+
+/// Where the cable is pulled out, the port is as at the start.
+pub fn detached()
+    ensures { DetachedAreNew }
 {}
 
 /// Where the port asks nothing, no answer matters.
@@ -24,7 +30,7 @@ pub fn answered()
 {}
 
 /// What waits starts only while the line is idle, and in no step in which what falls due starts a packet. While
-/// something is on the line, its own end alone changes the line and starts anything.
+/// something is on the line, nothing but its own end changes the line or starts anything, unless the cable is pulled out.
 pub fn busy()
     ensures waits { WaitsWhileBusy }
     ensures no_two { StartsNoTwo }

@@ -5,6 +5,7 @@ mod asks;
 mod due;
 mod dues;
 mod entry;
+mod happens;
 pub mod laws;
 mod meter;
 mod port;
@@ -15,3 +16,6 @@ pub use meter::Meter;
 pub use pd_line::{Fault, Start};
 pub use pd_plan::{Event, EventKind, Happening, Settings};
 pub use port::Port;
+
+#[cfg(test)]
+mod tests;

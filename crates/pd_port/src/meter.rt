@@ -37,6 +37,7 @@ impl Meter {
     pub(crate) fn rise(&mut self)
         ensures { self.new ≡ raised self.old 1 }
     {
-        self.steps = self.steps.saturating_add(1);
+        let steps = &mut self.steps;
+        *steps = steps.saturating_add(1);
     }
 }

@@ -3,15 +3,16 @@
 ghost use Rattle.std.specs.Prelude.{◌≡◌, ℕ, ◌+◌, ◌<◌, ◌≤◌, length, IsTrue, ◌↔◌};
 ghost use Rattle.std.specs.Option.{option_copied};
 ghost use Rattle.pd_line.specs.Record.{without_settings};
-ghost use Rattle.pd_port.specs.Port.{due as the_due, event_happens, happens};
+ghost use Rattle.pd_port.specs.Port.{due as the_due, happens, source_settings};
 
-use crate::asks::source_told;
+use crate::asks::{is_budget, source_told};
 use crate::dues::{due_of_event, due_of_line, due_of_timer, earlier_of};
-use crate::{Due, Entry, Event, EventKind, Meter, Settings, What};
+use crate::happens::event_happens;
+use crate::{Due, Entry, Event, Meter, Settings, What};
 use arrayvec::ArrayVec;
 use pd_header::Side;
-use pd_line::{Fault, Record, Work};
-use pd_objects::{Answer, Query};
+use pd_line::{Record, Work};
+use pd_objects::{Answer, Contract, Query};
 use std::marker::Model;
 use std::mem;
 
@@ -46,34 +47,17 @@ fn due_of(port: &Record, next: Option<&Event>) -> Option<Due>
     earlier_of(due_of_event(next), earlier_of(line, timers))
 }
 
-/// An event happens.
-#[tactic(auto, unfolding(crate::specs::Port::attaches))]
-fn event_happens(work: &mut Work, event: Event, t: u64)
-    requires time { t ≤ 120000000 }
-    requires room { length work.old.faults.items < 8 }
-    ensures { work.new ≡ event_happens event.id event.kind t work.old }
-{
-    match event.kind() {
-        EventKind::Attach { cable, sink } => {
-            if work.port.cable.is_some() {
-                work.note(Fault::Ignored { id: event.id() });
-            } else {
-                work.tell_attach(cable, sink, t);
-            }
-        }
-    }
-}
-
 /// What falls due happens.
-fn happens(work: &mut Work, what: What, t: u64)
+fn happens(work: &mut Work, settings: &Settings, what: &What, t: u64)
     requires time { t ≤ 120000000 }
-    requires room { length work.old.faults.items < 8 }
-    ensures { work.new ≡ happens what t work.old }
+    requires room { length work.old.faults.items ≤ 4 }
+    requires settings { work.old.port.source.settings ≡ source_settings settings.now }
+    ensures { work.new ≡ happens what.now t work.old }
 {
     match what {
-        What::Event(event) => event_happens(work, event, t),
+        What::Event(event) => event_happens(work, settings, &event.happening(), t),
         What::Line => work.line_ends(t),
-        What::Timer { side, timer } => work.tell_timer(side, timer, t),
+        What::Timer { side, timer } => work.tell_timer(*side, *timer, t),
     }
 }
 
@@ -109,10 +93,13 @@ impl Port {
     }
 
     /// What the port asks of the shared budget before the step for this due.
-    #[tactic(auto, unfolding(crate::specs::Port::ask, crate::specs::Port::query))]
+    #[tactic(auto, unfolding(crate::specs::Port::ask))]
     pub fn ask(&self, due: &Due) -> Option<Query>
         ensures { result ≡ ask self.now.settings self.now.record due.now }
     {
+        if is_budget(&due.what) {
+            return Some(Query::Keep { power: self.hold() });
+        }
         let stimulus = source_told(&self.work.port, &due.what)?;
         self.work.port.source.ask(&stimulus)
     }
@@ -128,7 +115,7 @@ impl Port {
         let query = self.ask(due);
         meter.rise();
         self.work.answer = answer;
-        happens(&mut self.work, due.what, due.time);
+        happens(&mut self.work, &self.settings, &due.what, due.time);
         self.work.line_starts(due.time);
         self.work.answer = None;
         Entry {
@@ -149,6 +136,13 @@ impl Port {
             .port
             .source
             .hold(u64::from(self.settings.floor_mw()) * 1_000)
+    }
+
+    /// The contract that is in force.
+    pub fn contract(&self) -> Option<Contract>
+        ensures { result ≡ self.now.record.source.contract }
+    {
+        self.work.port.source.contract()
     }
 
     /// Whether both ports' records are the same, whatever the ports are set to.

@@ -57,7 +57,7 @@ impl Message {
     pub fn same(&self, other: &Message) -> bool
         ensures { IsTrue result ↔ (self.now ≡ other.now) }
     {
-        self.kind == other.kind && self.objects == other.objects
+        self.objects == other.objects && self.kind == other.kind
     }
 
     /// An equal one, at no cost in memory.

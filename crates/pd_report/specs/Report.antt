@@ -1,6 +1,8 @@
 -- The text of a transcript.
 use Rattle.std.specs.Prelude.{ℕ, List, [], ◌++◌, ◌==◌, if◌then◌else◌, Option, Some, None, codes, decimal}
 use Rattle.std.specs.List.{flat_map}
+use Rattle.pd_symbols.specs.Sets.{set_codes}
+use Rattle.pd_symbols.specs.declared.channel.OrderedSet.TheVariants.{HardReset}
 use Rattle.pd_symbols.specs.declared.channel.Channel.{Channel}
 use Rattle.pd_symbols.specs.declared.channel.Channel.TheVariants.{Sop, SopPrime}
 use Rattle.pd_header.specs.declared.side.Side.{Side}
@@ -40,10 +42,16 @@ packet_text at side packet fate =
     right at ++ codes " " ++ side_text side ++ set_text packet.channel ++ name_of (kind_of_header packet.header) ++ codes " " ++ decimal (id_of packet.header)
     ++ codes ":" ++ flat_map code_text (shown packet fate) ++ fate_text fate ++ codes "\n"
 
+-- the line of a Hard Reset that starts: the time right in nine places, the side, and the four codes
+abbrev pub hard_reset_text : ℕ → Side → List ℕ
+hard_reset_text at side =
+    right at ++ codes " " ++ side_text side ++ codes " HR:" ++ flat_map code_text (set_codes HardReset) ++ codes "\n"
+
 -- the line of what starts at a time, if something does
 abbrev pub start_text : ℕ → Option Start → List ℕ
 start_text at None = []
 start_text at (Some (starts.Packet side packet fate)) = packet_text at side packet fate
+start_text at (Some (starts.HardReset side)) = hard_reset_text at side
 
 -- what an entry adds to the transcript of a port, the ports being numbered from 1
 unfoldable pub line_of : ℕ → ℕ × Entry → List ℕ

@@ -2,14 +2,14 @@
 
 ghost use Rattle.std.specs.Prelude.{◌≡◌, ◌+◌, ◌<◌, ◌≤◌, ◌++◌, List, ℕ, [], length, decimal, codes, MatchOption, slice_get};
 ghost use Rattle.pd_report.specs.Device.{CountsFailure, Writes};
-ghost use Rattle.pd_report.specs.Report.{head_text, line_of, start_text, packet_text, side_text, set_text, fate_text, transcript_text};
+ghost use Rattle.pd_report.specs.Report.{head_text, line_of, start_text, packet_text, hard_reset_text, side_text, set_text, fate_text, transcript_text};
 
 use crate::{BenchFault, Text, TextOut, write_text};
 use pd_header::{Side, header_id, header_kind};
 use pd_packet::{Fate, Packet, codes_of};
 use pd_port::Start;
 use pd_run::Runner;
-use pd_symbols::Channel;
+use pd_symbols::{Channel, OrderedSet, ordered};
 
 /// The most bytes of a line.
 const WIDTH: usize = 320;
@@ -62,6 +62,7 @@ fn start_line(at: u64, start: &Option<Start>) -> Text<WIDTH>
 {
     match start {
         Some(Start::Packet { side, packet, fate }) => packet_line(at, *side, packet, fate),
+        Some(Start::HardReset { side }) => hard_reset_line(at, *side),
         None => Text::new(),
     }
 }
@@ -82,6 +83,19 @@ fn packet_line(at: u64, side: Side, packet: &Packet, fate: &Fate) -> Text<WIDTH>
     text.push_all(b":");
     text.push_codes(codes.as_slice());
     text.push_all(fate_text(fate));
+    text.push_all(b"\n");
+    text
+}
+
+fn hard_reset_line(at: u64, side: Side) -> Text<WIDTH>
+    ensures { result ≡ hard_reset_text at side }
+{
+    let mut text = Text::new();
+    text.push_right(at);
+    text.push_all(b" ");
+    text.push_all(side_text(side));
+    text.push_all(b" HR:");
+    text.push_codes(&ordered(OrderedSet::HardReset));
     text.push_all(b"\n");
     text
 }

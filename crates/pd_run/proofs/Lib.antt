@@ -5,3 +5,4 @@ pub mod Runs
 pub mod Steps
 pub mod Within
 pub mod Work
+pub mod Timetables

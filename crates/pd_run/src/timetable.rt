@@ -8,16 +8,17 @@ ghost use Rattle.pd_run.specs.Start.{start_of};
 
 use pd_plan::{Event, Settings};
 use pd_port::Port;
-use pd_scenario::Scenario;
+use pd_scenario::{BudgetChange, Scenario};
 use std::alloc::{AllocError, Global};
 use std::marker::Model;
 
-/// What a scenario asks of each of N ports, 1 to 8, the shared budget and the end. Ports are numbered from 1.
+/// What a scenario asks of each of N ports, 1 to 8, the shared budget with its changes, and the end. Ports are numbered from 1.
 #[derive(Drop)]
 pub struct Timetable<const N: usize> {
     settings: Vec<Settings>,
     scripts: Vec<Vec<Event>>,
     budget: u64,
+    forces: Vec<BudgetChange>,
     end: u64,
 }
 
@@ -27,9 +28,9 @@ impl<const N: usize> Model for Timetable<N> {
 
     ghost Value = { Plan };
 
-    ghost view = { λ t. record { settings = t.settings.items; scripts = map (λ v. v.items) t.scripts.items; budget = t.budget; end = t.end } };
+    ghost view = { λ t. record { settings = t.settings.items; scripts = map (λ v. v.items) t.scripts.items; budget = t.budget; forces = t.forces.items; end = t.end } };
 
-    ghost invariant = { λ t. IsPlan N (record { settings = t.settings.items; scripts = map (λ v. v.items) t.scripts.items; budget = t.budget; end = t.end }) };
+    ghost invariant = { λ t. IsPlan N (record { settings = t.settings.items; scripts = map (λ v. v.items) t.scripts.items; budget = t.budget; forces = t.forces.items; end = t.end }) };
 }
 
 impl<const N: usize> Timetable<N> {
@@ -42,10 +43,12 @@ impl<const N: usize> Timetable<N> {
     {
         let settings = settings_of(alloc, scenario)?;
         let scripts = scripts_of(alloc, scenario)?;
+        let forces = scenario.forces(alloc)?;
         Ok(Timetable {
             settings,
             scripts,
             budget: scenario.budget(),
+            forces,
             end: scenario.end_time(),
         })
     }

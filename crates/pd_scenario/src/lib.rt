@@ -7,6 +7,7 @@ pub mod laws;
 mod limits;
 mod name;
 mod order;
+mod parts;
 mod samples;
 mod scenario;
 

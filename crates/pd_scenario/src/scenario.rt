@@ -7,6 +7,7 @@ ghost use Rattle.pd_scenario.specs.Plans.{plan_of, changes_of};
 
 use crate::budget::{BudgetChange, change_of, last_change};
 use crate::order::script;
+use crate::parts::{copy_cables, copy_events, copy_settings, copy_sinks};
 use crate::{Name, NamedCable, NamedSink, ScenarioEvent};
 use pd_identity::Cable;
 use pd_plan::{Event, Settings};
@@ -53,6 +54,28 @@ impl<const N: usize> Model for Scenario<N> {
 }
 
 impl<const N: usize> Scenario<N> {
+    /// The scenario of these parts: a budget in mW and an end in microseconds.
+    pub fn new(
+        settings: Vec<Settings>,
+        cables: Vec<NamedCable>,
+        sinks: Vec<NamedSink>,
+        events: Vec<ScenarioEvent>,
+        budget_mw: u32,
+        end_us: u32,
+    ) -> Scenario<N>
+        requires { IsValid N (record { settings = settings.items; cables = cables.items; sinks = sinks.items; events = events.items; budget_mw = budget_mw; end_us = end_us }) }
+        ensures { result ≡ record { settings = settings.items; cables = cables.items; sinks = sinks.items; events = events.items; budget_mw = budget_mw; end_us = end_us } }
+    {
+        Scenario {
+            settings,
+            cables,
+            sinks,
+            events,
+            budget_mw,
+            end_us,
+        }
+    }
+
     /// The scenario of these parts: a budget in mW, 500 to 1,000,000, and an end in microseconds, up to 120,000,000.
     ///
     /// # Errors
@@ -73,14 +96,7 @@ impl<const N: usize> Scenario<N> {
         let cables = copy_cables(alloc, cables)?;
         let sinks = copy_sinks(alloc, sinks)?;
         let events = copy_events(alloc, events)?;
-        Ok(Scenario {
-            settings,
-            cables,
-            sinks,
-            events,
-            budget_mw,
-            end_us,
-        })
+        Ok(Scenario::new(settings, cables, sinks, events, budget_mw, end_us))
     }
 
     /// What a port is set to, the ports being numbered from 1.
@@ -115,7 +131,7 @@ impl<const N: usize> Scenario<N> {
         ensures value { result ≡ (plan_of self.now).budget }
         ensures is_plan { IsPlan N (plan_of self.now) }
     {
-        self.budget_mw() * 1_000
+        u64::from(self.budget_mw) * 1_000
     }
 
     /// The changes of the budget, in the order of their making.
@@ -151,8 +167,8 @@ impl<const N: usize> Scenario<N> {
         u64::from(self.end_us)
     }
 
-    /// What the ports are set to, the first port first.
-    pub fn all_settings(&self) -> &[Settings]
+    /// What each port is set to.
+    pub fn ports(&self) -> &[Settings]
         ensures value { result.now ≡ self.now.settings }
         ensures is_valid { IsValid N self.now }
     {
@@ -164,7 +180,7 @@ impl<const N: usize> Scenario<N> {
         ensures value { result.now ≡ self.now.cables }
         ensures is_valid { IsValid N self.now }
     {
-        self.cables.as_slice()
+        &self.cables
     }
 
     /// The sinks, in the order of their making.
@@ -172,15 +188,23 @@ impl<const N: usize> Scenario<N> {
         ensures value { result.now ≡ self.now.sinks }
         ensures is_valid { IsValid N self.now }
     {
-        self.sinks.as_slice()
+        &self.sinks
     }
 
-    /// The budget that the ports share, in mW.
-    pub fn budget_mw(&self) -> u64
+    /// The budget in mW.
+    pub fn budget_mw(&self) -> u32
         ensures value { result ≡ self.now.budget_mw }
         ensures is_valid { IsValid N self.now }
     {
-        u64::from(self.budget_mw)
+        self.budget_mw
+    }
+
+    /// The end in microseconds.
+    pub fn end_us(&self) -> u32
+        ensures value { result ≡ self.now.end_us }
+        ensures is_valid { IsValid N self.now }
+    {
+        self.end_us
     }
 
     /// The events, in the order of their making.
@@ -210,72 +234,6 @@ impl<const N: usize> Scenario<N> {
         ensures { result ≡ sink_named self.now.sinks name.now }
     {
         sink_named(&self.sinks, name)
-    }
-
-    /// The same scenario.
-    ///
-    /// # Errors
-    /// There is no memory.
-    pub fn copy(&self, alloc: Global) -> Result<Scenario<N>, AllocError>
-        ensures { IfOk result (λ s. s ≡ self.now) }
-    {
-        Scenario::of(
-            alloc,
-            &self.settings,
-            &self.cables,
-            &self.sinks,
-            &self.events,
-            self.budget_mw,
-            self.end_us,
-        )
-    }
-
-    /// The scenario with other settings of its ports.
-    pub fn with_settings(self, settings: Vec<Settings>) -> Scenario<N>
-        requires { IsValid N (record self { settings = settings.items }) }
-        ensures { result ≡ record self.entry { settings = settings.items } }
-    {
-        Scenario { settings, ..self }
-    }
-
-    /// The scenario with other cables.
-    pub fn with_cables(self, cables: Vec<NamedCable>) -> Scenario<N>
-        requires { IsValid N (record self { cables = cables.items }) }
-        ensures { result ≡ record self.entry { cables = cables.items } }
-    {
-        Scenario { cables, ..self }
-    }
-
-    /// The scenario with other sinks.
-    pub fn with_sinks(self, sinks: Vec<NamedSink>) -> Scenario<N>
-        requires { IsValid N (record self { sinks = sinks.items }) }
-        ensures { result ≡ record self.entry { sinks = sinks.items } }
-    {
-        Scenario { sinks, ..self }
-    }
-
-    /// The scenario with other events.
-    pub fn with_events(self, events: Vec<ScenarioEvent>) -> Scenario<N>
-        requires { IsValid N (record self { events = events.items }) }
-        ensures { result ≡ record self.entry { events = events.items } }
-    {
-        Scenario { events, ..self }
-    }
-
-    /// The scenario with another budget, in mW.
-    pub fn with_budget(self, budget_mw: u32) -> Scenario<N>
-        requires { IsValid N (record self { budget_mw = budget_mw }) }
-        ensures { result ≡ record self.entry { budget_mw = budget_mw } }
-    {
-        Scenario { budget_mw, ..self }
-    }
-
-    /// The scenario with another end, in microseconds.
-    pub fn with_end(self, end_us: u32) -> Scenario<N>
-        requires { IsValid N (record self { end_us = end_us }) }
-        ensures { result ≡ record self.entry { end_us = end_us } }
-    {
-        Scenario { end_us, ..self }
     }
 }
 
@@ -309,44 +267,4 @@ fn changes_of(alloc: Global, events: &[ScenarioEvent]) -> Result<Vec<BudgetChang
         }
     }
     Ok(changes)
-}
-
-fn copy_settings(alloc: Global, settings: &[Settings]) -> Result<Vec<Settings>, AllocError>
-    ensures { IfOk result (λ v. v.items ≡ settings.now) }
-{
-    let mut copies = Vec::new(alloc);
-    for port in settings {
-        copies.push(port.copy())?;
-    }
-    Ok(copies)
-}
-
-fn copy_cables(alloc: Global, cables: &[NamedCable]) -> Result<Vec<NamedCable>, AllocError>
-    ensures { IfOk result (λ v. v.items ≡ cables.now) }
-{
-    let mut copies = Vec::new(alloc);
-    for cable in cables {
-        copies.push(cable.copy())?;
-    }
-    Ok(copies)
-}
-
-fn copy_sinks(alloc: Global, sinks: &[NamedSink]) -> Result<Vec<NamedSink>, AllocError>
-    ensures { IfOk result (λ v. v.items ≡ sinks.now) }
-{
-    let mut copies = Vec::new(alloc);
-    for sink in sinks {
-        copies.push(sink.copy())?;
-    }
-    Ok(copies)
-}
-
-fn copy_events(alloc: Global, events: &[ScenarioEvent]) -> Result<Vec<ScenarioEvent>, AllocError>
-    ensures { IfOk result (λ v. v.items ≡ events.now) }
-{
-    let mut copies = Vec::new(alloc);
-    for event in events {
-        copies.push(event.copy())?;
-    }
-    Ok(copies)
 }

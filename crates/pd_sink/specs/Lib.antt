@@ -1,4 +1,6 @@
 pub mod Settings
+pub mod Rule
+pub mod Objects
 pub mod Record
 pub mod Table
 pub mod Facts

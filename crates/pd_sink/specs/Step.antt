@@ -6,9 +6,10 @@ use Rattle.pd_sink.specs.declared.kinds.State.TheVariants as state
 use Rattle.pd_sink.specs.declared.kinds.Stimulus.{Stimulus}
 use Rattle.pd_sink.specs.declared.kinds.Stimulus.TheVariants as stimulus
 use Rattle.pd_sink.specs.declared.kinds.Act.{Act}
+use Rattle.pd_sink.specs.declared.kinds.Deed.{Deed}
 use Rattle.pd_sink.specs.Settings.{SinkData, bits_of}
 use Rattle.pd_sink.specs.Record.{SinkRecord}
-use Rattle.pd_sink.specs.Table.{Row, holds, row_of, deeds_of_row}
+use Rattle.pd_sink.specs.Table.{Row, holds, has_hard_resets_left, row_of, deeds_of_row}
 use Rattle.pd_sink.specs.Acts.{all_after, all_wants}
 
 -- the sink with another demand, where one is attached
@@ -29,13 +30,17 @@ before_row _ r = r
 abbrev pub row_at : Stimulus → SinkRecord → Row
 row_at x r = row_of (holds r) r.state x
 
+-- what it does, in order
+abbrev pub deeds_at : Stimulus → SinkRecord → List Deed
+deeds_at x r = deeds_of_row (has_hard_resets_left r) (row_at x r)
+
 -- the engine after a step
 unfoldable pub stepped : ℕ → Stimulus → SinkRecord → SinkRecord
-stepped now x r = all_after (deeds_of_row (row_at x (before_row x r))) now x (before_row x r)
+stepped now x r = all_after (deeds_at x (before_row x r)) now x (before_row x r)
 
 -- what a step wants of the port, in order
 unfoldable pub acts_of : ℕ → Stimulus → SinkRecord → List Act
-acts_of now x r = all_wants (deeds_of_row (row_at x (before_row x r))) now x (before_row x r)
+acts_of now x r = all_wants (deeds_at x (before_row x r)) now x (before_row x r)
 
 -- whether messages reach the engine
 abbrev pub hears_in : SinkRecord → Bool

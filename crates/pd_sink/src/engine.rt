@@ -1,19 +1,25 @@
 //! The engine: what it keeps, and its steps.
 
-ghost use Rattle.std.specs.Prelude.{◌≡◌, ◌≤◌, ◌<◌, ◌+◌, ◌++◌, ◌↔◌, IsTrue, length};
+ghost use Rattle.std.specs.Prelude.{◌≡◌, ◌≤◌, ◌<◌, ◌+◌, ◌++◌, ◌↔◌, IsTrue, IfSome, length, not, option_to_list};
 ghost use Rattle.arrayvec.specs.ArrayVec.{array_vec_len};
 ghost use Rattle.pd_timers.specs.Deadlines.{first_of};
 ghost use Rattle.pd_sink.specs.Record.{off};
-ghost use Rattle.pd_sink.specs.Table.{is_plain};
-ghost use Rattle.pd_sink.specs.Acts.{after, wants, all_after, all_wants, noise};
+ghost use Rattle.pd_sink.specs.Table.{is_plain, has_hard_resets_left};
+ghost use Rattle.pd_sink.specs.Acts.{after, wants, all_after, all_wants, started_where, offer_from, asked_in, sending_of, noise};
+ghost use Rattle.pd_sink.specs.Rule.{IsAsked};
 ghost use Rattle.pd_sink.specs.Step.{before_row, stepped, acts_of, hears_in, is_ready, revision_bits, demanding};
 
-use crate::kinds::{Deed, Facts};
+use crate::kinds::{Deed, Facts, Message};
+use crate::objects::{request_object, sink_capabilities};
 use crate::rows::choose;
-use crate::{Act, Demand, SinkMode, SinkRevision, SinkSettings, State, Stimulus};
+use crate::rule::{Asked, request};
+use crate::{Act, Demand, Note, Sending, SinkMode, SinkRevision, SinkSettings, State, Stimulus};
 use arrayvec::ArrayVec;
 use pd_timers::{Deadlines, Timer};
 use std::marker::Model;
+
+/// nHardResetCount: up to this HardResetCounter one more Hard Reset is left.
+const HARD_RESET_COUNT: u8 = 2;
 
 /// The sink's policy engine.
 #[derive(Drop)]
@@ -21,8 +27,12 @@ pub struct Sink {
     state: State,
     deadlines: Deadlines,
     sent: bool,
+    hard_reset_counter: u8,
+    again: bool,
+    fresh: bool,
+    has_contract: bool,
     sink: Option<SinkSettings>,
-    offer: ArrayVec<u32, 7>,
+    kept_offer: ArrayVec<u32, 7>,
 }
 
 impl Model for Sink {
@@ -30,7 +40,29 @@ impl Model for Sink {
 
     ghost Value = { SinkRecord };
 
-    ghost view = { λ s. record { state = s.state; deadlines = s.deadlines; sent = s.sent; sink = s.sink; offer = s.offer.items } };
+    ghost view = { λ s. record {
+      state = s.state;
+      deadlines = s.deadlines;
+      sent = s.sent;
+      hard_reset_counter = s.hard_reset_counter;
+      again = s.again;
+      fresh = s.fresh;
+      has_contract = s.has_contract;
+      sink = s.sink;
+      kept_offer = s.kept_offer.items;
+    } };
+}
+
+// Each test leaves the function at once where it fails, so that no proof has to look at all of them together.
+macro_rules! all_of {
+    ($($test:expr;)*) => {{
+        $(
+            if !$test {
+                return false;
+            }
+        )*
+        true
+    }};
 }
 
 /// A copy of a short list of objects.
@@ -52,8 +84,12 @@ impl Sink {
             state: State::Off,
             deadlines: Deadlines::new(),
             sent: false,
+            hard_reset_counter: 0,
+            again: false,
+            fresh: false,
+            has_contract: false,
             sink: None,
-            offer: ArrayVec::new(),
+            kept_offer: ArrayVec::new(),
         }
     }
 
@@ -131,13 +167,18 @@ impl Sink {
 
     /// What the guards of the rows ask.
     fn facts(&self) -> Facts
-        ensures { result ≡ record { plain = is_plain self.now.sink } }
+        ensures { result ≡ record { plain = is_plain self.now.sink; no_contract = not self.now.has_contract; was_sent = self.now.sent; hard_resets_left = has_hard_resets_left self.now } }
     {
         let plain = match &self.sink {
             Some(sink) => matches!(sink.mode(), SinkMode::Plain),
             None => false,
         };
-        Facts { plain }
+        Facts {
+            plain,
+            no_contract: !self.has_contract,
+            was_sent: self.sent,
+            hard_resets_left: self.hard_reset_counter <= HARD_RESET_COUNT,
+        }
     }
 
     /// Takes the acts of a row, in order.
@@ -163,19 +204,105 @@ impl Sink {
         ensures few { array_vec_len acts.new ≤ array_vec_len acts.old + 1 }
         ensures acts { acts.new.items ≡ acts.old.items ++ wants deed self.old }
     {
+        if let Some(act) = self.wanted(deed) {
+            acts.push(act);
+        }
+        self.change(deed, now, stimulus);
+    }
+
+    /// What an act of a row does to the engine.
+    fn change(&mut self, deed: Deed, now: u64, stimulus: &Stimulus)
+        requires { now ≤ 120000000 }
+        ensures { self.new ≡ after deed now stimulus.now self.old }
+    {
         match deed {
             Deed::Enter(state) => {
                 self.state = state;
                 self.deadlines.stop_all();
                 self.sent = false;
-                acts.push(Act::DropWaiting);
             }
             Deed::Start(timer) => self.deadlines.start(now, timer),
-            Deed::KeepOffer => {
-                if let Stimulus::SourceCapabilities(objects) = stimulus {
-                    self.offer = copied(objects.as_slice());
-                }
+            Deed::StartWhereAgain(timer) => self.start_where(self.again, now, timer),
+            Deed::StartWhereFresh(timer) => self.start_where(self.fresh, now, timer),
+            Deed::KeepOffer => self.keep_offer(stimulus),
+            Deed::Again(again) => self.again = again,
+            Deed::Fresh(fresh) => self.fresh = fresh,
+            Deed::Contract(has_contract) => self.has_contract = has_contract,
+            Deed::HardResetsUp => {
+                self.hard_reset_counter = self.hard_reset_counter.saturating_add(1);
             }
+            Deed::HardResetsZero => self.hard_reset_counter = 0,
+            _ => {}
+        }
+    }
+
+    /// Starts a timer, where it is to be started.
+    fn start_where(&mut self, is_wanted: bool, now: u64, timer: Timer)
+        requires { now ≤ 120000000 }
+        ensures { self.new ≡ record self.old { deadlines = started_where is_wanted self.old.deadlines now timer } }
+    {
+        if is_wanted {
+            self.deadlines.start(now, timer);
+        }
+    }
+
+    /// The objects that came are the offer now.
+    fn keep_offer(&mut self, stimulus: &Stimulus)
+        ensures { self.new ≡ record self.old { kept_offer = offer_from stimulus.now self.old.kept_offer } }
+    {
+        if let Stimulus::SourceCapabilities(objects) = stimulus {
+            self.kept_offer = copied(objects.as_slice());
+        }
+    }
+
+    /// What an act of a row wants of the port.
+    fn wanted(&self, deed: Deed) -> Option<Act>
+        ensures { option_to_list result ≡ wants deed self.now }
+    {
+        match deed {
+            Deed::Enter(_) => Some(Act::DropWaiting),
+            Deed::ResetLayer => Some(Act::ResetLayer),
+            Deed::Note(note) => Some(Act::Note(note)),
+            Deed::NoteMismatch => match self.asked() {
+                Some(Asked { mismatch: true, .. }) => Some(Act::Note(Note::Mismatch)),
+                _ => None,
+            },
+            Deed::Send(message) => match self.sending(message) {
+                Some(sending) => Some(Act::Send(sending)),
+                None => None,
+            },
+            Deed::SendHardReset => Some(Act::SendHardReset),
+            _ => None,
+        }
+    }
+
+    /// What the sink that is attached asks of the kept offer.
+    fn asked(&self) -> Option<Asked>
+        ensures value { result ≡ asked_in self.now }
+        ensures sound { IfSome result IsAsked }
+    {
+        match &self.sink {
+            Some(sink) => request(sink, self.kept_offer.as_slice()),
+            None => None,
+        }
+    }
+
+    /// A message with its objects, where there is something to send.
+    fn sending(&self, message: Message) -> Option<Sending>
+        ensures { result ≡ sending_of message self.now }
+    {
+        match message {
+            Message::Request => match self.asked() {
+                Some(asked) => Some(Sending::Request(request_object(asked))),
+                None => None,
+            },
+            Message::GetSourceCap => Some(Sending::GetSourceCap),
+            Message::SinkCapabilities => match &self.sink {
+                Some(sink) => Some(Sending::SinkCapabilities(sink_capabilities(sink))),
+                None => None,
+            },
+            Message::Accept => Some(Sending::Accept),
+            Message::SoftReset => Some(Sending::SoftReset),
         }
     }
 
@@ -183,11 +310,17 @@ impl Sink {
     pub fn same(&self, other: &Sink) -> bool
         ensures { IsTrue result ↔ (self.now ≡ other.now) }
     {
-        self.state == other.state
-            && self.deadlines.same(&other.deadlines)
-            && self.sent == other.sent
-            && same_sinks(&self.sink, &other.sink)
-            && self.offer.as_slice() == other.offer.as_slice()
+        all_of! {
+            self.state == other.state;
+            self.deadlines.same(&other.deadlines);
+            self.sent == other.sent;
+            self.hard_reset_counter == other.hard_reset_counter;
+            self.again == other.again;
+            self.fresh == other.fresh;
+            self.has_contract == other.has_contract;
+            same_sinks(&self.sink, &other.sink);
+            self.kept_offer.as_slice() == other.kept_offer.as_slice();
+        }
     }
 
     /// The same engine.
@@ -198,8 +331,12 @@ impl Sink {
             state: self.state,
             deadlines: self.deadlines.copy(),
             sent: self.sent,
+            hard_reset_counter: self.hard_reset_counter,
+            again: self.again,
+            fresh: self.fresh,
+            has_contract: self.has_contract,
             sink: self.sink,
-            offer: copied(self.offer.as_slice()),
+            kept_offer: copied(self.kept_offer.as_slice()),
         }
     }
 }

@@ -86,18 +86,46 @@ pub enum Act {
     SendHardReset,
 }
 
+/// Which message a row sends.
+#[derive(Clone, Copy, Debug, PartialEq, Eq)]
+pub(crate) enum Message {
+    Request,
+    GetSourceCap,
+    SinkCapabilities,
+    Accept,
+    SoftReset,
+}
+
 /// What a row of the state table does.
 #[derive(Clone, Copy, Debug)]
 pub(crate) enum Deed {
     /// Enters a state: no timer runs, nothing waits on this side, and nothing was sent.
     Enter(State),
     Start(Timer),
+    /// Starts a timer where the sink is to ask again.
+    StartWhereAgain(Timer),
+    /// Starts a timer where the demand is fresh.
+    StartWhereFresh(Timer),
     /// The objects that came are the offer now.
     KeepOffer,
+    Again(bool),
+    Fresh(bool),
+    Contract(bool),
+    HardResetsUp,
+    HardResetsZero,
+    ResetLayer,
+    Note(Note),
+    /// Notes where the offer falls short of the need.
+    NoteMismatch,
+    Send(Message),
+    SendHardReset,
 }
 
 /// What the guards of the rows ask.
 #[derive(Clone, Copy, Debug)]
 pub(crate) struct Facts {
     pub plain: bool,
+    pub no_contract: bool,
+    pub was_sent: bool,
+    pub hard_resets_left: bool,
 }

@@ -4,7 +4,9 @@
 mod engine;
 mod kinds;
 pub mod laws;
+mod objects;
 mod rows;
+mod rule;
 mod settings;
 
 pub use engine::Sink;

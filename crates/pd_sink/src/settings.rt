@@ -60,7 +60,7 @@ impl Demand {
     pub fn same(&self, other: &Demand) -> bool
         ensures { IsTrue result ↔ (self.now ≡ other.now) }
     {
-        self.mw == other.mw
+        other.mw == self.mw
     }
 }
 

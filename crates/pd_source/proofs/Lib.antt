@@ -1,6 +1,13 @@
+pub mod Walk
+pub mod RowTaken
 pub mod Powers
 pub mod Later
 pub mod Answered
 pub mod Holds
-pub mod Objects
 pub mod Quiet
+pub mod Objects
+pub mod SoundActs
+pub mod SoundRows
+pub mod Limits
+pub mod SoundSteps
+pub mod Agreed

@@ -28,3 +28,12 @@ fold_max-powers f n [] [] w h = h
 fold_max-powers f n (s ∷ ss) (m ∷ ms) w h = let p = w.0 in fold_max-powers f (max n (s.mv * m)) ss ms w.1 (omega arith)
 fold_max-powers f n [] (m ∷ ms) w h = absurd w
 fold_max-powers f n (s ∷ ss) [] w h = absurd w
+
+-- the greatest of more, and of another start
+pub fold_max-less : (n m f : ℕ) (xs : List ℕ) → n ≤ m → fold max m xs ≤ f → fold max n xs ≤ f
+fold_max-less n m f [] l h = omega arith
+fold_max-less n m f (x ∷ xs) l h = fold_max-less (max n x) (max m x) f xs (omega arith) h
+
+pub fold_max-more : (k m n f : ℕ) (xs : List ℕ) → k ≤ max m n → n ≤ f → fold max m xs ≤ f → fold max k xs ≤ f
+fold_max-more k m n f [] l e h = omega arith
+fold_max-more k m n f (x ∷ xs) l e h = fold_max-more (max k x) (max m x) n f xs (omega arith) e h

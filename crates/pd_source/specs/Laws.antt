@@ -1,13 +1,16 @@
 -- Laws of the source's policy engine.
-use Rattle.std.specs.Prelude.{◌≡◌, ℕ, ◌≤◌, ◌*◌, ◌%◌, Bool, if◌then◌else◌, Option, None}
+use Rattle.std.specs.Prelude.{◌≡◌, ℕ, ◌≤◌, ◌*◌, ◌%◌, Bool, if◌then◌else◌, Option, Some, None, ◌⊎◌}
+use Rattle.arrayvec.specs.ArrayVec.{ArrayVec}
 use Rattle.pd_symbols.specs.Words.{field}
 use Rattle.pd_timers.specs.Deadlines.{SetsLater}
 use Rattle.pd_objects.specs.declared.query.Answer.{Answer}
+use Rattle.pd_objects.specs.declared.query.Query.TheVariants as query
 use Rattle.pd_objects.specs.Answers.{IsAllowed}
 use Rattle.pd_objects.specs.Supply.{SupplyData, IsSupply}
 use Rattle.pd_source.specs.declared.kinds.Stimulus.{Stimulus}
-use Rattle.pd_source.specs.Record.{SourceSettings, SourceRecord, off}
+use Rattle.pd_source.specs.Record.{SourceSettings, SourceRecord, off, cable_current}
 use Rattle.pd_source.specs.Acts.{object_of}
+use Rattle.pd_source.specs.Sound.{IsSound, IsAnswer, IsOfAnswer, limit_in, IsMade, IsTaken, IsSettled}
 use Rattle.pd_source.specs.Step.{before_row, stepped, acts_of, query_of, hold_of}
 
 -- after a step, each deadline that runs ran before it, and wasn't the one that fell due, or is later than the step
@@ -36,6 +39,43 @@ abbrev pub HoldsStayAllowed : Type 0
 HoldsStayAllowed =
     (s : SourceSettings) (floor free now : ℕ) (x : Stimulus) (a : Option Answer) (r : SourceRecord) →
     hold_of s floor r ≤ free → IsAllowed free (query_of s x r) a → hold_of s floor (stepped s now x a r) ≤ free
+
+-- an offer is asked for under the limit that the step leaves
+abbrev pub OffersAskUnderTheLimit : Type 0
+OffersAskUnderTheLimit =
+    (s : SourceSettings) (now : ℕ) (x : Stimulus) (a : Option Answer) (r : SourceRecord) (supplies : ArrayVec SupplyData) (limit : ℕ) →
+    query_of s x r ≡ Some (query.Offer supplies limit) → limit_in (stepped s now x a r) ≡ limit
+
+-- a limit is the one before, or that of each cable, or the one that a plug's answer tells
+abbrev pub LimitsAreOfAnswers : Type 0
+LimitsAreOfAnswers =
+    (s : SourceSettings) (now : ℕ) (x : Stimulus) (a : Option Answer) (r : SourceRecord) →
+    ((stepped s now x a r).limit ≡ r.limit)
+    ⊎ (((stepped s now x a r).limit ≡ Some cable_current) ⊎ IsOfAnswer x (stepped s now x a r).limit)
+
+-- What holds of the record at each step: from the start, and after each step with an answer to what was asked.
+abbrev pub TheStartIsSound : Type 0
+TheStartIsSound = (s : SourceSettings) → IsSound s (off s)
+
+abbrev pub StepsStaySound : Type 0
+StepsStaySound =
+    (s : SourceSettings) (now : ℕ) (x : Stimulus) (a : Option Answer) (r : SourceRecord) →
+    IsSound s r → IsAnswer s (query_of s x r) a → IsSound s (stepped s now x a r)
+
+-- what becomes of the contract, of the accepted request and of the delivered offer in a step
+abbrev pub ContractsAreMade : Type 0
+ContractsAreMade =
+    (s : SourceSettings) (now : ℕ) (x : Stimulus) (a : Option Answer) (r : SourceRecord) → IsMade s r (stepped s now x a r).contract
+
+abbrev pub RequestsAreTaken : Type 0
+RequestsAreTaken =
+    (s : SourceSettings) (now : ℕ) (x : Stimulus) (a : Option Answer) (r : SourceRecord) →
+    IsTaken a r (stepped s now x a r).accepted_request
+
+abbrev pub OffersAreSettled : Type 0
+OffersAreSettled =
+    (s : SourceSettings) (now : ℕ) (x : Stimulus) (a : Option Answer) (r : SourceRecord) →
+    IsSettled r (stepped s now x a r).delivered_offer
 
 -- An object of Source_Capabilities offers a supply at a current in mA: a fixed supply, of its voltage and this current.
 -- Bit 27 tells whether the power is unconstrained; no other flag is set, and there is no peak current.

@@ -1,22 +1,25 @@
 //! The engine: what it keeps, and its steps.
 
-ghost use Rattle.std.specs.Prelude.{◌≡◌, ◌≤◌, ◌<◌, ◌+◌, ◌++◌, ◌↔◌, IsTrue, length, is_some, fold, max};
+ghost use Rattle.std.specs.Prelude.{◌≡◌, ◌≤◌, ◌<◌, ◌+◌, ◌++◌, length};
 ghost use Rattle.arrayvec.specs.ArrayVec.{array_vec_len};
 ghost use Rattle.pd_timers.specs.Deadlines.{first_of};
 ghost use Rattle.pd_source.specs.Record.{new_source};
-ghost use Rattle.pd_source.specs.Table.{holds};
-ghost use Rattle.pd_source.specs.Facts.{told};
-ghost use Rattle.pd_source.specs.Acts.{after, wants, all_after, all_wants, capabilities, object_of, noise};
-ghost use Rattle.pd_source.specs.Step.{before_row, stepped, acts_of, query_of, offer_query, hears_in, is_ready, revision_bits, hold_of, powers};
+ghost use Rattle.pd_source.specs.Acts.{after, wants, all_after, all_wants, limit_from, sending_of, noise};
+ghost use Rattle.pd_source.specs.Step.{before_row, stepped, acts_of, hears_in, is_ready, revision_bits};
 
-use crate::kinds::{Deed, Facts, Message};
-use crate::rows::choose;
-use crate::{Act, Sending, State, Stimulus};
+use crate::kinds::{Deed, Message};
+use crate::offer::{capabilities, copied};
+use crate::request::{contract_of, revision_of};
+use crate::{Act, Revision, Sending, State, Stimulus};
 use arrayvec::ArrayVec;
-use bitflags::Flags;
-use pd_objects::{Answer, FixedSupply, Query, Supply, SupplyFlags};
+use pd_identity::limit_ma;
+use pd_objects::{Answer, Contract, Supply};
 use pd_timers::{Deadlines, Timer};
 use std::marker::Model;
+
+mod asks;
+mod copies;
+mod power;
 
 /// The current in mA that each cable carries (USB Type-C).
 const CABLE_CURRENT_MA: u32 = 3_000;
@@ -29,11 +32,17 @@ pub struct Source {
     unconstrained: bool,
     state: State,
     deadlines: Deadlines,
-    caps: u8,
+    caps_counter: u8,
+    discover_identity_counter: u8,
+    hard_reset_counter: u8,
     limit: Option<u32>,
     sent: bool,
+    revision: Revision,
+    kept_request: Option<u32>,
+    accepted_request: Option<u32>,
     draft_offer: ArrayVec<u32, 7>,
     delivered_offer: ArrayVec<u32, 7>,
+    contract: Option<Contract>,
 }
 
 impl Model for Source {
@@ -46,23 +55,19 @@ impl Model for Source {
       «record» = record {
         state = s.state;
         deadlines = s.deadlines;
-        caps = s.caps;
+        caps_counter = s.caps_counter;
+        discover_identity_counter = s.discover_identity_counter;
+        hard_reset_counter = s.hard_reset_counter;
         limit = s.limit;
         sent = s.sent;
+        revision = s.revision;
+        kept_request = s.kept_request;
+        accepted_request = s.accepted_request;
         draft_offer = s.draft_offer.items;
         delivered_offer = s.delivered_offer.items;
+        contract = s.contract;
       };
     } };
-}
-
-/// A copy of a short list.
-fn copied<T: Copy + Default>(items: &[T]) -> ArrayVec<T, 7>
-    requires { length items.now ≤ 7 }
-    ensures { result.items ≡ items.now }
-{
-    let mut copy = ArrayVec::new();
-    copy.try_extend_from_slice(items).unwrap();
-    copy
 }
 
 impl Source {
@@ -77,15 +82,21 @@ impl Source {
             unconstrained,
             state: State::Off,
             deadlines: Deadlines::new(),
-            caps: 0,
+            caps_counter: 0,
+            discover_identity_counter: 0,
+            hard_reset_counter: 0,
             limit: if identity_tries == 0 {
                 Some(CABLE_CURRENT_MA)
             } else {
                 None
             },
             sent: false,
+            revision: Revision::Revision3,
+            kept_request: None,
+            accepted_request: None,
             draft_offer: ArrayVec::new(),
             delivered_offer: ArrayVec::new(),
+            contract: None,
         }
     }
 
@@ -115,36 +126,9 @@ impl Source {
         ensures value { result ≡ revision_bits self.now.record }
         ensures fits { result < 4 }
     {
-        2
-    }
-
-    /// What the port holds of the shared budget in microwatts, with a floor of so many.
-    #[tactic(auto, unfolding(crate::specs::Step::hold_of))]
-    pub fn hold(&self, floor: u64) -> u64
-        ensures { result ≡ hold_of self.now.settings floor self.now.record }
-    {
-        greatest_power(floor, self.supplies.as_slice(), self.draft_offer.as_slice())
-    }
-
-    /// What the engine asks of the shared budget before a step.
-    #[tactic(auto, unfolding(crate::specs::Step::query_of))]
-    pub fn ask(&self, stimulus: &Stimulus) -> Option<Query>
-        ensures { result ≡ query_of self.now.settings stimulus.now self.now.record }
-    {
-        if choose(self.state, stimulus, self.facts()).asks_offer {
-            Some(self.offer_query())
-        } else {
-            None
-        }
-    }
-
-    /// The query which currents may be offered.
-    fn offer_query(&self) -> Query
-        ensures { result ≡ offer_query self.now.settings self.now.record }
-    {
-        Query::Offer {
-            supplies: copied(self.supplies.as_slice()),
-            limit_ma: self.limit.unwrap_or(CABLE_CURRENT_MA),
+        match self.revision {
+            Revision::Revision2 => 1,
+            Revision::Revision3 => 2,
         }
     }
 
@@ -178,8 +162,8 @@ impl Source {
         ensures few { length result.items ≤ 6 }
     {
         self.arrive(stimulus);
-        let plan = choose(self.state, stimulus, self.facts());
-        self.run(plan.deeds, now, &answer)
+        let deeds = self.deeds(self.sent, stimulus, &answer);
+        self.run(deeds, now, stimulus, &answer)
     }
 
     /// A timer that falls due has ended, and Sent sets the mark.
@@ -193,35 +177,39 @@ impl Source {
         }
     }
 
-    /// What the guards of the rows ask.
-    fn facts(&self) -> Facts
-        ensures { result ≡ record { limit_known = is_some self.now.record.limit } }
-    {
-        Facts {
-            limit_known: self.limit.is_some(),
-        }
-    }
-
     /// Takes the acts of a row, in order.
-    fn run(&mut self, deeds: &[Deed], now: u64, answer: &Option<Answer>) -> ArrayVec<Act, 8>
+    fn run(
+        &mut self,
+        deeds: &[Deed],
+        now: u64,
+        stimulus: &Stimulus,
+        answer: &Option<Answer>,
+    ) -> ArrayVec<Act, 8>
         requires time { now ≤ 120000000 }
         requires few { length deeds.now ≤ 6 }
-        ensures after { self.new ≡ record self.old { «record» = all_after deeds.now now answer.now self.old.record } }
-        ensures acts { result.items ≡ all_wants self.old.settings deeds.now now answer.now self.old.record }
+        ensures after { self.new ≡ record self.old { «record» = all_after self.old.settings deeds.now now stimulus.now answer.now self.old.record } }
+        ensures acts { result.items ≡ all_wants self.old.settings deeds.now now stimulus.now answer.now self.old.record }
         ensures few { length result.items ≤ 6 }
     {
         let mut acts = ArrayVec::new();
         for deed in deeds {
-            self.take(*deed, now, answer, &mut acts);
+            self.take(*deed, now, stimulus, answer, &mut acts);
         }
         acts
     }
 
     /// Takes one act of a row.
-    fn take(&mut self, deed: Deed, now: u64, answer: &Option<Answer>, acts: &mut ArrayVec<Act, 8>)
+    fn take(
+        &mut self,
+        deed: Deed,
+        now: u64,
+        stimulus: &Stimulus,
+        answer: &Option<Answer>,
+        acts: &mut ArrayVec<Act, 8>,
+    )
         requires time { now ≤ 120000000 }
         requires room { array_vec_len acts.old < 8 }
-        ensures after { self.new ≡ record self.old { «record» = after deed now answer.now self.old.record } }
+        ensures after { self.new ≡ record self.old { «record» = after self.old.settings deed now stimulus.now answer.now self.old.record } }
         ensures few { array_vec_len acts.new ≤ array_vec_len acts.old + 1 }
         ensures acts { acts.new.items ≡ acts.old.items ++ wants self.old.settings deed self.old.record }
     {
@@ -232,118 +220,93 @@ impl Source {
                 self.sent = false;
                 acts.push(Act::DropWaiting);
             }
-            Deed::Start(timer) => self.deadlines.start(now, timer),
-            Deed::Send(Message::SourceCapabilities) => {
-                acts.push(Act::Send(Sending::SourceCapabilities(self.objects())));
+            Deed::EnterAgain => {
+                self.deadlines.stop_all();
+                self.sent = false;
+                acts.push(Act::DropWaiting);
             }
+            Deed::Start(timer) => self.deadlines.start(now, timer),
+            Deed::Send(message) => acts.push(Act::Send(self.sending(message))),
+            Deed::SendHardReset => acts.push(Act::SendHardReset),
+            Deed::Note(note) => acts.push(Act::Note(note)),
             Deed::On => acts.push(Act::On),
-            Deed::CapsUp => self.caps = self.caps.saturating_add(1),
-            Deed::CapsZero => self.caps = 0,
+            Deed::Off => acts.push(Act::Off),
+            Deed::ResetLayer => acts.push(Act::ResetLayer),
+            Deed::CapsUp => self.caps_counter = self.caps_counter.saturating_add(1),
+            Deed::CapsZero => self.caps_counter = 0,
+            Deed::IdentUp => {
+                self.discover_identity_counter = self.discover_identity_counter.saturating_add(1);
+            }
+            Deed::HardUp => self.hard_reset_counter = self.hard_reset_counter.saturating_add(1),
+            Deed::HardZero => self.hard_reset_counter = 0,
+            Deed::LimitFromAnswer => self.limit = limit_from(stimulus, self.limit),
+            Deed::CableLimit => self.limit = Some(CABLE_CURRENT_MA),
+            Deed::KeepRequest => {
+                if let Stimulus::Request { object, revision } = stimulus {
+                    self.kept_request = Some(*object);
+                    self.revision = revision_of(*revision);
+                }
+            }
             Deed::Draft => {
                 if let Some(Answer::Offer(currents)) = answer {
                     self.draft_offer = copied(currents.as_slice());
                 }
             }
             Deed::Settle => self.delivered_offer = copied(self.draft_offer.as_slice()),
+            Deed::Close => {
+                self.draft_offer.clear();
+                self.accepted_request = None;
+            }
+            Deed::Take => self.accepted_request = self.kept_request,
+            Deed::Commit => {
+                self.contract = match self.accepted_request {
+                    None => None,
+                    Some(object) => Some(contract_of(
+                        self.supplies.as_slice(),
+                        self.delivered_offer.as_slice(),
+                        object,
+                    )),
+                };
+                self.accepted_request = None;
+            }
+            Deed::Void => {
+                self.contract = None;
+                self.accepted_request = None;
+                self.draft_offer.clear();
+                self.delivered_offer.clear();
+                self.revision = Revision::Revision3;
+            }
         }
     }
 
-    /// The objects of Source_Capabilities.
-    fn objects(&self) -> ArrayVec<u32, 7>
-        ensures { result.items ≡ capabilities self.now.settings.unconstrained self.now.settings.supplies self.now.record.draft_offer }
+    /// A message with its objects.
+    fn sending(&self, message: Message) -> Sending
+        ensures { result ≡ sending_of self.now.settings message self.now.record }
     {
-        let mut objects = ArrayVec::new();
-        let mut unconstrained = self.unconstrained;
-        for (supply, ma) in self.supplies.iter().zip(self.draft_offer.iter()) {
-            objects.push(object(unconstrained, supply, *ma));
-            unconstrained = false;
-        }
-        objects
-    }
-
-    /// Whether both keep the same, settings included.
-    pub fn same(&self, other: &Source) -> bool
-        ensures { IsTrue result ↔ (self.now ≡ other.now) }
-    {
-        same_supplies(self.supplies.as_slice(), other.supplies.as_slice())
-            && self.identity_tries == other.identity_tries
-            && self.unconstrained == other.unconstrained
-            && self.same_record(other)
-    }
-
-    /// Whether both are in the same record, whatever their settings.
-    pub fn same_record(&self, other: &Source) -> bool
-        ensures { IsTrue result ↔ (self.now.record ≡ other.now.record) }
-    {
-        self.state == other.state
-            && self.deadlines.same(&other.deadlines)
-            && self.caps == other.caps
-            && self.limit == other.limit
-            && self.sent == other.sent
-            && self.draft_offer.as_slice() == other.draft_offer.as_slice()
-            && self.delivered_offer.as_slice() == other.delivered_offer.as_slice()
-    }
-
-    /// The same settings and record.
-    pub fn copy(&self) -> Source
-        ensures { result ≡ self.now }
-    {
-        Source {
-            supplies: copied(self.supplies.as_slice()),
-            identity_tries: self.identity_tries,
-            unconstrained: self.unconstrained,
-            state: self.state,
-            deadlines: self.deadlines.copy(),
-            caps: self.caps,
-            limit: self.limit,
-            sent: self.sent,
-            draft_offer: copied(self.draft_offer.as_slice()),
-            delivered_offer: copied(self.delivered_offer.as_slice()),
+        match message {
+            Message::DiscoverIdentity => Sending::DiscoverIdentity,
+            Message::SourceCapabilities => Sending::SourceCapabilities(capabilities(
+                self.unconstrained,
+                self.supplies.as_slice(),
+                self.draft_offer.as_slice(),
+            )),
+            Message::Accept => Sending::Accept,
+            Message::Reject => Sending::Reject,
+            Message::Wait => Sending::Wait,
+            Message::PsRdy => Sending::PsRdy,
+            Message::GetSinkCap => Sending::GetSinkCap,
+            Message::SoftReset => Sending::SoftReset,
         }
     }
 }
 
-/// The greatest of a floor and the powers of an offer's currents.
-fn greatest_power(floor: u64, supplies: &[Supply], offer: &[u32]) -> u64
-    ensures { result ≡ fold max floor (powers supplies.now offer.now) }
+/// The cable's limit in mA after a plug's answer.
+fn limit_from(stimulus: &Stimulus, limit: Option<u32>) -> Option<u32>
+    ensures { result ≡ limit_from stimulus.now limit }
 {
-    let mut greatest = floor;
-    for (supply, ma) in supplies.iter().zip(offer) {
-        greatest = greatest.max(u64::from(supply.mv()) * u64::from(*ma));
-    }
-    greatest
-}
-
-/// The greatest current that an object states, in 10 mA.
-const GREATEST_CURRENT: u32 = 1_023;
-
-/// An object of Source_Capabilities: a supply with a current in mA.
-fn object(unconstrained: bool, supply: &Supply, ma: u32) -> u32
-    ensures { result ≡ object_of unconstrained supply.now ma }
-{
-    let flags = if unconstrained {
-        SupplyFlags::UNCONSTRAINED_POWER
-    } else {
-        SupplyFlags::empty()
-    };
-    FixedSupply::new(
-        flags,
-        0,
-        (supply.mv() / 50) as u16,
-        (ma / 10).min(GREATEST_CURRENT) as u16,
-    )
-    .pack()
-}
-
-fn same_supplies(supplies: &[Supply], others: &[Supply]) -> bool
-    ensures { IsTrue result ↔ (supplies.now ≡ others.now) }
-{
-    match (supplies, others) {
-        ([], []) => true,
-        ([supply, supplies @ ..], [other, others @ ..]) => {
-            supply.same(other) && same_supplies(supplies, others)
-        }
-        _ => false,
+    match stimulus {
+        Stimulus::Identity(objects) => Some(limit_ma(objects.as_slice())),
+        _ => limit,
     }
 }
 

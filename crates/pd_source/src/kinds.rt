@@ -103,10 +103,47 @@ pub enum Act {
     SendHardReset,
 }
 
-/// Which message a row sends.
+/// The revision of USB Power Delivery that the source speaks with its sink.
 #[derive(Clone, Copy, Debug, PartialEq, Eq)]
+pub enum Revision {
+    /// Revision 2.0.
+    Revision2,
+    /// Revision 3.0.
+    Revision3,
+}
+
+/// What a stimulus counts as in the state table.
+#[derive(Clone, Copy, Debug)]
+pub(crate) enum Heard {
+    Attach,
+    Ended(Timer),
+    Sent(Sent),
+    Failed,
+    Ack,
+    Nak,
+    Busy,
+    Request,
+    GetSourceCap,
+    SinkCapabilities,
+    Accept,
+    SoftReset,
+    HardReset,
+    GetSink,
+    Shed,
+    Other,
+}
+
+/// Which message a row sends.
+#[derive(Clone, Copy, Debug)]
 pub(crate) enum Message {
+    DiscoverIdentity,
     SourceCapabilities,
+    Accept,
+    Reject,
+    Wait,
+    PsRdy,
+    GetSinkCap,
+    SoftReset,
 }
 
 /// What a row of the state table does.
@@ -114,19 +151,50 @@ pub(crate) enum Message {
 pub(crate) enum Deed {
     /// Enters a state: no timer runs, nothing waits on this side, and nothing was sent.
     Enter(State),
+    /// Enters the same state once more.
+    EnterAgain,
     Start(Timer),
     Send(Message),
+    SendHardReset,
+    Note(Note),
     On,
+    Off,
+    ResetLayer,
     CapsUp,
     CapsZero,
+    IdentUp,
+    HardUp,
+    HardZero,
+    /// The plug's answer tells the limit.
+    LimitFromAnswer,
+    /// The limit is that of each cable.
+    CableLimit,
+    /// The request that came is kept, and its revision is spoken from now on.
+    KeepRequest,
     /// The answer becomes the offer that is being made.
     Draft,
     /// The offer that is being made has been delivered.
     Settle,
+    /// The offer that is being made and the accepted request are dropped.
+    Close,
+    /// The kept request is accepted.
+    Take,
+    /// The accepted request becomes the contract.
+    Commit,
+    /// Contract, accepted request and both offers are dropped, and Revision 3.0 is spoken.
+    Void,
 }
 
 /// What the guards of the rows ask.
 #[derive(Clone, Copy, Debug)]
 pub(crate) struct Facts {
     pub limit_known: bool,
+    pub tries_left: bool,
+    pub was_sent: bool,
+    pub has_contract: bool,
+    pub caps_left: bool,
+    pub request_invalid: bool,
+    pub fits: bool,
+    pub offer_differs: bool,
+    pub hard_resets_left: bool,
 }

@@ -1,6 +1,6 @@
 //! Laws of the engine's steps.
 
-ghost use Rattle.pd_source.specs.Laws.{StepsSetLater, StepsReadOnlyTheirAnswer, HoldsKeepTheFloor, HoldsOfDetachedAreFloors, HoldsStayAllowed, ObjectsOfferTheirSupplies};
+ghost use Rattle.pd_source.specs.Laws.{StepsSetLater, StepsReadOnlyTheirAnswer, HoldsKeepTheFloor, HoldsOfDetachedAreFloors, HoldsStayAllowed, OffersAskUnderTheLimit, LimitsAreOfAnswers, TheStartIsSound, StepsStaySound, ContractsAreMade, RequestsAreTaken, OffersAreSettled, ObjectsOfferTheirSupplies};
 
 /// Each deadline that a step sets is later than the step, and the timer that fell due no longer runs.
 pub fn later()
@@ -17,6 +17,27 @@ pub fn holds()
     ensures floor { HoldsKeepTheFloor }
     ensures detached { HoldsOfDetachedAreFloors }
     ensures allowed { HoldsStayAllowed }
+{}
+
+/// An offer is asked for under the limit that the step leaves, and each limit has its cause.
+pub fn limits()
+    ensures asked { OffersAskUnderTheLimit }
+    ensures causes { LimitsAreOfAnswers }
+{}
+
+/// At each step the limit, the offers, the accepted request and the contract are as they should be, where each answer is
+/// one to what was asked.
+pub fn sound()
+    ensures start { TheStartIsSound }
+    ensures stepped { StepsStaySound }
+{}
+
+/// A contract is made of the accepted request and the delivered offer, a request is accepted where it is valid and fits, and
+/// the delivered offer is the one that was made.
+pub fn agreed()
+    ensures contract { ContractsAreMade }
+    ensures accepted { RequestsAreTaken }
+    ensures delivered { OffersAreSettled }
 {}
 
 /// The objects of Source_Capabilities offer the supplies at the currents of the draft offer.

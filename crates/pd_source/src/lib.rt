@@ -4,7 +4,9 @@
 mod engine;
 mod kinds;
 pub mod laws;
+mod offer;
+mod request;
 mod rows;
 
 pub use engine::Source;
-pub use kinds::{Act, Note, Sending, Sent, State, Stimulus};
+pub use kinds::{Act, Note, Revision, Sending, Sent, State, Stimulus};

@@ -1,6 +1,7 @@
-//! The bench as a program: `pdbench run SCENARIO EDITS` and `pdbench decode SYMBOLS`.
+//! The bench as a program: `pdbench run SCENARIO EDITS`, `pdbench check SCENARIO` and `pdbench decode SYMBOLS`.
 #![tactic(auto)]
 
+mod check;
 mod decode;
 mod devices;
 mod fault;
@@ -8,6 +9,7 @@ mod files;
 mod run;
 mod words;
 
+use check::check;
 use clap::error::ErrorKind;
 use decode::decode;
 use run::run;
@@ -60,15 +62,22 @@ fn obey<R: Files + Print + Eprint + Alloc<A = Global>>(rt: &R, words: &[String])
         Ok(matches) => matches,
         Err(error) => return refuse_words(rt, error.kind()),
     };
-    let Some((_, matches)) = matches.subcommand() else {
+    let Some((name, matches)) = matches.subcommand() else {
         return refuse_words(rt, ErrorKind::MissingSubcommand);
     };
-    if let Some(symbols) = matches.get_str("SYMBOLS") {
-        return decode(rt, symbols);
-    }
-    match (matches.get_str("SCENARIO"), matches.get_str("EDITS")) {
-        (Some(scenario), Some(edits)) => run(rt, scenario, edits),
-        _ => refuse_words(rt, ErrorKind::MissingRequiredArgument),
+    match name {
+        "decode" => match matches.get_str("SYMBOLS") {
+            Some(symbols) => decode(rt, symbols),
+            None => refuse_words(rt, ErrorKind::MissingRequiredArgument),
+        },
+        "check" => match matches.get_str("SCENARIO") {
+            Some(scenario) => check(rt, scenario),
+            None => refuse_words(rt, ErrorKind::MissingRequiredArgument),
+        },
+        _ => match (matches.get_str("SCENARIO"), matches.get_str("EDITS")) {
+            (Some(scenario), Some(edits)) => run(rt, scenario, edits),
+            _ => refuse_words(rt, ErrorKind::MissingRequiredArgument),
+        },
     }
 }
 

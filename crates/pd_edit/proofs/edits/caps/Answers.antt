@@ -8,9 +8,9 @@ with_port_supplies-requires g c = rw c.supplies_of-supplies.ensures (supplies_ke
 pub with_settings-requires : goal.with_settings-requires
 with_settings-requires g c = (
   lit< tt,
-  rw (c.in_ok-copy.ensures, c.in_ok-edited.ensures, c.all_settings-settings.ensures.value, c.supplies_of-supplies.ensures)
-      (valid_caps g.row.N c.args.scenario.now c.args.port c.args.supplies.now c.all_settings-settings.ensures.is_valid c.requires),
+  rw (c.in_ok-edited.ensures, c.ports-settings.ensures.value, c.supplies_of-supplies.ensures)
+      (valid_caps g.row.N c.args.scenario.now c.args.port c.args.supplies.now c.ports-settings.ensures.is_valid c.requires),
 )
 
 pub returns : goal.returns
-returns g c = rw (c.with_settings.ensures, c.in_ok-copy.ensures, c.in_ok-edited.ensures, c.all_settings-settings.ensures.value, c.supplies_of-supplies.ensures)
+returns g c = rw (c.with_settings.ensures, c.in_ok-edited.ensures, c.ports-settings.ensures.value, c.supplies_of-supplies.ensures)

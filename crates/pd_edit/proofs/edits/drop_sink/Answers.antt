@@ -5,6 +5,6 @@ use Rattle.pd_edit.proofs.edits.drop_sink.Goals as goal
 pub with_sinks-requires : goal.with_sinks-requires
 with_sinks-requires g c = (
   lit< tt,
-  rw (c.in_ok-copy.ensures, c.in_ok-edited.ensures, c.sinks-sinks.ensures.value)
+  rw (c.in_ok-edited.ensures, c.sinks-sinks.ensures.value)
       (valid_drop_sink g.row.N c.args.scenario.now c.args.name.now c.sinks-sinks.ensures.is_valid c.requires),
 )

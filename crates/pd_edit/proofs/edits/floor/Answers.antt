@@ -5,6 +5,6 @@ use Rattle.pd_edit.proofs.edits.floor.Goals as goal
 pub with_settings-requires : goal.with_settings-requires
 with_settings-requires g c = (
   lit< tt,
-  rw (c.in_ok-copy.ensures, c.in_ok-edited.ensures, c.all_settings-settings.ensures.value)
-      (valid_floor g.row.N c.args.scenario.now c.args.port c.args.mw c.all_settings-settings.ensures.is_valid c.requires),
+  rw (c.in_ok-edited.ensures, c.ports-settings.ensures.value)
+      (valid_floor g.row.N c.args.scenario.now c.args.port c.args.mw c.ports-settings.ensures.is_valid c.requires),
 )

@@ -5,6 +5,6 @@ use Rattle.pd_edit.proofs.edits.move_event.Goals as goal
 pub with_events-requires : goal.with_events-requires
 with_events-requires g c = (
   lit< tt,
-  rw (c.in_ok-copy.ensures, c.in_ok-edited.ensures, c.events-events.ensures.value)
+  rw (c.in_ok-edited.ensures, c.events-events.ensures.value)
       (valid_move g.row.N c.args.scenario.now c.args.id c.args.at c.events-events.ensures.is_valid c.requires),
 )

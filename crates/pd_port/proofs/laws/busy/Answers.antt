@@ -8,4 +8,4 @@ pub returns-clause-no_two : goal.returns-clause-no_two
 returns-clause-no_two c = portstep-one
 
 pub returns-clause-left : goal.returns-clause-left
-returns-clause-left c = λ s r d given h n. (record_after-line s r d given h n, entry_of-start s r d given h n)
+returns-clause-left c = λ s r d given h n m. (record_after-line s r d given h n m, entry_of-start s r d given h n m)

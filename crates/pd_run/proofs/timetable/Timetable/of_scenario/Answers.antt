@@ -1,0 +1,8 @@
+use Rattle.pd_scenario.specs.Plans.{plan_of}
+use Rattle.pd_run.proofs.Timetables.{IsPlan-again}
+use Rattle.pd_run.proofs.timetable.Timetable.of_scenario.Goals as goal
+
+pub invariant_of-result : goal.invariant_of-result
+invariant_of-result g c =
+    IsPlan-again g.row.N (plan_of c.args.scenario.now) _ _ _ _ _ c.in_ok-settings.ensures c.in_ok-scripts.ensures
+    c.budget.ensures.value c.in_ok-forces.ensures.value c.end_time.ensures.value c.end_time.ensures.is_plan

@@ -1,0 +1,283 @@
+-- A file to which no refusal applies gives a scenario that keeps every limit.
+use Rattle.std.proofs.Common.{◌≡◌, ℕ, ◌<◌, ◌≤◌, ℤ, pos, Bool, true, false, not, ◌||◌, ◌&&◌, ◌==◌, List, [], ◌∷◌, length, map, refl, sym, ap, ◌∙◌, arith, lit<, Some, None}
+use Rattle.std.specs.Prelude.{Option, is_none, nat_lt, nat_le, sum_by, All}
+use Rattle.std.specs.List.{list_any, list_all}
+use Rattle.std.proofs.lemmas.Bool.{false≢true, and_parts, and_from, or_parts, not-false}
+use Rattle.std.proofs.lemmas.Bool.Decides.{nat_tests}
+use Rattle.std.proofs.lemmas.List.Elements.{All-nil, All-cons}
+use Rattle.toml.specs.Data.{Data, Members}
+use Rattle.pd_sink.specs.Settings.{IsSink}
+use Rattle.pd_plan.specs.Settings.{SettingsData, IsSettings}
+use Rattle.pd_scenario.specs.Names.{is_name}
+use Rattle.pd_scenario.specs.Limits.{allows, is_port}
+use Rattle.pd_scenario.specs.Contents.{Contents, IsValid, event_fits, happening_fits, kind_fits, names_differ, ids_differ, names_are_known, least_budget}
+use Rattle.pd_scenario.specs.declared.limits.Quantity.TheVariants as quantity
+use Rattle.pd_scenario.specs.declared.contents.NamedCable.{NamedCable}
+use Rattle.pd_scenario.specs.declared.contents.NamedSink.{NamedSink}
+use Rattle.pd_scenario.specs.declared.contents.ScenarioEvent.{ScenarioEvent}
+use Rattle.pd_scenario_text.specs.declared.schema.Version.{Version}
+use Rattle.pd_scenario_text.specs.declared.schema.EventName.{EventName}
+use Rattle.pd_scenario_text.specs.declared.schema.EventName.TheVariants as event
+use Rattle.pd_scenario_text.specs.declared.schema.TableKind.{TableKind}
+use Rattle.pd_scenario_text.specs.declared.schema.TableKind.TheVariants.{Top, Port, Cable, Sink, Event}
+use Rattle.pd_scenario_text.specs.declared.schema.Key.TheVariants as key
+use Rattle.pd_scenario_text.specs.declared.schema.Need.TheVariants.{Required}
+use Rattle.pd_scenario_text.specs.declared.schema.Form.TheVariants as form
+use Rattle.pd_scenario_text.specs.declared.fault.ScenarioFault.{ScenarioFault}
+use Rattle.pd_scenario_text.specs.declared.fault.ScenarioFault.TheVariants as fault
+use Rattle.pd_scenario_text.specs.Schema.{rule, rules_of, event_rules, any_event, top_rules}
+use Rattle.pd_scenario_text.specs.Words.{event_named}
+use Rattle.pd_scenario_text.specs.Values.{word_of, small, is_known}
+use Rattle.pd_scenario_text.specs.Tables.{value_at, word_in, value_fails, number_at, event_at, fails, event_fails, is_sound, is_sound_event, is_sound_port}
+use Rattle.pd_scenario_text.specs.Convert.{Tables, settings_of, cable_of, sink_of, happening_of, event_of, contents_of}
+use Rattle.pd_scenario_text.specs.Refusals.{fails_somewhere, has_duplicate, has_unknown_name, exceeds_budget, exceed_limits, exceeds_limit}
+use Rattle.pd_scenario_text.proofs.Sound.{Holds, holds, needed, port_needed}
+use Rattle.pd_scenario_text.proofs.Parts.{cable_named, sink_named, sink_fits, port_fits, attach_named, demand_allowed, damage_allowed, budget_allowed}
+use Rattle.pd_scenario_text.proofs.Decided.{Clean, Later, Last}
+
+-- ---- where a refusal applies nowhere
+
+record Nowhere (refusal : ScenarioFault) (ports : ℕ) (d : Tables) : Type 0 where
+  top : fails refusal d.version ports Top d.top ≡ false
+  each_port : list_any (fails refusal d.version ports Port) d.ports ≡ false
+  cables : list_any (fails refusal d.version ports Cable) d.cables ≡ false
+  sinks : list_any (fails refusal d.version ports Sink) d.sinks ≡ false
+  events : list_any (event_fails refusal d.version ports) d.events ≡ false
+
+nowhere : (refusal : ScenarioFault) (ports : ℕ) (d : Tables) → fails_somewhere refusal ports d ≡ false → Nowhere refusal ports d
+unfolding fails_somewhere
+nowhere refusal ports d h =
+    let a = or_parts (fails refusal d.version ports Top d.top) (list_any (fails refusal d.version ports Port) d.ports || (list_any (fails refusal d.version ports Cable) d.cables || (list_any (fails refusal d.version ports Sink) d.sinks || list_any (event_fails refusal d.version ports) d.events))) h in
+    let b = or_parts (list_any (fails refusal d.version ports Port) d.ports) (list_any (fails refusal d.version ports Cable) d.cables || (list_any (fails refusal d.version ports Sink) d.sinks || list_any (event_fails refusal d.version ports) d.events)) a.1 in
+    let c = or_parts (list_any (fails refusal d.version ports Cable) d.cables) (list_any (fails refusal d.version ports Sink) d.sinks || list_any (event_fails refusal d.version ports) d.events) b.1 in
+    let e = or_parts (list_any (fails refusal d.version ports Sink) d.sinks) (list_any (event_fails refusal d.version ports) d.events) c.1 in
+    record { top = a.0; each_port = b.0; cables = c.0; sinks = e.0; events = e.1 }
+
+sound : (version : Version) (ports : ℕ) (kind : TableKind) (t : Members) → fails fault.MissingKey version ports kind t ≡ false → fails fault.Range version ports kind t ≡ false → fails fault.Name version ports kind t ≡ false
+    → is_sound version ports kind t ≡ true
+unfolding is_sound
+sound version ports kind t a b c = rw (a, b, c)
+
+each_sound : (version : Version) (ports : ℕ) (kind : TableKind) (ts : List Members) → list_any (fails fault.MissingKey version ports kind) ts ≡ false → list_any (fails fault.Range version ports kind) ts ≡ false
+    → list_any (fails fault.Name version ports kind) ts ≡ false → list_all (is_sound version ports kind) ts ≡ true
+each_sound version ports kind [] a b c = refl
+each_sound version ports kind (t ∷ ts) a b c =
+    let x = or_parts (fails fault.MissingKey version ports kind t) (list_any (fails fault.MissingKey version ports kind) ts) a in
+    let y = or_parts (fails fault.Range version ports kind t) (list_any (fails fault.Range version ports kind) ts) b in
+    let z = or_parts (fails fault.Name version ports kind t) (list_any (fails fault.Name version ports kind) ts) c in
+    rw (sound version ports kind t x.0 y.0 z.0, each_sound version ports kind ts x.1 y.1 z.1)
+
+events_sound : (version : Version) (ports : ℕ) (ts : List Members) → list_any (event_fails fault.MissingKey version ports) ts ≡ false → list_any (event_fails fault.Range version ports) ts ≡ false
+    → list_any (event_fails fault.Name version ports) ts ≡ false → list_all (is_sound_event version ports) ts ≡ true
+events_sound version ports [] a b c = refl
+events_sound version ports (t ∷ ts) a b c =
+    let x = or_parts (event_fails fault.MissingKey version ports t) (list_any (event_fails fault.MissingKey version ports) ts) a in
+    let y = or_parts (event_fails fault.Range version ports t) (list_any (event_fails fault.Range version ports) ts) b in
+    let z = or_parts (event_fails fault.Name version ports t) (list_any (event_fails fault.Name version ports) ts) c in
+    rw (sound version ports (Event (event_at version t)) t x.0 y.0 z.0, events_sound version ports ts x.1 y.1 z.1)
+
+port_sound : (version : Version) (ports : ℕ) (t : Members) → is_sound version ports Port t ≡ true → fails fault.Supplies version ports Port t ≡ false → is_sound_port version ports t ≡ true
+unfolding is_sound_port
+port_sound version ports t a b = rw (a, b)
+
+ports_sound : (version : Version) (ports : ℕ) (ts : List Members) → list_any (fails fault.MissingKey version ports Port) ts ≡ false → list_any (fails fault.Range version ports Port) ts ≡ false
+    → list_any (fails fault.Name version ports Port) ts ≡ false → list_any (fails fault.Supplies version ports Port) ts ≡ false → list_all (is_sound_port version ports) ts ≡ true
+ports_sound version ports [] a b c e = refl
+ports_sound version ports (t ∷ ts) a b c e =
+    let x = or_parts (fails fault.MissingKey version ports Port t) (list_any (fails fault.MissingKey version ports Port) ts) a in
+    let y = or_parts (fails fault.Range version ports Port t) (list_any (fails fault.Range version ports Port) ts) b in
+    let z = or_parts (fails fault.Name version ports Port t) (list_any (fails fault.Name version ports Port) ts) c in
+    let w = or_parts (fails fault.Supplies version ports Port t) (list_any (fails fault.Supplies version ports Port) ts) e in
+    rw (port_sound version ports t (sound version ports Port t x.0 y.0 z.0) w.0, ports_sound version ports ts x.1 y.1 z.1 w.1)
+
+pub sound_cables : (ports : ℕ) (d : Tables) → Clean ports d → list_all (is_sound d.version ports Cable) d.cables ≡ true
+sound_cables ports d h =
+    each_sound d.version ports Cable d.cables (nowhere fault.MissingKey ports d h.complete).cables (nowhere fault.Range ports d h.ranged).cables (nowhere fault.Name ports d h.named).cables
+
+pub sound_sinks : (ports : ℕ) (d : Tables) → Clean ports d → list_all (is_sound d.version ports Sink) d.sinks ≡ true
+sound_sinks ports d h =
+    each_sound d.version ports Sink d.sinks (nowhere fault.MissingKey ports d h.complete).sinks (nowhere fault.Range ports d h.ranged).sinks (nowhere fault.Name ports d h.named).sinks
+
+pub sound_events : (ports : ℕ) (d : Tables) → Clean ports d → list_all (is_sound_event d.version ports) d.events ≡ true
+sound_events ports d h =
+    events_sound d.version ports d.events (nowhere fault.MissingKey ports d h.complete).events (nowhere fault.Range ports d h.ranged).events (nowhere fault.Name ports d h.named).events
+
+pub sound_ports : (ports : ℕ) (d : Tables) → Clean ports d → fails_somewhere fault.Supplies ports d ≡ false → list_all (is_sound_port d.version ports) d.ports ≡ true
+sound_ports ports d h supplied =
+    ports_sound d.version ports d.ports (nowhere fault.MissingKey ports d h.complete).each_port (nowhere fault.Range ports d h.ranged).each_port (nowhere fault.Name ports d h.named).each_port (nowhere fault.Supplies ports d supplied).each_port
+
+sound_top : (ports : ℕ) (d : Tables) → Clean ports d → is_sound d.version ports Top d.top ≡ true
+sound_top ports d h = sound d.version ports Top d.top (nowhere fault.MissingKey ports d h.complete).top (nowhere fault.Range ports d h.ranged).top (nowhere fault.Name ports d h.named).top
+
+-- ---- each of a list
+
+all_of : {A B : Type 0} (p : A → Bool) (q : B → Bool) (f : A → B) → ((x : A) → p x ≡ true → q (f x) ≡ true) → (xs : List A) → list_all p xs ≡ true → list_all q (map f xs) ≡ true
+all_of p q f each [] h = refl
+all_of p q f each (x ∷ xs) h =
+    let both = and_parts (p x) (list_all p xs) h in
+    rw (each x both.0, all_of p q f each xs both.1)
+
+every : {A B : Type 0} (p : A → Bool) (Q : B → Type 0) (f : A → B) → ((x : A) → p x ≡ true → Q (f x)) → (xs : List A) → list_all p xs ≡ true → All Q (map f xs)
+every p Q f each [] h = All-nil Q
+every p Q f each (x ∷ xs) h =
+    let both = and_parts (p x) (list_all p xs) h in
+    All-cons Q (f x) (map f xs) (each x both.0) (every p Q f each xs both.1)
+
+-- ---- events
+
+known_in : (version : Version) (o : Option Data) → (true && is_none o) ≡ false → value_fails (λ d. is_known (event_named version (word_of d))) o ≡ false → is_known (event_named version (word_in o)) ≡ true
+known_in version None there h = absurd (false≢true (sym there))
+known_in version (Some d) there h = not-false (is_known (event_named version (word_of d))) h
+
+record Common (version : Version) (ports : ℕ) (t : Members) : Type 0 where
+  id : Holds version ports (rule key.Id Required (form.Number quantity.EventId)) t
+  at : Holds version ports (rule key.At Required (form.Number quantity.Time)) t
+  kind : Holds version ports (rule key.Kind Required form.EventWord) t
+
+common : (version : Version) (ports : ℕ) (name : EventName) (t : Members) → is_sound version ports (Event name) t ≡ true → Common version ports t
+common version ports event.Attach t s = record {
+  id = holds version ports (Event event.Attach) t (rule key.Id Required (form.Number quantity.EventId)) s (3, lit< tt, refl);
+  at = holds version ports (Event event.Attach) t (rule key.At Required (form.Number quantity.Time)) s (4, lit< tt, refl);
+  kind = holds version ports (Event event.Attach) t (rule key.Kind Required form.EventWord) s (5, lit< tt, refl);
+}
+common version ports event.Detach t s = record {
+  id = holds version ports (Event event.Detach) t (rule key.Id Required (form.Number quantity.EventId)) s (1, lit< tt, refl);
+  at = holds version ports (Event event.Detach) t (rule key.At Required (form.Number quantity.Time)) s (2, lit< tt, refl);
+  kind = holds version ports (Event event.Detach) t (rule key.Kind Required form.EventWord) s (3, lit< tt, refl);
+}
+common version ports event.Demand t s = record {
+  id = holds version ports (Event event.Demand) t (rule key.Id Required (form.Number quantity.EventId)) s (2, lit< tt, refl);
+  at = holds version ports (Event event.Demand) t (rule key.At Required (form.Number quantity.Time)) s (3, lit< tt, refl);
+  kind = holds version ports (Event event.Demand) t (rule key.Kind Required form.EventWord) s (4, lit< tt, refl);
+}
+common version ports event.Lose t s = record {
+  id = holds version ports (Event event.Lose) t (rule key.Id Required (form.Number quantity.EventId)) s (1, lit< tt, refl);
+  at = holds version ports (Event event.Lose) t (rule key.At Required (form.Number quantity.Time)) s (2, lit< tt, refl);
+  kind = holds version ports (Event event.Lose) t (rule key.Kind Required form.EventWord) s (3, lit< tt, refl);
+}
+common version ports event.Damage t s = record {
+  id = holds version ports (Event event.Damage) t (rule key.Id Required (form.Number quantity.EventId)) s (3, lit< tt, refl);
+  at = holds version ports (Event event.Damage) t (rule key.At Required (form.Number quantity.Time)) s (4, lit< tt, refl);
+  kind = holds version ports (Event event.Damage) t (rule key.Kind Required form.EventWord) s (5, lit< tt, refl);
+}
+common version ports event.GetSource t s = record {
+  id = holds version ports (Event event.GetSource) t (rule key.Id Required (form.Number quantity.EventId)) s (1, lit< tt, refl);
+  at = holds version ports (Event event.GetSource) t (rule key.At Required (form.Number quantity.Time)) s (2, lit< tt, refl);
+  kind = holds version ports (Event event.GetSource) t (rule key.Kind Required form.EventWord) s (3, lit< tt, refl);
+}
+common version ports event.GetSink t s = record {
+  id = holds version ports (Event event.GetSink) t (rule key.Id Required (form.Number quantity.EventId)) s (1, lit< tt, refl);
+  at = holds version ports (Event event.GetSink) t (rule key.At Required (form.Number quantity.Time)) s (2, lit< tt, refl);
+  kind = holds version ports (Event event.GetSink) t (rule key.Kind Required form.EventWord) s (3, lit< tt, refl);
+}
+common version ports event.Budget t s = record {
+  id = holds version ports (Event event.Budget) t (rule key.Id Required (form.Number quantity.EventId)) s (1, lit< tt, refl);
+  at = holds version ports (Event event.Budget) t (rule key.At Required (form.Number quantity.Time)) s (2, lit< tt, refl);
+  kind = holds version ports (Event event.Budget) t (rule key.Kind Required form.EventWord) s (3, lit< tt, refl);
+}
+common version ports event.Unknown t s = record {
+  id = holds version ports (Event event.Unknown) t (rule key.Id Required (form.Number quantity.EventId)) s (6, lit< tt, refl);
+  at = holds version ports (Event event.Unknown) t (rule key.At Required (form.Number quantity.Time)) s (7, lit< tt, refl);
+  kind = holds version ports (Event event.Unknown) t (rule key.Kind Required form.EventWord) s (8, lit< tt, refl);
+}
+
+happening_fit : (version : Version) (ports : ℕ) (name : EventName) (t : Members) → ports ≤ 8 → is_known name ≡ true → is_sound version ports (Event name) t ≡ true → happening_fits ports (happening_of name t) ≡ true
+happening_fit version ports event.Attach t few known s = rw (port_needed version ports key.Port t few (holds version ports (Event event.Attach) t (rule key.Port Required form.PortNumber) s (2, lit< tt, refl)), (attach_named version ports t s).0, (attach_named version ports t s).1)
+happening_fit version ports event.Detach t few known s = rw (port_needed version ports key.Port t few (holds version ports (Event event.Detach) t (rule key.Port Required form.PortNumber) s (0, lit< tt, refl)))
+happening_fit version ports event.Demand t few known s = rw (port_needed version ports key.Port t few (holds version ports (Event event.Demand) t (rule key.Port Required form.PortNumber) s (1, lit< tt, refl)), demand_allowed version ports t s)
+happening_fit version ports event.Lose t few known s = rw (port_needed version ports key.Port t few (holds version ports (Event event.Lose) t (rule key.Port Required form.PortNumber) s (0, lit< tt, refl)))
+happening_fit version ports event.Damage t few known s = rw (port_needed version ports key.Port t few (holds version ports (Event event.Damage) t (rule key.Port Required form.PortNumber) s (2, lit< tt, refl)), (damage_allowed version ports t s).0, (damage_allowed version ports t s).1)
+happening_fit version ports event.GetSource t few known s = rw (port_needed version ports key.Port t few (holds version ports (Event event.GetSource) t (rule key.Port Required form.PortNumber) s (0, lit< tt, refl)))
+happening_fit version ports event.GetSink t few known s = rw (port_needed version ports key.Port t few (holds version ports (Event event.GetSink) t (rule key.Port Required form.PortNumber) s (0, lit< tt, refl)))
+happening_fit version ports event.Budget t few known s = budget_allowed version ports t s
+happening_fit version ports event.Unknown t few known s = absurd (false≢true known)
+
+event_fit : (version : Version) (ports : ℕ) (t : Members) → ports ≤ 8 → is_sound_event version ports t ≡ true → event_fits ports (event_of version t) ≡ true
+event_fit version ports t few s =
+    let parts = common version ports (event_at version t) t s in
+    let id = needed version ports key.Id quantity.EventId t parts.id in
+    let at = needed version ports key.At quantity.Time t parts.at in
+    let known = known_in version (value_at key.Kind t) parts.kind.there parts.kind.ranged in
+    let what = happening_fit version ports (event_at version t) t few known s in
+    let numbers = and_from (allows quantity.EventId ((event_of version t).id)) (allows quantity.Time ((event_of version t).at)) id at in
+    and_from (allows quantity.EventId ((event_of version t).id) && allows quantity.Time ((event_of version t).at)) (happening_fits ports ((event_of version t).happening)) numbers what
+
+-- ---- the whole
+
+record Few (ports : ℕ) (c : Contents) : Type 0 where
+  settings : length c.settings ≡ ports
+  events : length c.events ≤ 4096
+  cables : length c.cables ≤ 64
+  sinks : length c.sinks ≤ 64
+
+few_of : (ports p e c s : ℕ) → (not (p == ports) || (nat_lt 4096 e || (nat_lt 64 c || nat_lt 64 s))) ≡ false → (p ≡ ports) × (e ≤ 4096) × (c ≤ 64) × (s ≤ 64)
+few_of ports p e c s h =
+    let a = or_parts (not (p == ports)) (nat_lt 4096 e || (nat_lt 64 c || nat_lt 64 s)) h in
+    let b = or_parts (nat_lt 4096 e) (nat_lt 64 c || nat_lt 64 s) a.1 in
+    let d = or_parts (nat_lt 64 c) (nat_lt 64 s) b.1 in
+    let x = a.0 in
+    let y = b.0 in
+    let z = d.0 in
+    let w = d.1 in
+    (grind (arith, nat_tests), grind (arith, nat_tests), grind (arith, nat_tests), grind (arith, nat_tests))
+
+few_is : (ports : ℕ) (c : Contents) → exceeds_limit ports c ≡ false → Few ports c
+unfolding exceed_limits
+few_is ports c h =
+    let all = few_of ports (length c.settings) (length c.events) (length c.cables) (length c.sinks) h in
+    record { settings = all.0; events = all.1; cables = all.2; sinks = all.3 }
+
+record Single (c : Contents) : Type 0 where
+  cables : names_differ (map (λ (cable : NamedCable). cable.name) c.cables) ≡ true
+  sinks : names_differ (map (λ (sink : NamedSink). sink.name) c.sinks) ≡ true
+  events : ids_differ c.events ≡ true
+
+single_is : (c : Contents) → has_duplicate c ≡ false → Single c
+unfolding has_duplicate
+single_is c h =
+    let x = names_differ (map (λ (cable : NamedCable). cable.name) c.cables) in
+    let y = names_differ (map (λ (sink : NamedSink). sink.name) c.sinks) in
+    let z = ids_differ c.events in
+    let a = or_parts (not x) (not y || not z) h in
+    let b = or_parts (not y) (not z) a.1 in
+    record { cables = not-false x a.0; sinks = not-false y b.0; events = not-false z b.1 }
+
+at_most : (a b : ℕ) → nat_lt a b ≡ false → b ≤ a
+at_most a b h = grind (arith, nat_tests)
+
+known_is : (c : Contents) → has_unknown_name c ≡ false → list_all (λ (e : ScenarioEvent). names_are_known c.cables c.sinks e.happening) c.events ≡ true
+unfolding has_unknown_name
+known_is c h = not-false (list_all (λ (e : ScenarioEvent). names_are_known c.cables c.sinks e.happening) c.events) h
+
+funded_is : (c : Contents) → exceeds_budget c ≡ false → sum_by (λ (s : SettingsData). s.floor_mw) c.settings ≤ least_budget c.budget_mw c.events
+unfolding exceeds_budget
+funded_is c h = at_most (least_budget c.budget_mw c.events) (sum_by (λ (s : SettingsData). s.floor_mw) c.settings) h
+
+pub valid : (ports : ℕ) (d : Tables) → 1 ≤ ports → ports ≤ 8 → Last ports d → exceeds_limit ports (contents_of d) ≡ false → IsValid ports (contents_of d)
+valid ports d some eight l limits =
+    let h = l.later.tables in
+    let few = few_is ports (contents_of d) limits in
+    let single = single_is (contents_of d) l.later.single in
+    let cables = sound_cables ports d h in
+    let sinks = sound_sinks ports d h in
+    let top = sound_top ports d h in
+    record {
+      some_port = some;
+      few_ports = eight;
+      settings_count = few.settings;
+      few_cables = few.cables;
+      few_sinks = few.sinks;
+      few_events = few.events;
+      settings_fit = every (is_sound_port d.version ports) IsSettings settings_of (λ t s. port_fits d.version ports t s) d.ports (sound_ports ports d h l.later.supplied);
+      cables_named = all_of (is_sound d.version ports Cable) (λ (cable : NamedCable). is_name cable.name) cable_of (λ t s. cable_named d.version ports t s) d.cables cables;
+      sinks_named = all_of (is_sound d.version ports Sink) (λ (sink : NamedSink). is_name sink.name) (sink_of d.version) (λ t s. sink_named d.version ports t s) d.sinks sinks;
+      sinks_fit = every (is_sound d.version ports Sink) (λ (sink : NamedSink). IsSink sink.sink) (sink_of d.version) (λ t s. sink_fits d.version ports t s) d.sinks sinks;
+      cables_differ = single.cables;
+      sinks_differ = single.sinks;
+      events_differ = single.events;
+      events_fit = all_of (is_sound_event d.version ports) (event_fits ports) (event_of d.version) (λ t s. event_fit d.version ports t eight s) d.events (sound_events ports d h);
+      names_known = known_is (contents_of d) l.known;
+      budget_fits = needed d.version ports key.Budget quantity.Budget d.top (holds d.version ports Top d.top (rule key.Budget Required (form.Number quantity.Budget)) top (2, lit< tt, refl));
+      funded = funded_is (contents_of d) l.funded;
+      end_fits = needed d.version ports key.End quantity.Time d.top (holds d.version ports Top d.top (rule key.End Required (form.Number quantity.Time)) top (1, lit< tt, refl));
+    }

@@ -1,0 +1,136 @@
+use Rattle.std.proofs.Common.{◌≡◌, ◌∙◌, not, map, sym, ap, lit<}
+use Rattle.pd_scenario_text.specs.Seen.{views}
+use Rattle.pd_scenario_text.specs.Document.{seen}
+use Rattle.pd_scenario_text.specs.Convert.{settings_of, cable_of, sink_of, event_of, contents_of}
+use Rattle.pd_scenario_text.specs.Refusals.{refusal}
+use Rattle.pd_scenario_text.proofs.Decided.{Clean, clean, Later, Last, no_check, a_check, refused_duplicate, refused_supplies, refused_floors, refused_unknown, refused_limit, accepted, same_check, same_exceed, same_limit, same_contents, same_valid, same_answer}
+use Rattle.pd_scenario_text.proofs.Valid.{sound_cables, sound_sinks, sound_events, sound_ports, valid}
+use Rattle.pd_scenario_text.proofs.document.Document.scenario.Goals as goal
+
+pub all_cables-requires : goal.all_cables-requires
+all_cables-requires g c =
+    let d = seen c.args.self.now in
+    let k = clean g.row.N d (sym c.first_refusal.ensures ∙ c.in_default.is) in
+    rw c.deref.ensures.value (sound_cables g.row.N d k)
+
+pub all_sinks-requires : goal.all_sinks-requires
+all_sinks-requires g c =
+    let d = seen c.args.self.now in
+    let k = clean g.row.N d (sym c.first_refusal.ensures ∙ c.in_default.is) in
+    rw c.deref-2.ensures.value (sound_sinks g.row.N d k)
+
+pub all_events-requires : goal.all_events-requires
+all_events-requires g c =
+    let d = seen c.args.self.now in
+    let k = clean g.row.N d (sym c.first_refusal.ensures ∙ c.in_default.is) in
+    rw c.deref-3.ensures.value (sound_events g.row.N d k)
+
+pub returns-in_default-checked : goal.returns-in_default-checked
+returns-in_default-checked g c =
+    let d = seen c.args.self.now in
+    let k = clean g.row.N d (sym c.first_refusal.ensures ∙ c.in_default.is) in
+    let cs = c.in-Ok.ensures ∙ ap (λ ts. map cable_of (views ts)) c.deref.ensures.value in
+    let ss = c.in-Ok-all_sinks.ensures ∙ ap (λ ts. map (sink_of d.version) (views ts)) c.deref-2.ensures.value in
+    let es = c.in-Ok-all_events.ensures ∙ ap (λ ts. map (event_of d.version) (views ts)) c.deref-3.ensures.value in
+    let check = same_check (contents_of d) c.deref-4.result.now c.deref-5.result.now c.deref-6.result.now c.in-Ok-check_names.checked (c.deref-4.ensures.value ∙ cs) (c.deref-5.ensures.value ∙ ss) (c.deref-6.ensures.value ∙ es) c.in-Ok-check_names.ensures in
+    refused_duplicate g.row.N d k (no_check (contents_of d) (check ∙ c.in_default-checked.is))
+
+pub returns-then-fails_somewhere : goal.returns-then-fails_somewhere
+returns-then-fails_somewhere g c =
+    let d = seen c.args.self.now in
+    let k = clean g.row.N d (sym c.first_refusal.ensures ∙ c.in_default.is) in
+    let cs = c.in-Ok.ensures ∙ ap (λ ts. map cable_of (views ts)) c.deref.ensures.value in
+    let ss = c.in-Ok-all_sinks.ensures ∙ ap (λ ts. map (sink_of d.version) (views ts)) c.deref-2.ensures.value in
+    let es = c.in-Ok-all_events.ensures ∙ ap (λ ts. map (event_of d.version) (views ts)) c.deref-3.ensures.value in
+    let check = same_check (contents_of d) c.deref-4.result.now c.deref-5.result.now c.deref-6.result.now c.in-Ok-check_names.checked (c.deref-4.ensures.value ∙ cs) (c.deref-5.ensures.value ∙ ss) (c.deref-6.ensures.value ∙ es) c.in-Ok-check_names.ensures in
+    let found = a_check (contents_of d) c.in-Some-checked.are_known (check ∙ c.in-Some-checked.is) in
+    refused_supplies g.row.N d k found.single (sym c.fails_somewhere.ensures ∙ c.if-fails_somewhere.true)
+
+pub all_settings-requires : goal.all_settings-requires
+all_settings-requires g c =
+    let d = seen c.args.self.now in
+    let k = clean g.row.N d (sym c.first_refusal.ensures ∙ c.in_default.is) in
+    rw c.deref-7.ensures.value (sound_ports g.row.N d k (sym c.fails_somewhere.ensures ∙ c.if-fails_somewhere.false))
+
+pub returns-then-exceed : goal.returns-then-exceed
+returns-then-exceed g c =
+    let d = seen c.args.self.now in
+    let k = clean g.row.N d (sym c.first_refusal.ensures ∙ c.in_default.is) in
+    let cs = c.in-Ok.ensures ∙ ap (λ ts. map cable_of (views ts)) c.deref.ensures.value in
+    let ss = c.in-Ok-all_sinks.ensures ∙ ap (λ ts. map (sink_of d.version) (views ts)) c.deref-2.ensures.value in
+    let es = c.in-Ok-all_events.ensures ∙ ap (λ ts. map (event_of d.version) (views ts)) c.deref-3.ensures.value in
+    let check = same_check (contents_of d) c.deref-4.result.now c.deref-5.result.now c.deref-6.result.now c.in-Ok-check_names.checked (c.deref-4.ensures.value ∙ cs) (c.deref-5.ensures.value ∙ ss) (c.deref-6.ensures.value ∙ es) c.in-Ok-check_names.ensures in
+    let found = a_check (contents_of d) c.in-Some-checked.are_known (check ∙ c.in-Some-checked.is) in
+    let supplied = sym c.fails_somewhere.ensures ∙ c.if-fails_somewhere.false in
+    let later : Later g.row.N d = record { tables = k; single = found.single; supplied = supplied } in
+    let st = c.in-Ok-all_settings.ensures ∙ ap (λ ts. map settings_of (views ts)) c.deref-7.ensures.value in
+    let above = same_exceed (contents_of d) c.deref-9.result.now c.deref-8.result.now c.top_number-budget_mw.result c.least_budget-least_mw.result c.exceed.result (c.deref-9.ensures.value ∙ st) (c.deref-8.ensures.value ∙ es) c.top_number-budget_mw.ensures c.least_budget-least_mw.ensures c.exceed.ensures in
+    refused_floors g.row.N d later (above ∙ c.if-exceed.true)
+
+pub returns-then-not-are_known : goal.returns-then-not-are_known
+returns-then-not-are_known g c =
+    let d = seen c.args.self.now in
+    let k = clean g.row.N d (sym c.first_refusal.ensures ∙ c.in_default.is) in
+    let cs = c.in-Ok.ensures ∙ ap (λ ts. map cable_of (views ts)) c.deref.ensures.value in
+    let ss = c.in-Ok-all_sinks.ensures ∙ ap (λ ts. map (sink_of d.version) (views ts)) c.deref-2.ensures.value in
+    let es = c.in-Ok-all_events.ensures ∙ ap (λ ts. map (event_of d.version) (views ts)) c.deref-3.ensures.value in
+    let check = same_check (contents_of d) c.deref-4.result.now c.deref-5.result.now c.deref-6.result.now c.in-Ok-check_names.checked (c.deref-4.ensures.value ∙ cs) (c.deref-5.ensures.value ∙ ss) (c.deref-6.ensures.value ∙ es) c.in-Ok-check_names.ensures in
+    let found = a_check (contents_of d) c.in-Some-checked.are_known (check ∙ c.in-Some-checked.is) in
+    let supplied = sym c.fails_somewhere.ensures ∙ c.if-fails_somewhere.false in
+    let later : Later g.row.N d = record { tables = k; single = found.single; supplied = supplied } in
+    let st = c.in-Ok-all_settings.ensures ∙ ap (λ ts. map settings_of (views ts)) c.deref-7.ensures.value in
+    let above = same_exceed (contents_of d) c.deref-9.result.now c.deref-8.result.now c.top_number-budget_mw.result c.least_budget-least_mw.result c.exceed.result (c.deref-9.ensures.value ∙ st) (c.deref-8.ensures.value ∙ es) c.top_number-budget_mw.ensures c.least_budget-least_mw.ensures c.exceed.ensures in
+    refused_unknown g.row.N d later (above ∙ c.if-exceed.false) (found.unknown ∙ ap not c.if-not-are_known.true)
+
+pub returns-then-exceeds_limit : goal.returns-then-exceeds_limit
+returns-then-exceeds_limit g c =
+    let d = seen c.args.self.now in
+    let k = clean g.row.N d (sym c.first_refusal.ensures ∙ c.in_default.is) in
+    let cs = c.in-Ok.ensures ∙ ap (λ ts. map cable_of (views ts)) c.deref.ensures.value in
+    let ss = c.in-Ok-all_sinks.ensures ∙ ap (λ ts. map (sink_of d.version) (views ts)) c.deref-2.ensures.value in
+    let es = c.in-Ok-all_events.ensures ∙ ap (λ ts. map (event_of d.version) (views ts)) c.deref-3.ensures.value in
+    let check = same_check (contents_of d) c.deref-4.result.now c.deref-5.result.now c.deref-6.result.now c.in-Ok-check_names.checked (c.deref-4.ensures.value ∙ cs) (c.deref-5.ensures.value ∙ ss) (c.deref-6.ensures.value ∙ es) c.in-Ok-check_names.ensures in
+    let found = a_check (contents_of d) c.in-Some-checked.are_known (check ∙ c.in-Some-checked.is) in
+    let supplied = sym c.fails_somewhere.ensures ∙ c.if-fails_somewhere.false in
+    let later : Later g.row.N d = record { tables = k; single = found.single; supplied = supplied } in
+    let st = c.in-Ok-all_settings.ensures ∙ ap (λ ts. map settings_of (views ts)) c.deref-7.ensures.value in
+    let above = same_exceed (contents_of d) c.deref-9.result.now c.deref-8.result.now c.top_number-budget_mw.result c.least_budget-least_mw.result c.exceed.result (c.deref-9.ensures.value ∙ st) (c.deref-8.ensures.value ∙ es) c.top_number-budget_mw.ensures c.least_budget-least_mw.ensures c.exceed.ensures in
+    let last : Last g.row.N d = record { later = later; funded = above ∙ c.if-exceed.false; known = found.unknown ∙ ap not c.if-not-are_known.false } in
+    let many = same_limit g.row.N (contents_of d) c.deref-10.result.now c.deref-11.result.now c.deref-12.result.now c.deref-13.result.now c.exceeds_limit.result (c.deref-10.ensures.value ∙ st) (c.deref-11.ensures.value ∙ cs) (c.deref-12.ensures.value ∙ ss) (c.deref-13.ensures.value ∙ es) c.exceeds_limit.ensures in
+    refused_limit g.row.N d last (many ∙ c.if-exceeds_limit.true)
+
+pub new-requires : goal.new-requires
+new-requires g c =
+    let d = seen c.args.self.now in
+    let k = clean g.row.N d (sym c.first_refusal.ensures ∙ c.in_default.is) in
+    let cs = c.in-Ok.ensures ∙ ap (λ ts. map cable_of (views ts)) c.deref.ensures.value in
+    let ss = c.in-Ok-all_sinks.ensures ∙ ap (λ ts. map (sink_of d.version) (views ts)) c.deref-2.ensures.value in
+    let es = c.in-Ok-all_events.ensures ∙ ap (λ ts. map (event_of d.version) (views ts)) c.deref-3.ensures.value in
+    let check = same_check (contents_of d) c.deref-4.result.now c.deref-5.result.now c.deref-6.result.now c.in-Ok-check_names.checked (c.deref-4.ensures.value ∙ cs) (c.deref-5.ensures.value ∙ ss) (c.deref-6.ensures.value ∙ es) c.in-Ok-check_names.ensures in
+    let found = a_check (contents_of d) c.in-Some-checked.are_known (check ∙ c.in-Some-checked.is) in
+    let supplied = sym c.fails_somewhere.ensures ∙ c.if-fails_somewhere.false in
+    let later : Later g.row.N d = record { tables = k; single = found.single; supplied = supplied } in
+    let st = c.in-Ok-all_settings.ensures ∙ ap (λ ts. map settings_of (views ts)) c.deref-7.ensures.value in
+    let above = same_exceed (contents_of d) c.deref-9.result.now c.deref-8.result.now c.top_number-budget_mw.result c.least_budget-least_mw.result c.exceed.result (c.deref-9.ensures.value ∙ st) (c.deref-8.ensures.value ∙ es) c.top_number-budget_mw.ensures c.least_budget-least_mw.ensures c.exceed.ensures in
+    let last : Last g.row.N d = record { later = later; funded = above ∙ c.if-exceed.false; known = found.unknown ∙ ap not c.if-not-are_known.false } in
+    let many = same_limit g.row.N (contents_of d) c.deref-10.result.now c.deref-11.result.now c.deref-12.result.now c.deref-13.result.now c.exceeds_limit.result (c.deref-10.ensures.value ∙ st) (c.deref-11.ensures.value ∙ cs) (c.deref-12.ensures.value ∙ ss) (c.deref-13.ensures.value ∙ es) c.exceeds_limit.ensures in
+    let whole = same_contents (contents_of d) c.in-Ok-all_settings.settings.items c.in-Ok.cables.items c.in-Ok-all_sinks.sinks.items c.in-Ok-all_events.events.items c.top_number-budget_mw.result c.top_number-end_us.result st cs ss es c.top_number-budget_mw.ensures c.top_number-end_us.ensures in
+    (lit< tt, same_valid g.row.N (contents_of d) _ whole (valid g.row.N d c.requires.from_one c.requires.to_eight last (many ∙ c.if-exceeds_limit.false)))
+
+pub returns : goal.returns
+returns g c =
+    let d = seen c.args.self.now in
+    let k = clean g.row.N d (sym c.first_refusal.ensures ∙ c.in_default.is) in
+    let cs = c.in-Ok.ensures ∙ ap (λ ts. map cable_of (views ts)) c.deref.ensures.value in
+    let ss = c.in-Ok-all_sinks.ensures ∙ ap (λ ts. map (sink_of d.version) (views ts)) c.deref-2.ensures.value in
+    let es = c.in-Ok-all_events.ensures ∙ ap (λ ts. map (event_of d.version) (views ts)) c.deref-3.ensures.value in
+    let check = same_check (contents_of d) c.deref-4.result.now c.deref-5.result.now c.deref-6.result.now c.in-Ok-check_names.checked (c.deref-4.ensures.value ∙ cs) (c.deref-5.ensures.value ∙ ss) (c.deref-6.ensures.value ∙ es) c.in-Ok-check_names.ensures in
+    let found = a_check (contents_of d) c.in-Some-checked.are_known (check ∙ c.in-Some-checked.is) in
+    let supplied = sym c.fails_somewhere.ensures ∙ c.if-fails_somewhere.false in
+    let later : Later g.row.N d = record { tables = k; single = found.single; supplied = supplied } in
+    let st = c.in-Ok-all_settings.ensures ∙ ap (λ ts. map settings_of (views ts)) c.deref-7.ensures.value in
+    let above = same_exceed (contents_of d) c.deref-9.result.now c.deref-8.result.now c.top_number-budget_mw.result c.least_budget-least_mw.result c.exceed.result (c.deref-9.ensures.value ∙ st) (c.deref-8.ensures.value ∙ es) c.top_number-budget_mw.ensures c.least_budget-least_mw.ensures c.exceed.ensures in
+    let last : Last g.row.N d = record { later = later; funded = above ∙ c.if-exceed.false; known = found.unknown ∙ ap not c.if-not-are_known.false } in
+    let many = same_limit g.row.N (contents_of d) c.deref-10.result.now c.deref-11.result.now c.deref-12.result.now c.deref-13.result.now c.exceeds_limit.result (c.deref-10.ensures.value ∙ st) (c.deref-11.ensures.value ∙ cs) (c.deref-12.ensures.value ∙ ss) (c.deref-13.ensures.value ∙ es) c.exceeds_limit.ensures in
+    let whole = same_contents (contents_of d) c.in-Ok-all_settings.settings.items c.in-Ok.cables.items c.in-Ok-all_sinks.sinks.items c.in-Ok-all_events.events.items c.top_number-budget_mw.result c.top_number-end_us.result st cs ss es c.top_number-budget_mw.ensures c.top_number-end_us.ensures in
+    same_answer (refusal g.row.N d) (contents_of d) c.new.result (accepted g.row.N d last (many ∙ c.if-exceeds_limit.false)) (whole ∙ sym c.new.ensures)

@@ -1,0 +1,206 @@
+//! A file as its tables, and the refusals that apply to it.
+
+ghost use Rattle.std.specs.Prelude.{◌≡◌, ◌≤◌, pos, find, nat_lt, sum_by, IfOk};
+ghost use Rattle.toml.specs.View.{table_view};
+ghost use Rattle.pd_scenario.specs.Contents.{budget_of, least_budget};
+ghost use Rattle.pd_scenario_text.specs.Values.{small};
+ghost use Rattle.pd_scenario_text.specs.Tables.{value_at, whole_in};
+ghost use Rattle.pd_scenario_text.specs.Convert.{tables_of, contents_of};
+ghost use Rattle.pd_scenario_text.specs.Refusals.{fails_somewhere, table_refusals, refusal, exceed_limits};
+ghost use Rattle.pd_scenario_text.specs.Reading.{answered, Answers};
+
+use crate::convert::{all_cables, all_events, all_settings, all_sinks};
+use crate::distinct::check_names;
+use crate::fault::ScenarioFault;
+use crate::schema::{Key, TableKind, Version};
+use crate::tables::{fails, some_event_fails, some_fails, tables_at, version_at, whole_at};
+use crate::values::small;
+use pd_plan::Settings;
+use pd_scenario::{NamedCable, NamedSink, Scenario, ScenarioEvent, ScenarioHappening};
+use std::alloc::{AllocError, Global};
+use toml::Table;
+
+/// The most cables or sinks, and the most events.
+const MOST_NAMES: usize = 64;
+
+const MOST_EVENTS: usize = 4_096;
+
+/// The refusals that are those of single tables, up to the names.
+const TABLE_REFUSALS: [ScenarioFault; 5] = [
+    ScenarioFault::UnknownKey,
+    ScenarioFault::WrongType,
+    ScenarioFault::MissingKey,
+    ScenarioFault::Range,
+    ScenarioFault::Name,
+];
+
+/// The tables of a file.
+#[derive(Drop)]
+pub struct Document<'a> {
+    version: Version,
+    top: &'a Table,
+    ports: Vec<&'a Table>,
+    cables: Vec<&'a Table>,
+    sinks: Vec<&'a Table>,
+    events: Vec<&'a Table>,
+}
+
+impl<'a> Document<'a> {
+    ghost use Rattle.pd_scenario_text.specs.Document.{seen};
+
+    /// The tables of a file.
+    ///
+    /// # Errors
+    /// There is no memory.
+    pub fn new(alloc: Global, top: &'a Table) -> Result<Document<'a>, AllocError>
+        ensures { IfOk result (λ d. seen d ≡ tables_of (table_view top.now)) }
+    {
+        let version = version_at(top);
+        let ports = tables_at(alloc, top, Key::Port)?;
+        let cables = tables_at(alloc, top, Key::Cable)?;
+        let sinks = tables_at(alloc, top, Key::Sink)?;
+        let events = tables_at(alloc, top, Key::Event)?;
+        Ok(Document {
+            version,
+            top,
+            ports,
+            cables,
+            sinks,
+            events,
+        })
+    }
+
+    /// Whether a refusal applies to some table.
+    #[tactic(auto, unfolding(crate::specs::Refusals::fails_somewhere))]
+    fn fails_somewhere(&self, fault: ScenarioFault, ports: u64) -> bool
+        ensures { result ≡ fails_somewhere fault ports (seen self.now) }
+    {
+        fails(fault, self.version, ports, TableKind::Top, self.top)
+            || some_fails(fault, self.version, ports, TableKind::Port, &self.ports)
+            || some_fails(fault, self.version, ports, TableKind::Cable, &self.cables)
+            || some_fails(fault, self.version, ports, TableKind::Sink, &self.sinks)
+            || some_event_fails(fault, self.version, ports, &self.events)
+    }
+
+    /// The first refusal of single tables that applies, up to the names.
+    fn first_refusal(&self, ports: u64) -> Option<ScenarioFault>
+        ensures { result ≡ find (λ fault. fails_somewhere fault ports (seen self.now)) table_refusals }
+    {
+        TABLE_REFUSALS.iter().copied().find(
+            |fault| -> bool
+                ensures { result ≡ fails_somewhere fault.now ports (seen self.entry.now) }
+            { self.fails_somewhere(*fault, ports) },
+        )
+    }
+
+    /// The number at a key of the top.
+    fn top_number(&self, key: Key) -> u32
+        ensures { result ≡ small (whole_in (value_at key (seen self.now).top) (pos 0)) }
+    {
+        small(whole_at(self.top, key, 0))
+    }
+
+    /// The scenario of the tables, for N ports.
+    ///
+    /// # Errors
+    /// The first refusal that applies, or `Memory`.
+    pub fn scenario<const N: usize>(&self, alloc: Global) -> Result<Scenario<N>, ScenarioFault>
+        requires from_one { 1 ≤ N }
+        requires to_eight { N ≤ 8 }
+        ensures { Answers result (answered (refusal N (seen self.now)) (contents_of (seen self.now))) }
+    {
+        let ports = N as u64;
+        if let Some(fault) = self.first_refusal(ports) {
+            return Err(fault);
+        }
+        let Ok(cables) = all_cables(alloc, self.version, ports, &self.cables) else {
+            return Err(ScenarioFault::Memory);
+        };
+        let Ok(sinks) = all_sinks(alloc, self.version, ports, &self.sinks) else {
+            return Err(ScenarioFault::Memory);
+        };
+        let Ok(events) = all_events(alloc, self.version, ports, &self.events) else {
+            return Err(ScenarioFault::Memory);
+        };
+        let Ok(checked) = check_names(alloc, &cables, &sinks, &events) else {
+            return Err(ScenarioFault::Memory);
+        };
+        let Some(are_known) = checked else {
+            return Err(ScenarioFault::Duplicate);
+        };
+        if self.fails_somewhere(ScenarioFault::Supplies, ports) {
+            return Err(ScenarioFault::Supplies);
+        }
+        let Ok(settings) = all_settings(alloc, self.version, ports, &self.ports) else {
+            return Err(ScenarioFault::Memory);
+        };
+        let budget_mw = self.top_number(Key::Budget);
+        let end_us = self.top_number(Key::End);
+        let least_mw = least_budget(&events, budget_mw);
+        if exceed(&settings, least_mw) {
+            return Err(ScenarioFault::Floors);
+        }
+        if !are_known {
+            return Err(ScenarioFault::UnknownName);
+        }
+        if exceeds_limit(N, &settings, &cables, &sinks, &events) {
+            return Err(ScenarioFault::Limit);
+        }
+        Ok(Scenario::new(settings, cables, sinks, events, budget_mw, end_us))
+    }
+}
+
+/// The budget that an event changes to, in mW.
+fn budget_of(event: &ScenarioEvent) -> Option<u32>
+    ensures { result ≡ budget_of event.now }
+{
+    match &event.happening {
+        ScenarioHappening::OnPort { .. } => None,
+        ScenarioHappening::Budget { mw } => Some(*mw),
+    }
+}
+
+/// The least of a budget and its changes, in mW.
+fn least_budget(events: &[ScenarioEvent], budget_mw: u32) -> u32
+    ensures { result ≡ least_budget budget_mw events.now }
+{
+    let mut least = budget_mw;
+    for event in events {
+        if let Some(mw) = budget_of(event) {
+            least = least.min(mw);
+        }
+    }
+    least
+}
+
+/// Whether the floors add to more than a budget in mW.
+fn exceed(settings: &[Settings], budget_mw: u32) -> bool
+    ensures { result ≡ nat_lt budget_mw (sum_by (λ s. s.floor_mw) settings.now) }
+{
+    let mut left = budget_mw;
+    for port in settings {
+        let floor = port.floor_mw();
+        if floor > left {
+            return true;
+        }
+        left -= floor;
+    }
+    false
+}
+
+/// Whether there are other than so many ports, or more events, cables or sinks than may be.
+#[tactic(auto, unfolding(crate::specs::Refusals::exceed_limits))]
+fn exceeds_limit(
+    ports: usize,
+    settings: &[Settings],
+    cables: &[NamedCable],
+    sinks: &[NamedSink],
+    events: &[ScenarioEvent],
+) -> bool
+    ensures { result ≡ exceed_limits ports settings.now cables.now sinks.now events.now }
+{
+    settings.len() != ports
+        || events.len() > MOST_EVENTS
+        || cables.len() > MOST_NAMES
+        || sinks.len() > MOST_NAMES
+}

@@ -1,0 +1,92 @@
+//! Engines that are the same, and copies.
+
+ghost use Rattle.std.specs.Prelude.{◌≡◌, ◌↔◌, IsTrue};
+
+use super::Source;
+use crate::offer::{copied, same_supplies};
+use pd_objects::Contract;
+
+/// Whether all tests hold, with a return at the first that doesn't.
+macro_rules! all_of {
+    ($($test:expr;)*) => {{
+        $(if !$test {
+            return false;
+        })*
+        true
+    }};
+}
+
+fn same_number(number: Option<u32>, other: Option<u32>) -> bool
+    ensures { IsTrue result ↔ (number ≡ other) }
+{
+    number == other
+}
+
+fn same_contract(contract: Option<Contract>, other: Option<Contract>) -> bool
+    ensures { IsTrue result ↔ (contract ≡ other) }
+{
+    contract == other
+}
+
+fn same_currents(currents: &[u32], others: &[u32]) -> bool
+    ensures { IsTrue result ↔ (currents.now ≡ others.now) }
+{
+    currents == others
+}
+
+impl Source {
+    /// Whether both keep the same, settings included.
+    pub fn same(&self, other: &Source) -> bool
+        ensures { IsTrue result ↔ (self.now ≡ other.now) }
+    {
+        same_supplies(self.supplies.as_slice(), other.supplies.as_slice())
+            && self.identity_tries == other.identity_tries
+            && self.unconstrained == other.unconstrained
+            && self.same_record(other)
+    }
+
+    /// Whether both are in the same record, whatever their settings.
+    pub fn same_record(&self, other: &Source) -> bool
+        ensures { IsTrue result ↔ (self.now.record ≡ other.now.record) }
+    {
+        all_of! {
+            self.state == other.state;
+            self.deadlines.same(&other.deadlines);
+            self.caps_counter == other.caps_counter;
+            self.discover_identity_counter == other.discover_identity_counter;
+            self.hard_reset_counter == other.hard_reset_counter;
+            same_number(self.limit, other.limit);
+            self.sent == other.sent;
+            self.revision == other.revision;
+            same_number(self.kept_request, other.kept_request);
+            same_number(self.accepted_request, other.accepted_request);
+            same_currents(self.draft_offer.as_slice(), other.draft_offer.as_slice());
+            same_currents(self.delivered_offer.as_slice(), other.delivered_offer.as_slice());
+            same_contract(self.contract, other.contract);
+        }
+    }
+
+    /// The same settings and record.
+    pub fn copy(&self) -> Source
+        ensures { result ≡ self.now }
+    {
+        Source {
+            supplies: copied(self.supplies.as_slice()),
+            identity_tries: self.identity_tries,
+            unconstrained: self.unconstrained,
+            state: self.state,
+            deadlines: self.deadlines.copy(),
+            caps_counter: self.caps_counter,
+            discover_identity_counter: self.discover_identity_counter,
+            hard_reset_counter: self.hard_reset_counter,
+            limit: self.limit,
+            sent: self.sent,
+            revision: self.revision,
+            kept_request: self.kept_request,
+            accepted_request: self.accepted_request,
+            draft_offer: copied(self.draft_offer.as_slice()),
+            delivered_offer: copied(self.delivered_offer.as_slice()),
+            contract: self.contract,
+        }
+    }
+}
