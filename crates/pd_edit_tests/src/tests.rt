@@ -1,5 +1,5 @@
 use pd_edit::apply;
-use pd_edit_lines::{Edit, EditFault, EditHappening, EditKind, Line};
+use pd_edit_lines::Line;
 use pd_scenario::{Scenario, first};
 use std::alloc::Global;
 use std::test::*;
@@ -39,13 +39,16 @@ fn same(rt: HostRuntime, scenario: &Scenario<1>, other: &Scenario<1>) -> Result<
 /// Each line on the scenario `first`.
 #[test]
 fn lines_are_answered(rt: HostRuntime) -> Result<(), Fail> {
-    let cases: [(&[u8], u8); 58] = [
+    let cases: [(&[u8], u8); 61] = [
         (b"", 1),
         (b"    ", 1),
         (b"# remove 1", 1),
         (b"show transcript 1", 2),
-        (b"show contracts", 20),
-        (b"insert 2 5 budget 50000", 20),
+        (b"show contracts", 2),
+        (b"show faults", 2),
+        (b"show margins", 2),
+        (b"show margins 1", 20),
+        (b"insert 2 5 budget 50000", 0),
         (b"insert 7 0 1 budget 9000", 20),
         (b"mvoe 1 5", 20),
         (b" # remove 1", 20),
@@ -185,37 +188,29 @@ fn too_many_cables(rt: HostRuntime) -> Result<(), Fail> {
     Ok(())
 }
 
-/// An event that changes the budget.
-fn budget_at(id: u64, at: u64, mw: u64) -> Edit {
-    let happening = EditHappening::Budget { mw };
-    Edit::Insert { id, at, happening }
-}
-
-/// Timed changes of the budget, which no line makes yet.
+/// Timed changes of the budget.
 #[test]
 fn timed_budgets(rt: HostRuntime) -> Result<(), Fail> {
-    let scenario = first(rt.alloc())?;
-    let scenario = apply(rt.alloc(), &scenario, &budget_at(4, 500_000, 25_000))?;
-    let scenario = apply(rt.alloc(), &scenario, &budget_at(5, 600_000, 50_000))?;
-    let refused = apply(rt.alloc(), &scenario, &budget_at(6, 700_000, 2_499)).err();
-    assert_eq!(rt; refused, Some(EditFault::Floors));
-    let refused = apply(rt.alloc(), &scenario, &budget_at(6, 700_000, 499)).err();
-    assert_eq!(rt; refused, Some(EditFault::Range));
-    let refused = apply(rt.alloc(), &scenario, &budget_at(4, 0, 9_000)).err();
-    assert_eq!(rt; refused, Some(EditFault::IdTaken));
-    let change = Edit::Change {
-        id: 4,
-        kind: EditKind::Detach,
-    };
-    let refused = apply(rt.alloc(), &scenario, &change).err();
-    assert_eq!(rt; refused, Some(EditFault::NoSuchPort));
-    let (scenario, number) = answer(rt.alloc(), scenario, b"floor 1 25001");
-    assert_eq!(rt; number, 28);
-    let (scenario, number) = answer(rt.alloc(), scenario, b"floor 1 25000");
-    assert_eq!(rt; number, 0);
-    let (scenario, number) = answer(rt.alloc(), scenario, b"move 4 120000000");
-    assert_eq!(rt; number, 0);
-    assert_eq!(rt; scenario.force(600_000), 50_000_000);
+    let lines: [(&[u8], u8); 11] = [
+        (b"insert 4 500000 budget 25000", 0),
+        (b"insert 5 600000 budget 50000", 0),
+        (b"insert 6 700000 budget 2499", 28),
+        (b"insert 6 700000 budget 499", 26),
+        (b"insert 4 0 budget 9000", 21),
+        (b"change 4 detach", 23),
+        (b"insert 7 0 1 budget 9000", 20),
+        (b"floor 1 25001", 28),
+        (b"floor 1 25000", 0),
+        (b"move 4 120000000", 0),
+        (b"remove 5", 0),
+    ];
+    let mut scenario = first(rt.alloc())?;
+    for (line, number) in lines {
+        let (edited, answered) = answer(rt.alloc(), scenario, line);
+        assert_eq!(rt; answered, number, "{line:?}");
+        scenario = edited;
+    }
+    assert_eq!(rt; scenario.force(600_000), 60_000_000);
     assert_eq!(rt; scenario.force(120_000_000), 25_000_000);
     Ok(())
 }
