@@ -17,15 +17,15 @@ use pd_edit_lines::{Edit, EditFault, EditHappening, EditKind, WrittenSupply};
 use pd_identity::CablePlug;
 use pd_scenario::{Name, NamedCable, NamedSink, Scenario};
 use pd_sink::{SinkMode, SinkRevision};
-use std::alloc::{AllocError, Global};
+use std::alloc::{AllocError, Allocator};
 
-fn insert<const N: usize>(
-    alloc: Global,
-    scenario: &Scenario<N>,
+fn insert<const N: usize, A: Allocator + Copy>(
+    alloc: A,
+    scenario: &Scenario<N, A>,
     id: u64,
     at: u64,
     happening: &EditHappening,
-) -> Result<Scenario<N>, AllocError>
+) -> Result<Scenario<N, A>, AllocError>
     requires { IsAccepted N scenario.now (edits.Insert id at happening.now) }
     ensures { IfOk result (λ s. s ≡ outcome scenario.now (edits.Insert id at happening.now)) }
 {
@@ -35,11 +35,11 @@ fn insert<const N: usize>(
     scenario.with_events(alloc, edited)
 }
 
-fn remove<const N: usize>(
-    alloc: Global,
-    scenario: &Scenario<N>,
+fn remove<const N: usize, A: Allocator + Copy>(
+    alloc: A,
+    scenario: &Scenario<N, A>,
     id: u64,
-) -> Result<Scenario<N>, AllocError>
+) -> Result<Scenario<N, A>, AllocError>
     requires { IsAccepted N scenario.now (edits.Remove id) }
     ensures { IfOk result (λ s. s ≡ outcome scenario.now (edits.Remove id)) }
 {
@@ -48,12 +48,12 @@ fn remove<const N: usize>(
     scenario.with_events(alloc, edited)
 }
 
-fn move_event<const N: usize>(
-    alloc: Global,
-    scenario: &Scenario<N>,
+fn move_event<const N: usize, A: Allocator + Copy>(
+    alloc: A,
+    scenario: &Scenario<N, A>,
     id: u64,
     at: u64,
-) -> Result<Scenario<N>, AllocError>
+) -> Result<Scenario<N, A>, AllocError>
     requires { IsAccepted N scenario.now (edits.Move id at) }
     ensures { IfOk result (λ s. s ≡ outcome scenario.now (edits.Move id at)) }
 {
@@ -62,12 +62,12 @@ fn move_event<const N: usize>(
     scenario.with_events(alloc, edited)
 }
 
-fn change<const N: usize>(
-    alloc: Global,
-    scenario: &Scenario<N>,
+fn change<const N: usize, A: Allocator + Copy>(
+    alloc: A,
+    scenario: &Scenario<N, A>,
     id: u64,
     kind: &EditKind,
-) -> Result<Scenario<N>, AllocError>
+) -> Result<Scenario<N, A>, AllocError>
     requires { IsAccepted N scenario.now (edits.Change id kind.now) }
     ensures { IfOk result (λ s. s ≡ outcome scenario.now (edits.Change id kind.now)) }
 {
@@ -77,11 +77,11 @@ fn change<const N: usize>(
 }
 
 /// The cables of a scenario with a new one, or with another in place of the one of its name.
-fn put_cable<const N: usize>(
-    alloc: Global,
-    scenario: &Scenario<N>,
+fn put_cable<const N: usize, A: Allocator + Copy>(
+    alloc: A,
+    scenario: &Scenario<N, A>,
     cable: NamedCable,
-) -> Result<Vec<NamedCable>, AllocError>
+) -> Result<Vec<NamedCable, A>, AllocError>
     ensures { IfOk result (λ v. v.items ≡ with_cable cable scenario.now.cables) }
 {
     let cables = scenario.cables();
@@ -92,13 +92,13 @@ fn put_cable<const N: usize>(
     }
 }
 
-fn cable<const N: usize>(
-    alloc: Global,
-    scenario: &Scenario<N>,
+fn cable<const N: usize, A: Allocator + Copy>(
+    alloc: A,
+    scenario: &Scenario<N, A>,
     name: &Name,
     plug: CablePlug,
     rating: u64,
-) -> Result<Scenario<N>, AllocError>
+) -> Result<Scenario<N, A>, AllocError>
     requires { IsAccepted N scenario.now (edits.Cable name.now plug rating) }
     ensures { IfOk result (λ s. s ≡ outcome scenario.now (edits.Cable name.now plug rating)) }
 {
@@ -109,11 +109,11 @@ fn cable<const N: usize>(
     scenario.with_cables(alloc, edited)
 }
 
-fn drop_cable<const N: usize>(
-    alloc: Global,
-    scenario: &Scenario<N>,
+fn drop_cable<const N: usize, A: Allocator + Copy>(
+    alloc: A,
+    scenario: &Scenario<N, A>,
     name: &Name,
-) -> Result<Scenario<N>, AllocError>
+) -> Result<Scenario<N, A>, AllocError>
     requires { IsAccepted N scenario.now (edits.DropCable name.now) }
     ensures { IfOk result (λ s. s ≡ outcome scenario.now (edits.DropCable name.now)) }
 {
@@ -123,11 +123,11 @@ fn drop_cable<const N: usize>(
 }
 
 /// The sinks of a scenario with a new one, or with another in place of the one of its name.
-fn put_sink<const N: usize>(
-    alloc: Global,
-    scenario: &Scenario<N>,
+fn put_sink<const N: usize, A: Allocator + Copy>(
+    alloc: A,
+    scenario: &Scenario<N, A>,
     sink: NamedSink,
-) -> Result<Vec<NamedSink>, AllocError>
+) -> Result<Vec<NamedSink, A>, AllocError>
     ensures { IfOk result (λ v. v.items ≡ with_sink sink scenario.now.sinks) }
 {
     let sinks = scenario.sinks();
@@ -138,15 +138,15 @@ fn put_sink<const N: usize>(
     }
 }
 
-fn sink<const N: usize>(
-    alloc: Global,
-    scenario: &Scenario<N>,
+fn sink<const N: usize, A: Allocator + Copy>(
+    alloc: A,
+    scenario: &Scenario<N, A>,
     name: &Name,
     max_mv: u64,
     demand_mw: u64,
     mode: SinkMode,
     revision: SinkRevision,
-) -> Result<Scenario<N>, AllocError>
+) -> Result<Scenario<N, A>, AllocError>
     requires { IsAccepted N scenario.now (edits.Sink name.now max_mv demand_mw mode revision) }
     ensures { IfOk result (λ s. s ≡ outcome scenario.now (edits.Sink name.now max_mv demand_mw mode revision)) }
 {
@@ -157,11 +157,11 @@ fn sink<const N: usize>(
     scenario.with_sinks(alloc, edited)
 }
 
-fn drop_sink<const N: usize>(
-    alloc: Global,
-    scenario: &Scenario<N>,
+fn drop_sink<const N: usize, A: Allocator + Copy>(
+    alloc: A,
+    scenario: &Scenario<N, A>,
     name: &Name,
-) -> Result<Scenario<N>, AllocError>
+) -> Result<Scenario<N, A>, AllocError>
     requires { IsAccepted N scenario.now (edits.DropSink name.now) }
     ensures { IfOk result (λ s. s ≡ outcome scenario.now (edits.DropSink name.now)) }
 {
@@ -170,12 +170,12 @@ fn drop_sink<const N: usize>(
     scenario.with_sinks(alloc, edited)
 }
 
-fn caps<const N: usize>(
-    alloc: Global,
-    scenario: &Scenario<N>,
+fn caps<const N: usize, A: Allocator + Copy>(
+    alloc: A,
+    scenario: &Scenario<N, A>,
     port: u64,
     supplies: &ArrayVec<WrittenSupply, 7>,
-) -> Result<Scenario<N>, AllocError>
+) -> Result<Scenario<N, A>, AllocError>
     requires { IsAccepted N scenario.now (edits.Caps port supplies.now) }
     ensures { IfOk result (λ s. s ≡ outcome scenario.now (edits.Caps port supplies.now)) }
 {
@@ -185,12 +185,12 @@ fn caps<const N: usize>(
     scenario.with_settings(alloc, edited)
 }
 
-fn floor<const N: usize>(
-    alloc: Global,
-    scenario: &Scenario<N>,
+fn floor<const N: usize, A: Allocator + Copy>(
+    alloc: A,
+    scenario: &Scenario<N, A>,
     port: u64,
     mw: u64,
-) -> Result<Scenario<N>, AllocError>
+) -> Result<Scenario<N, A>, AllocError>
     requires { IsAccepted N scenario.now (edits.Floor port mw) }
     ensures { IfOk result (λ s. s ≡ outcome scenario.now (edits.Floor port mw)) }
 {
@@ -199,11 +199,11 @@ fn floor<const N: usize>(
     scenario.with_settings(alloc, edited)
 }
 
-fn budget<const N: usize>(
-    alloc: Global,
-    scenario: &Scenario<N>,
+fn budget<const N: usize, A: Allocator + Copy>(
+    alloc: A,
+    scenario: &Scenario<N, A>,
     mw: u64,
-) -> Result<Scenario<N>, AllocError>
+) -> Result<Scenario<N, A>, AllocError>
     requires { IsAccepted N scenario.now (edits.Budget mw) }
     ensures { IfOk result (λ s. s ≡ outcome scenario.now (edits.Budget mw)) }
 {
@@ -211,11 +211,11 @@ fn budget<const N: usize>(
     scenario.with_numbers(alloc, mw as u32, scenario.end_us())
 }
 
-fn end<const N: usize>(
-    alloc: Global,
-    scenario: &Scenario<N>,
+fn end<const N: usize, A: Allocator + Copy>(
+    alloc: A,
+    scenario: &Scenario<N, A>,
     at: u64,
-) -> Result<Scenario<N>, AllocError>
+) -> Result<Scenario<N, A>, AllocError>
     requires { IsAccepted N scenario.now (edits.End at) }
     ensures { IfOk result (λ s. s ≡ outcome scenario.now (edits.End at)) }
 {
@@ -224,11 +224,11 @@ fn end<const N: usize>(
 }
 
 /// The scenario after an edit for which no refusal applies.
-fn edited<const N: usize>(
-    alloc: Global,
-    scenario: &Scenario<N>,
+fn edited<const N: usize, A: Allocator + Copy>(
+    alloc: A,
+    scenario: &Scenario<N, A>,
     edit: &Edit,
-) -> Result<Scenario<N>, AllocError>
+) -> Result<Scenario<N, A>, AllocError>
     requires { IsAccepted N scenario.now edit.now }
     ensures { IfOk result (λ s. s ≡ outcome scenario.now edit.now) }
 {
@@ -258,11 +258,11 @@ fn edited<const N: usize>(
 ///
 /// # Errors
 /// The first of the refusals that applies, or `Memory` where none applies and there is no memory.
-pub fn apply<const N: usize>(
-    alloc: Global,
-    scenario: &Scenario<N>,
+pub fn apply<const N: usize, A: Allocator + Copy>(
+    alloc: A,
+    scenario: &Scenario<N, A>,
     edit: &Edit,
-) -> Result<Scenario<N>, EditFault>
+) -> Result<Scenario<N, A>, EditFault>
     ensures { Applies result (edited N scenario.now edit.now) }
 {
     if let Some(fault) = first_refusal(scenario, edit) {

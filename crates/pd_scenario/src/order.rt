@@ -10,7 +10,7 @@ ghost use Rattle.pd_scenario.specs.Script.{resolved, event_for, script};
 use crate::scenario::{cable_named, sink_named};
 use crate::{NamedCable, NamedSink, ScenarioEvent, ScenarioEventKind, ScenarioHappening};
 use pd_plan::{Event, EventKind, Happening};
-use std::alloc::{AllocError, Global};
+use std::alloc::{AllocError, Allocator};
 use std::collections::BTreeMap;
 
 /// What an event does, with the cable and the sink in place of their names.
@@ -72,14 +72,14 @@ fn place_of(event: &Event) -> (u64, u32)
 ///
 /// # Errors
 /// There is no memory.
-pub fn script(
-    alloc: Global,
+pub fn script<A: Allocator + Copy>(
+    alloc: A,
     cables: &[NamedCable],
     sinks: &[NamedSink],
     events: &[ScenarioEvent],
     ports: usize,
     port: usize,
-) -> Result<Vec<Event>, AllocError>
+) -> Result<Vec<Event, A>, AllocError>
     requires fit { list_all (event_fits ports) events.now ≡ true }
     requires known { list_all (λ e. names_are_known cables.now sinks.now e.happening) events.now ≡ true }
     ensures { IfOk result (λ v. v.items ≡ script cables.now sinks.now events.now port) }
@@ -93,7 +93,10 @@ pub fn script(
     values_of(alloc, ordered)
 }
 
-fn values_of(alloc: Global, ordered: BTreeMap<(u64, u32), Event>) -> Result<Vec<Event>, AllocError>
+fn values_of<A: Allocator>(
+    alloc: A,
+    ordered: BTreeMap<(u64, u32), Event, A>,
+) -> Result<Vec<Event, A>, AllocError>
     ensures { IfOk result (λ v. v.items ≡ values ordered) }
 {
     ordered.into_values().collect(alloc)

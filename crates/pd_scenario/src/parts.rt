@@ -5,17 +5,17 @@ ghost use Rattle.pd_scenario.specs.Contents.{IsValid};
 
 use crate::{NamedCable, NamedSink, Scenario, ScenarioEvent};
 use pd_plan::Settings;
-use std::alloc::{AllocError, Global};
+use std::alloc::{AllocError, Allocator};
 
-impl<const N: usize> Scenario<N> {
+impl<const N: usize, A: Allocator + Copy> Scenario<N, A> {
     /// The scenario with other lists.
     fn with_lists(
         &self,
-        settings: Vec<Settings>,
-        cables: Vec<NamedCable>,
-        sinks: Vec<NamedSink>,
-        events: Vec<ScenarioEvent>,
-    ) -> Scenario<N>
+        settings: Vec<Settings, A>,
+        cables: Vec<NamedCable, A>,
+        sinks: Vec<NamedSink, A>,
+        events: Vec<ScenarioEvent, A>,
+    ) -> Scenario<N, A>
         requires { IsValid N (record self.now { settings = settings.items; cables = cables.items; sinks = sinks.items; events = events.items }) }
         ensures { result ≡ record self.now { settings = settings.items; cables = cables.items; sinks = sinks.items; events = events.items } }
     {
@@ -29,9 +29,9 @@ impl<const N: usize> Scenario<N> {
     /// There is no memory.
     pub fn with_settings(
         &self,
-        alloc: Global,
-        settings: Vec<Settings>,
-    ) -> Result<Scenario<N>, AllocError>
+        alloc: A,
+        settings: Vec<Settings, A>,
+    ) -> Result<Scenario<N, A>, AllocError>
         requires { IsValid N (record self.now { settings = settings.items }) }
         ensures { IfOk result (λ s. s ≡ record self.now { settings = settings.items }) }
     {
@@ -49,9 +49,9 @@ impl<const N: usize> Scenario<N> {
     /// There is no memory.
     pub fn with_cables(
         &self,
-        alloc: Global,
-        cables: Vec<NamedCable>,
-    ) -> Result<Scenario<N>, AllocError>
+        alloc: A,
+        cables: Vec<NamedCable, A>,
+    ) -> Result<Scenario<N, A>, AllocError>
         requires { IsValid N (record self.now { cables = cables.items }) }
         ensures { IfOk result (λ s. s ≡ record self.now { cables = cables.items }) }
     {
@@ -69,9 +69,9 @@ impl<const N: usize> Scenario<N> {
     /// There is no memory.
     pub fn with_sinks(
         &self,
-        alloc: Global,
-        sinks: Vec<NamedSink>,
-    ) -> Result<Scenario<N>, AllocError>
+        alloc: A,
+        sinks: Vec<NamedSink, A>,
+    ) -> Result<Scenario<N, A>, AllocError>
         requires { IsValid N (record self.now { sinks = sinks.items }) }
         ensures { IfOk result (λ s. s ≡ record self.now { sinks = sinks.items }) }
     {
@@ -89,9 +89,9 @@ impl<const N: usize> Scenario<N> {
     /// There is no memory.
     pub fn with_events(
         &self,
-        alloc: Global,
-        events: Vec<ScenarioEvent>,
-    ) -> Result<Scenario<N>, AllocError>
+        alloc: A,
+        events: Vec<ScenarioEvent, A>,
+    ) -> Result<Scenario<N, A>, AllocError>
         requires { IsValid N (record self.now { events = events.items }) }
         ensures { IfOk result (λ s. s ≡ record self.now { events = events.items }) }
     {
@@ -109,10 +109,10 @@ impl<const N: usize> Scenario<N> {
     /// There is no memory.
     pub fn with_numbers(
         &self,
-        alloc: Global,
+        alloc: A,
         budget_mw: u32,
         end_us: u32,
-    ) -> Result<Scenario<N>, AllocError>
+    ) -> Result<Scenario<N, A>, AllocError>
         requires { IsValid N (record self.now { budget_mw = budget_mw; end_us = end_us }) }
         ensures { IfOk result (λ s. s ≡ record self.now { budget_mw = budget_mw; end_us = end_us }) }
     {
@@ -124,10 +124,10 @@ impl<const N: usize> Scenario<N> {
     }
 }
 
-pub(crate) fn copy_settings(
-    alloc: Global,
+pub(crate) fn copy_settings<A: Allocator>(
+    alloc: A,
     settings: &[Settings],
-) -> Result<Vec<Settings>, AllocError>
+) -> Result<Vec<Settings, A>, AllocError>
     ensures { IfOk result (λ v. v.items ≡ settings.now) }
 {
     let mut copies = Vec::new(alloc);
@@ -137,10 +137,10 @@ pub(crate) fn copy_settings(
     Ok(copies)
 }
 
-pub(crate) fn copy_cables(
-    alloc: Global,
+pub(crate) fn copy_cables<A: Allocator>(
+    alloc: A,
     cables: &[NamedCable],
-) -> Result<Vec<NamedCable>, AllocError>
+) -> Result<Vec<NamedCable, A>, AllocError>
     ensures { IfOk result (λ v. v.items ≡ cables.now) }
 {
     let mut copies = Vec::new(alloc);
@@ -150,7 +150,7 @@ pub(crate) fn copy_cables(
     Ok(copies)
 }
 
-pub(crate) fn copy_sinks(alloc: Global, sinks: &[NamedSink]) -> Result<Vec<NamedSink>, AllocError>
+pub(crate) fn copy_sinks<A: Allocator>(alloc: A, sinks: &[NamedSink]) -> Result<Vec<NamedSink, A>, AllocError>
     ensures { IfOk result (λ v. v.items ≡ sinks.now) }
 {
     let mut copies = Vec::new(alloc);
@@ -160,10 +160,10 @@ pub(crate) fn copy_sinks(alloc: Global, sinks: &[NamedSink]) -> Result<Vec<Named
     Ok(copies)
 }
 
-pub(crate) fn copy_events(
-    alloc: Global,
+pub(crate) fn copy_events<A: Allocator>(
+    alloc: A,
     events: &[ScenarioEvent],
-) -> Result<Vec<ScenarioEvent>, AllocError>
+) -> Result<Vec<ScenarioEvent, A>, AllocError>
     ensures { IfOk result (λ v. v.items ≡ events.now) }
 {
     let mut copies = Vec::new(alloc);

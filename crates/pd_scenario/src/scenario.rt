@@ -12,7 +12,7 @@ use crate::{Name, NamedCable, NamedSink, ScenarioEvent};
 use pd_identity::Cable;
 use pd_plan::{Event, Settings};
 use pd_sink::SinkSettings;
-use std::alloc::{AllocError, Global};
+use std::alloc::{AllocError, Allocator, Global};
 use std::marker::Model;
 
 /// What the ports of a charger are set to, with cables, sinks and events, the budget that the ports share, and the
@@ -20,16 +20,16 @@ use std::marker::Model;
 /// 64 sinks and 4,096 events; numbers within their limits; events with names that are there; floors that add to no more
 /// than the least of the budget and its changes.
 #[derive(Drop)]
-pub struct Scenario<const N: usize> {
-    settings: Vec<Settings>,
-    cables: Vec<NamedCable>,
-    sinks: Vec<NamedSink>,
-    events: Vec<ScenarioEvent>,
+pub struct Scenario<const N: usize, A: Allocator = Global> {
+    settings: Vec<Settings, A>,
+    cables: Vec<NamedCable, A>,
+    sinks: Vec<NamedSink, A>,
+    events: Vec<ScenarioEvent, A>,
     budget_mw: u32,
     end_us: u32,
 }
 
-impl<const N: usize> Model for Scenario<N> {
+impl<const N: usize, A: Allocator> Model for Scenario<N, A> {
     ghost use Rattle.pd_scenario.specs.Contents.{Contents, IsValid};
 
     ghost Value = { Contents };
@@ -53,16 +53,16 @@ impl<const N: usize> Model for Scenario<N> {
     }) };
 }
 
-impl<const N: usize> Scenario<N> {
+impl<const N: usize, A: Allocator> Scenario<N, A> {
     /// The scenario of these parts: a budget in mW and an end in microseconds.
     pub fn new(
-        settings: Vec<Settings>,
-        cables: Vec<NamedCable>,
-        sinks: Vec<NamedSink>,
-        events: Vec<ScenarioEvent>,
+        settings: Vec<Settings, A>,
+        cables: Vec<NamedCable, A>,
+        sinks: Vec<NamedSink, A>,
+        events: Vec<ScenarioEvent, A>,
         budget_mw: u32,
         end_us: u32,
-    ) -> Scenario<N>
+    ) -> Scenario<N, A>
         requires { IsValid N (record { settings = settings.items; cables = cables.items; sinks = sinks.items; events = events.items; budget_mw = budget_mw; end_us = end_us }) }
         ensures { result ≡ record { settings = settings.items; cables = cables.items; sinks = sinks.items; events = events.items; budget_mw = budget_mw; end_us = end_us } }
     {
@@ -81,14 +81,16 @@ impl<const N: usize> Scenario<N> {
     /// # Errors
     /// There is no memory.
     pub fn of(
-        alloc: Global,
+        alloc: A,
         settings: &[Settings],
         cables: &[NamedCable],
         sinks: &[NamedSink],
         events: &[ScenarioEvent],
         budget_mw: u32,
         end_us: u32,
-    ) -> Result<Scenario<N>, AllocError>
+    ) -> Result<Scenario<N, A>, AllocError>
+    where
+        A: Copy,
         requires { IsValid N (record { settings = settings.now; cables = cables.now; sinks = sinks.now; events = events.now; budget_mw = budget_mw; end_us = end_us }) }
         ensures { IfOk result (λ s. s ≡ record { settings = settings.now; cables = cables.now; sinks = sinks.now; events = events.now; budget_mw = budget_mw; end_us = end_us }) }
     {
@@ -116,7 +118,11 @@ impl<const N: usize> Scenario<N> {
     /// # Errors
     /// There is no memory.
     #[tactic(auto, unfolding(crate::specs::Plans::plan_of))]
-    pub fn script(&self, alloc: Global, port: usize) -> Result<Vec<Event>, AllocError>
+    pub fn script<B: Allocator + Copy>(
+        &self,
+        alloc: B,
+        port: usize,
+    ) -> Result<Vec<Event, B>, AllocError>
         requires from_one { 1 ≤ port }
         requires to_n { port ≤ N }
         ensures value { IfOk result (λ v. v.items ≡ script_of (plan_of self.now) (port - 1)) }
@@ -139,7 +145,7 @@ impl<const N: usize> Scenario<N> {
     /// # Errors
     /// There is no memory.
     #[tactic(auto, unfolding(crate::specs::Plans::plan_of))]
-    pub fn forces(&self, alloc: Global) -> Result<Vec<BudgetChange>, AllocError>
+    pub fn forces<B: Allocator>(&self, alloc: B) -> Result<Vec<BudgetChange, B>, AllocError>
         ensures value { IfOk result (λ v. v.items ≡ (plan_of self.now).forces) }
         ensures is_plan { IsPlan N (plan_of self.now) }
     {
@@ -257,7 +263,10 @@ pub(crate) fn sink_named(sinks: &[NamedSink], name: &Name) -> Option<SinkSetting
         .map(|sink| sink.sink)
 }
 
-fn changes_of(alloc: Global, events: &[ScenarioEvent]) -> Result<Vec<BudgetChange>, AllocError>
+fn changes_of<A: Allocator>(
+    alloc: A,
+    events: &[ScenarioEvent],
+) -> Result<Vec<BudgetChange, A>, AllocError>
     ensures { IfOk result (λ v. v.items ≡ changes_of events.now) }
 {
     let mut changes = Vec::new(alloc);
