@@ -150,7 +150,10 @@ pub(crate) fn copy_cables<A: Allocator>(
     Ok(copies)
 }
 
-pub(crate) fn copy_sinks<A: Allocator>(alloc: A, sinks: &[NamedSink]) -> Result<Vec<NamedSink, A>, AllocError>
+pub(crate) fn copy_sinks<A: Allocator>(
+    alloc: A,
+    sinks: &[NamedSink],
+) -> Result<Vec<NamedSink, A>, AllocError>
     ensures { IfOk result (λ v. v.items ≡ sinks.now) }
 {
     let mut copies = Vec::new(alloc);

@@ -9,7 +9,7 @@ use Rattle.pd_scenario.proofs.order.script.Goals as goal
 use Rattle.pd_scenario.proofs.order.script.Goals.{in-Some+in_ok-insert, in_default}
 
 pub loop-event-preserved : goal.loop-event-preserved
-loop-event-preserved c =
+loop-event-preserved g c =
     let for_port = event_for c.args.cables.now c.args.sinks.now c.args.port in
     let more = filter_map-more for_port c.args.events.now c.loop-event.event-index c.event-item.result c.loop-event-test.true c.event-item.is in
     elim c.match-event_for.branch [
@@ -21,7 +21,7 @@ loop-event-preserved c =
 
 pub returns : goal.returns
 unfolding script
-returns c =
+returns g c =
     let all : take c.loop-event.event-index c.args.events.now ≡ c.args.events.now = let n : c.loop-event.event-index ≡ length c.args.events.now = omega arith in rw (n, take-length) in
     let for_port = event_for c.args.cables.now c.args.sinks.now c.args.port in
     let part = fold put [] (filter_map for_port (take c.loop-event.event-index c.args.events.now)) in
