@@ -10,14 +10,14 @@ use pd_edit_lines::EditKind;
 use pd_objects::Supply;
 use pd_plan::Settings;
 use pd_scenario::{Name, NamedCable, NamedSink, ScenarioEvent};
-use std::alloc::{AllocError, Allocator};
+use std::alloc::{AllocError, Global};
 
 /// The events and one more.
-pub(crate) fn with_event<A: Allocator>(
-    alloc: A,
+pub(crate) fn with_event(
+    alloc: Global,
     events: &[ScenarioEvent],
     event: ScenarioEvent,
-) -> Result<Vec<ScenarioEvent, A>, AllocError>
+) -> Result<Vec<ScenarioEvent>, AllocError>
     ensures { IfOk result (λ v. v.items ≡ events.now ++ event ∷ []) }
 {
     let mut copies = Vec::new(alloc);
@@ -29,11 +29,11 @@ pub(crate) fn with_event<A: Allocator>(
 }
 
 /// The events without the one of an id.
-pub(crate) fn without_event<A: Allocator>(
-    alloc: A,
+pub(crate) fn without_event(
+    alloc: Global,
     events: &[ScenarioEvent],
     id: u64,
-) -> Result<Vec<ScenarioEvent, A>, AllocError>
+) -> Result<Vec<ScenarioEvent>, AllocError>
     ensures { IfOk result (λ v. v.items ≡ filter (λ e. not (e.id == id)) events.now) }
 {
     let mut others = Vec::new(alloc);
@@ -46,12 +46,12 @@ pub(crate) fn without_event<A: Allocator>(
 }
 
 /// The events with the one of an id at another time, in microseconds.
-pub(crate) fn with_time<A: Allocator>(
-    alloc: A,
+pub(crate) fn with_time(
+    alloc: Global,
     events: &[ScenarioEvent],
     id: u64,
     at: u32,
-) -> Result<Vec<ScenarioEvent, A>, AllocError>
+) -> Result<Vec<ScenarioEvent>, AllocError>
     ensures { IfOk result (λ v. v.items ≡ map (moved_event id at) events.now) }
 {
     let mut copies = Vec::new(alloc);
@@ -66,12 +66,12 @@ pub(crate) fn with_time<A: Allocator>(
 }
 
 /// The events with another kind of the one of an id.
-pub(crate) fn with_kind<A: Allocator>(
-    alloc: A,
+pub(crate) fn with_kind(
+    alloc: Global,
     events: &[ScenarioEvent],
     id: u64,
     kind: &EditKind,
-) -> Result<Vec<ScenarioEvent, A>, AllocError>
+) -> Result<Vec<ScenarioEvent>, AllocError>
     requires { kind_in_range kind.now ≡ true }
     ensures { IfOk result (λ v. v.items ≡ map (changed_event id (event_kind_of kind.now)) events.now) }
 {
@@ -83,11 +83,11 @@ pub(crate) fn with_kind<A: Allocator>(
 }
 
 /// The cables and one more.
-pub(crate) fn with_new_cable<A: Allocator>(
-    alloc: A,
+pub(crate) fn with_new_cable(
+    alloc: Global,
     cables: &[NamedCable],
     cable: NamedCable,
-) -> Result<Vec<NamedCable, A>, AllocError>
+) -> Result<Vec<NamedCable>, AllocError>
     ensures { IfOk result (λ v. v.items ≡ cables.now ++ cable ∷ []) }
 {
     let mut copies = Vec::new(alloc);
@@ -99,11 +99,11 @@ pub(crate) fn with_new_cable<A: Allocator>(
 }
 
 /// The cables with another in place of the one of its name.
-pub(crate) fn with_other_cable<A: Allocator>(
-    alloc: A,
+pub(crate) fn with_other_cable(
+    alloc: Global,
     cables: &[NamedCable],
     new: &NamedCable,
-) -> Result<Vec<NamedCable, A>, AllocError>
+) -> Result<Vec<NamedCable>, AllocError>
     ensures { IfOk result (λ v. v.items ≡ map (λ old. if bytes_eq old.name new.now.name then new.now else old) cables.now) }
 {
     let mut copies = Vec::new(alloc);
@@ -115,11 +115,11 @@ pub(crate) fn with_other_cable<A: Allocator>(
 }
 
 /// The cables without the one of a name.
-pub(crate) fn without_cable<A: Allocator>(
-    alloc: A,
+pub(crate) fn without_cable(
+    alloc: Global,
     cables: &[NamedCable],
     name: &Name,
-) -> Result<Vec<NamedCable, A>, AllocError>
+) -> Result<Vec<NamedCable>, AllocError>
     ensures { IfOk result (λ v. v.items ≡ without_cable name.now cables.now) }
 {
     let mut others = Vec::new(alloc);
@@ -132,11 +132,11 @@ pub(crate) fn without_cable<A: Allocator>(
 }
 
 /// The sinks and one more.
-pub(crate) fn with_new_sink<A: Allocator>(
-    alloc: A,
+pub(crate) fn with_new_sink(
+    alloc: Global,
     sinks: &[NamedSink],
     sink: NamedSink,
-) -> Result<Vec<NamedSink, A>, AllocError>
+) -> Result<Vec<NamedSink>, AllocError>
     ensures { IfOk result (λ v. v.items ≡ sinks.now ++ sink ∷ []) }
 {
     let mut copies = Vec::new(alloc);
@@ -148,11 +148,11 @@ pub(crate) fn with_new_sink<A: Allocator>(
 }
 
 /// The sinks with another in place of the one of its name.
-pub(crate) fn with_other_sink<A: Allocator>(
-    alloc: A,
+pub(crate) fn with_other_sink(
+    alloc: Global,
     sinks: &[NamedSink],
     new: &NamedSink,
-) -> Result<Vec<NamedSink, A>, AllocError>
+) -> Result<Vec<NamedSink>, AllocError>
     ensures { IfOk result (λ v. v.items ≡ map (λ old. if bytes_eq old.name new.now.name then new.now else old) sinks.now) }
 {
     let mut copies = Vec::new(alloc);
@@ -164,11 +164,11 @@ pub(crate) fn with_other_sink<A: Allocator>(
 }
 
 /// The sinks without the one of a name.
-pub(crate) fn without_sink<A: Allocator>(
-    alloc: A,
+pub(crate) fn without_sink(
+    alloc: Global,
     sinks: &[NamedSink],
     name: &Name,
-) -> Result<Vec<NamedSink, A>, AllocError>
+) -> Result<Vec<NamedSink>, AllocError>
     ensures { IfOk result (λ v. v.items ≡ without_sink name.now sinks.now) }
 {
     let mut others = Vec::new(alloc);
@@ -181,12 +181,12 @@ pub(crate) fn without_sink<A: Allocator>(
 }
 
 /// The settings with another floor of one port, in mW.
-pub(crate) fn with_port_floor<A: Allocator>(
-    alloc: A,
+pub(crate) fn with_port_floor(
+    alloc: Global,
     settings: &[Settings],
     port: u64,
     mw: u32,
-) -> Result<Vec<Settings, A>, AllocError>
+) -> Result<Vec<Settings>, AllocError>
     requires least { 500 ≤ mw }
     requires most { mw ≤ 100000 }
     ensures { IfOk result (λ v. v.items ≡ changed_port port (with_floor mw) settings.now) }
@@ -199,12 +199,12 @@ pub(crate) fn with_port_floor<A: Allocator>(
 }
 
 /// The settings with other supplies of one port.
-pub(crate) fn with_port_supplies<A: Allocator>(
-    alloc: A,
+pub(crate) fn with_port_supplies(
+    alloc: Global,
     settings: &[Settings],
     port: u64,
     supplies: &ArrayVec<Supply, 7>,
-) -> Result<Vec<Settings, A>, AllocError>
+) -> Result<Vec<Settings>, AllocError>
     requires { AreSupplies supplies.now.items }
     ensures { IfOk result (λ v. v.items ≡ changed_port port (λ s. record s { supplies = supplies.now.items }) settings.now) }
 {

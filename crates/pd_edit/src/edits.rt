@@ -17,15 +17,15 @@ use pd_edit_lines::{Edit, EditFault, EditHappening, EditKind, WrittenSupply};
 use pd_identity::CablePlug;
 use pd_scenario::{Name, NamedCable, NamedSink, Scenario};
 use pd_sink::{SinkMode, SinkRevision};
-use std::alloc::{AllocError, Allocator};
+use std::alloc::{AllocError, Global};
 
-fn insert<const N: usize, A: Allocator + Copy>(
-    alloc: A,
-    scenario: &Scenario<N, A>,
+fn insert<const N: usize>(
+    alloc: Global,
+    scenario: &Scenario<N>,
     id: u64,
     at: u64,
     happening: &EditHappening,
-) -> Result<Scenario<N, A>, AllocError>
+) -> Result<Scenario<N>, AllocError>
     requires { IsAccepted N scenario.now (edits.Insert id at happening.now) }
     ensures { IfOk result (λ s. s ≡ outcome scenario.now (edits.Insert id at happening.now)) }
 {
@@ -35,11 +35,11 @@ fn insert<const N: usize, A: Allocator + Copy>(
     scenario.with_events(alloc, edited)
 }
 
-fn remove<const N: usize, A: Allocator + Copy>(
-    alloc: A,
-    scenario: &Scenario<N, A>,
+fn remove<const N: usize>(
+    alloc: Global,
+    scenario: &Scenario<N>,
     id: u64,
-) -> Result<Scenario<N, A>, AllocError>
+) -> Result<Scenario<N>, AllocError>
     requires { IsAccepted N scenario.now (edits.Remove id) }
     ensures { IfOk result (λ s. s ≡ outcome scenario.now (edits.Remove id)) }
 {
@@ -48,12 +48,12 @@ fn remove<const N: usize, A: Allocator + Copy>(
     scenario.with_events(alloc, edited)
 }
 
-fn move_event<const N: usize, A: Allocator + Copy>(
-    alloc: A,
-    scenario: &Scenario<N, A>,
+fn move_event<const N: usize>(
+    alloc: Global,
+    scenario: &Scenario<N>,
     id: u64,
     at: u64,
-) -> Result<Scenario<N, A>, AllocError>
+) -> Result<Scenario<N>, AllocError>
     requires { IsAccepted N scenario.now (edits.Move id at) }
     ensures { IfOk result (λ s. s ≡ outcome scenario.now (edits.Move id at)) }
 {
@@ -62,12 +62,12 @@ fn move_event<const N: usize, A: Allocator + Copy>(
     scenario.with_events(alloc, edited)
 }
 
-fn change<const N: usize, A: Allocator + Copy>(
-    alloc: A,
-    scenario: &Scenario<N, A>,
+fn change<const N: usize>(
+    alloc: Global,
+    scenario: &Scenario<N>,
     id: u64,
     kind: &EditKind,
-) -> Result<Scenario<N, A>, AllocError>
+) -> Result<Scenario<N>, AllocError>
     requires { IsAccepted N scenario.now (edits.Change id kind.now) }
     ensures { IfOk result (λ s. s ≡ outcome scenario.now (edits.Change id kind.now)) }
 {
@@ -77,11 +77,11 @@ fn change<const N: usize, A: Allocator + Copy>(
 }
 
 /// The cables of a scenario with a new one, or with another in place of the one of its name.
-fn put_cable<const N: usize, A: Allocator + Copy>(
-    alloc: A,
-    scenario: &Scenario<N, A>,
+fn put_cable<const N: usize>(
+    alloc: Global,
+    scenario: &Scenario<N>,
     cable: NamedCable,
-) -> Result<Vec<NamedCable, A>, AllocError>
+) -> Result<Vec<NamedCable>, AllocError>
     ensures { IfOk result (λ v. v.items ≡ with_cable cable scenario.now.cables) }
 {
     let cables = scenario.cables();
@@ -92,13 +92,13 @@ fn put_cable<const N: usize, A: Allocator + Copy>(
     }
 }
 
-fn cable<const N: usize, A: Allocator + Copy>(
-    alloc: A,
-    scenario: &Scenario<N, A>,
+fn cable<const N: usize>(
+    alloc: Global,
+    scenario: &Scenario<N>,
     name: &Name,
     plug: CablePlug,
     rating: u64,
-) -> Result<Scenario<N, A>, AllocError>
+) -> Result<Scenario<N>, AllocError>
     requires { IsAccepted N scenario.now (edits.Cable name.now plug rating) }
     ensures { IfOk result (λ s. s ≡ outcome scenario.now (edits.Cable name.now plug rating)) }
 {
@@ -109,11 +109,11 @@ fn cable<const N: usize, A: Allocator + Copy>(
     scenario.with_cables(alloc, edited)
 }
 
-fn drop_cable<const N: usize, A: Allocator + Copy>(
-    alloc: A,
-    scenario: &Scenario<N, A>,
+fn drop_cable<const N: usize>(
+    alloc: Global,
+    scenario: &Scenario<N>,
     name: &Name,
-) -> Result<Scenario<N, A>, AllocError>
+) -> Result<Scenario<N>, AllocError>
     requires { IsAccepted N scenario.now (edits.DropCable name.now) }
     ensures { IfOk result (λ s. s ≡ outcome scenario.now (edits.DropCable name.now)) }
 {
@@ -123,11 +123,11 @@ fn drop_cable<const N: usize, A: Allocator + Copy>(
 }
 
 /// The sinks of a scenario with a new one, or with another in place of the one of its name.
-fn put_sink<const N: usize, A: Allocator + Copy>(
-    alloc: A,
-    scenario: &Scenario<N, A>,
+fn put_sink<const N: usize>(
+    alloc: Global,
+    scenario: &Scenario<N>,
     sink: NamedSink,
-) -> Result<Vec<NamedSink, A>, AllocError>
+) -> Result<Vec<NamedSink>, AllocError>
     ensures { IfOk result (λ v. v.items ≡ with_sink sink scenario.now.sinks) }
 {
     let sinks = scenario.sinks();
@@ -138,15 +138,15 @@ fn put_sink<const N: usize, A: Allocator + Copy>(
     }
 }
 
-fn sink<const N: usize, A: Allocator + Copy>(
-    alloc: A,
-    scenario: &Scenario<N, A>,
+fn sink<const N: usize>(
+    alloc: Global,
+    scenario: &Scenario<N>,
     name: &Name,
     max_mv: u64,
     demand_mw: u64,
     mode: SinkMode,
     revision: SinkRevision,
-) -> Result<Scenario<N, A>, AllocError>
+) -> Result<Scenario<N>, AllocError>
     requires { IsAccepted N scenario.now (edits.Sink name.now max_mv demand_mw mode revision) }
     ensures { IfOk result (λ s. s ≡ outcome scenario.now (edits.Sink name.now max_mv demand_mw mode revision)) }
 {
@@ -157,11 +157,11 @@ fn sink<const N: usize, A: Allocator + Copy>(
     scenario.with_sinks(alloc, edited)
 }
 
-fn drop_sink<const N: usize, A: Allocator + Copy>(
-    alloc: A,
-    scenario: &Scenario<N, A>,
+fn drop_sink<const N: usize>(
+    alloc: Global,
+    scenario: &Scenario<N>,
     name: &Name,
-) -> Result<Scenario<N, A>, AllocError>
+) -> Result<Scenario<N>, AllocError>
     requires { IsAccepted N scenario.now (edits.DropSink name.now) }
     ensures { IfOk result (λ s. s ≡ outcome scenario.now (edits.DropSink name.now)) }
 {
@@ -170,12 +170,12 @@ fn drop_sink<const N: usize, A: Allocator + Copy>(
     scenario.with_sinks(alloc, edited)
 }
 
-fn caps<const N: usize, A: Allocator + Copy>(
-    alloc: A,
-    scenario: &Scenario<N, A>,
+fn caps<const N: usize>(
+    alloc: Global,
+    scenario: &Scenario<N>,
     port: u64,
     supplies: &ArrayVec<WrittenSupply, 7>,
-) -> Result<Scenario<N, A>, AllocError>
+) -> Result<Scenario<N>, AllocError>
     requires { IsAccepted N scenario.now (edits.Caps port supplies.now) }
     ensures { IfOk result (λ s. s ≡ outcome scenario.now (edits.Caps port supplies.now)) }
 {
@@ -185,12 +185,12 @@ fn caps<const N: usize, A: Allocator + Copy>(
     scenario.with_settings(alloc, edited)
 }
 
-fn floor<const N: usize, A: Allocator + Copy>(
-    alloc: A,
-    scenario: &Scenario<N, A>,
+fn floor<const N: usize>(
+    alloc: Global,
+    scenario: &Scenario<N>,
     port: u64,
     mw: u64,
-) -> Result<Scenario<N, A>, AllocError>
+) -> Result<Scenario<N>, AllocError>
     requires { IsAccepted N scenario.now (edits.Floor port mw) }
     ensures { IfOk result (λ s. s ≡ outcome scenario.now (edits.Floor port mw)) }
 {
@@ -199,11 +199,11 @@ fn floor<const N: usize, A: Allocator + Copy>(
     scenario.with_settings(alloc, edited)
 }
 
-fn budget<const N: usize, A: Allocator + Copy>(
-    alloc: A,
-    scenario: &Scenario<N, A>,
+fn budget<const N: usize>(
+    alloc: Global,
+    scenario: &Scenario<N>,
     mw: u64,
-) -> Result<Scenario<N, A>, AllocError>
+) -> Result<Scenario<N>, AllocError>
     requires { IsAccepted N scenario.now (edits.Budget mw) }
     ensures { IfOk result (λ s. s ≡ outcome scenario.now (edits.Budget mw)) }
 {
@@ -211,11 +211,11 @@ fn budget<const N: usize, A: Allocator + Copy>(
     scenario.with_numbers(alloc, mw as u32, scenario.end_us())
 }
 
-fn end<const N: usize, A: Allocator + Copy>(
-    alloc: A,
-    scenario: &Scenario<N, A>,
+fn end<const N: usize>(
+    alloc: Global,
+    scenario: &Scenario<N>,
     at: u64,
-) -> Result<Scenario<N, A>, AllocError>
+) -> Result<Scenario<N>, AllocError>
     requires { IsAccepted N scenario.now (edits.End at) }
     ensures { IfOk result (λ s. s ≡ outcome scenario.now (edits.End at)) }
 {
@@ -224,11 +224,11 @@ fn end<const N: usize, A: Allocator + Copy>(
 }
 
 /// The scenario after an edit for which no refusal applies.
-fn edited<const N: usize, A: Allocator + Copy>(
-    alloc: A,
-    scenario: &Scenario<N, A>,
+fn edited<const N: usize>(
+    alloc: Global,
+    scenario: &Scenario<N>,
     edit: &Edit,
-) -> Result<Scenario<N, A>, AllocError>
+) -> Result<Scenario<N>, AllocError>
     requires { IsAccepted N scenario.now edit.now }
     ensures { IfOk result (λ s. s ≡ outcome scenario.now edit.now) }
 {
@@ -258,11 +258,11 @@ fn edited<const N: usize, A: Allocator + Copy>(
 ///
 /// # Errors
 /// The first of the refusals that applies, or `Memory` where none applies and there is no memory.
-pub fn apply<const N: usize, A: Allocator + Copy>(
-    alloc: A,
-    scenario: &Scenario<N, A>,
+pub fn apply<const N: usize>(
+    alloc: Global,
+    scenario: &Scenario<N>,
     edit: &Edit,
-) -> Result<Scenario<N, A>, EditFault>
+) -> Result<Scenario<N>, EditFault>
     ensures { Applies result (edited N scenario.now edit.now) }
 {
     if let Some(fault) = first_refusal(scenario, edit) {

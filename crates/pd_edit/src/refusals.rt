@@ -11,7 +11,6 @@ use crate::numbers::is_rating;
 use pd_edit_lines::{Edit, EditFault, EditHappening, EditKind, WrittenSupply};
 use pd_plan::Settings;
 use pd_scenario::{Name, Quantity, Scenario, ScenarioEvent, ScenarioEventKind, ScenarioHappening};
-use std::alloc::Allocator;
 
 /// The most events, and the most cables or sinks.
 const MOST_EVENTS: usize = 4_096;
@@ -35,7 +34,7 @@ const REFUSALS: [EditFault; 9] = [
 ];
 
 /// Whether no event has the id of a new one.
-fn id_is_free<const N: usize, A: Allocator>(scenario: &Scenario<N, A>, edit: &Edit) -> bool
+fn id_is_free<const N: usize>(scenario: &Scenario<N>, edit: &Edit) -> bool
     ensures { result ≡ id_is_free scenario.now edit.now }
 {
     match edit {
@@ -45,7 +44,7 @@ fn id_is_free<const N: usize, A: Allocator>(scenario: &Scenario<N, A>, edit: &Ed
 }
 
 /// Whether some event has the id.
-fn id_is_known<const N: usize, A: Allocator>(scenario: &Scenario<N, A>, edit: &Edit) -> bool
+fn id_is_known<const N: usize>(scenario: &Scenario<N>, edit: &Edit) -> bool
     ensures { result ≡ id_is_known scenario.now edit.now }
 {
     match edit {
@@ -88,7 +87,7 @@ fn are_on_port(events: &[ScenarioEvent], id: u64) -> bool
 }
 
 /// Whether there is such a port; a change of the budget is on none.
-fn port_is_known<const N: usize, A: Allocator>(scenario: &Scenario<N, A>, edit: &Edit) -> bool
+fn port_is_known<const N: usize>(scenario: &Scenario<N>, edit: &Edit) -> bool
     ensures { result ≡ port_is_known N scenario.now edit.now }
 {
     match edit {
@@ -100,7 +99,7 @@ fn port_is_known<const N: usize, A: Allocator>(scenario: &Scenario<N, A>, edit: 
     }
 }
 
-fn kind_is_known<const N: usize, A: Allocator>(scenario: &Scenario<N, A>, kind: &EditKind) -> bool
+fn kind_is_known<const N: usize>(scenario: &Scenario<N>, kind: &EditKind) -> bool
     ensures { result ≡ kind_is_known scenario.now kind.now }
 {
     match kind {
@@ -111,7 +110,7 @@ fn kind_is_known<const N: usize, A: Allocator>(scenario: &Scenario<N, A>, kind: 
     }
 }
 
-fn happening_is_known<const N: usize, A: Allocator>(scenario: &Scenario<N, A>, happening: &EditHappening) -> bool
+fn happening_is_known<const N: usize>(scenario: &Scenario<N>, happening: &EditHappening) -> bool
     ensures { result ≡ happening_is_known scenario.now happening.now }
 {
     match happening {
@@ -121,7 +120,7 @@ fn happening_is_known<const N: usize, A: Allocator>(scenario: &Scenario<N, A>, h
 }
 
 /// Whether a cable or a sink has the name.
-fn name_is_known<const N: usize, A: Allocator>(scenario: &Scenario<N, A>, edit: &Edit) -> bool
+fn name_is_known<const N: usize>(scenario: &Scenario<N>, edit: &Edit) -> bool
     ensures { result ≡ name_is_known scenario.now edit.now }
 {
     match edit {
@@ -174,7 +173,7 @@ fn some_names_sink(events: &[ScenarioEvent], name: &Name) -> bool
 }
 
 /// Whether no event names what is dropped.
-fn is_unused<const N: usize, A: Allocator>(scenario: &Scenario<N, A>, edit: &Edit) -> bool
+fn is_unused<const N: usize>(scenario: &Scenario<N>, edit: &Edit) -> bool
     ensures { result ≡ is_unused scenario.now edit.now }
 {
     match edit {
@@ -338,12 +337,12 @@ fn are_funded_with(settings: &[Settings], first: u64, port: u64, mw: u64, budget
 
 /// Whether the floors then add to no more than the least of the budget and its changes.
 #[tactic(auto, using(crate::proofs::Floors::least_append))]
-fn stays_funded<const N: usize, A: Allocator>(scenario: &Scenario<N, A>, edit: &Edit) -> bool
+fn stays_funded<const N: usize>(scenario: &Scenario<N>, edit: &Edit) -> bool
     ensures { result ≡ stays_funded scenario.now edit.now }
 {
     let settings = scenario.ports();
     let events = scenario.events();
-    let budget_mw = scenario.budget_mw();
+    let budget_mw = u64::from(scenario.budget_mw());
     match edit {
         Edit::Insert {
             happening: EditHappening::Budget { mw },
@@ -358,7 +357,7 @@ fn stays_funded<const N: usize, A: Allocator>(scenario: &Scenario<N, A>, edit: &
 }
 
 /// Whether there may be one more.
-fn has_room<const N: usize, A: Allocator>(scenario: &Scenario<N, A>, edit: &Edit) -> bool
+fn has_room<const N: usize>(scenario: &Scenario<N>, edit: &Edit) -> bool
     ensures { result ≡ has_room scenario.now edit.now }
 {
     match edit {
@@ -374,7 +373,7 @@ fn has_room<const N: usize, A: Allocator>(scenario: &Scenario<N, A>, edit: &Edit
 }
 
 /// Whether an edit of a scenario is refused for this.
-fn refuses<const N: usize, A: Allocator>(fault: EditFault, scenario: &Scenario<N, A>, edit: &Edit) -> bool
+fn refuses<const N: usize>(fault: EditFault, scenario: &Scenario<N>, edit: &Edit) -> bool
     ensures { result ≡ refuses fault N scenario.now edit.now }
 {
     match fault {
@@ -392,8 +391,8 @@ fn refuses<const N: usize, A: Allocator>(fault: EditFault, scenario: &Scenario<N
 }
 
 /// The first refusal that applies.
-pub(crate) fn first_refusal<const N: usize, A: Allocator>(
-    scenario: &Scenario<N, A>,
+pub(crate) fn first_refusal<const N: usize>(
+    scenario: &Scenario<N>,
     edit: &Edit,
 ) -> Option<EditFault>
     ensures { result ≡ find (λ fault. refuses fault N scenario.now edit.now) refusals }

@@ -5,17 +5,17 @@ ghost use Rattle.pd_scenario.specs.Contents.{IsValid};
 
 use crate::{NamedCable, NamedSink, Scenario, ScenarioEvent};
 use pd_plan::Settings;
-use std::alloc::{AllocError, Allocator};
+use std::alloc::{AllocError, Global};
 
-impl<const N: usize, A: Allocator + Copy> Scenario<N, A> {
+impl<const N: usize> Scenario<N> {
     /// The scenario with other lists.
     fn with_lists(
         &self,
-        settings: Vec<Settings, A>,
-        cables: Vec<NamedCable, A>,
-        sinks: Vec<NamedSink, A>,
-        events: Vec<ScenarioEvent, A>,
-    ) -> Scenario<N, A>
+        settings: Vec<Settings>,
+        cables: Vec<NamedCable>,
+        sinks: Vec<NamedSink>,
+        events: Vec<ScenarioEvent>,
+    ) -> Scenario<N>
         requires { IsValid N (record self.now { settings = settings.items; cables = cables.items; sinks = sinks.items; events = events.items }) }
         ensures { result ≡ record self.now { settings = settings.items; cables = cables.items; sinks = sinks.items; events = events.items } }
     {
@@ -29,9 +29,9 @@ impl<const N: usize, A: Allocator + Copy> Scenario<N, A> {
     /// There is no memory.
     pub fn with_settings(
         &self,
-        alloc: A,
-        settings: Vec<Settings, A>,
-    ) -> Result<Scenario<N, A>, AllocError>
+        alloc: Global,
+        settings: Vec<Settings>,
+    ) -> Result<Scenario<N>, AllocError>
         requires { IsValid N (record self.now { settings = settings.items }) }
         ensures { IfOk result (λ s. s ≡ record self.now { settings = settings.items }) }
     {
@@ -49,9 +49,9 @@ impl<const N: usize, A: Allocator + Copy> Scenario<N, A> {
     /// There is no memory.
     pub fn with_cables(
         &self,
-        alloc: A,
-        cables: Vec<NamedCable, A>,
-    ) -> Result<Scenario<N, A>, AllocError>
+        alloc: Global,
+        cables: Vec<NamedCable>,
+    ) -> Result<Scenario<N>, AllocError>
         requires { IsValid N (record self.now { cables = cables.items }) }
         ensures { IfOk result (λ s. s ≡ record self.now { cables = cables.items }) }
     {
@@ -69,9 +69,9 @@ impl<const N: usize, A: Allocator + Copy> Scenario<N, A> {
     /// There is no memory.
     pub fn with_sinks(
         &self,
-        alloc: A,
-        sinks: Vec<NamedSink, A>,
-    ) -> Result<Scenario<N, A>, AllocError>
+        alloc: Global,
+        sinks: Vec<NamedSink>,
+    ) -> Result<Scenario<N>, AllocError>
         requires { IsValid N (record self.now { sinks = sinks.items }) }
         ensures { IfOk result (λ s. s ≡ record self.now { sinks = sinks.items }) }
     {
@@ -89,9 +89,9 @@ impl<const N: usize, A: Allocator + Copy> Scenario<N, A> {
     /// There is no memory.
     pub fn with_events(
         &self,
-        alloc: A,
-        events: Vec<ScenarioEvent, A>,
-    ) -> Result<Scenario<N, A>, AllocError>
+        alloc: Global,
+        events: Vec<ScenarioEvent>,
+    ) -> Result<Scenario<N>, AllocError>
         requires { IsValid N (record self.now { events = events.items }) }
         ensures { IfOk result (λ s. s ≡ record self.now { events = events.items }) }
     {
@@ -109,10 +109,10 @@ impl<const N: usize, A: Allocator + Copy> Scenario<N, A> {
     /// There is no memory.
     pub fn with_numbers(
         &self,
-        alloc: A,
+        alloc: Global,
         budget_mw: u32,
         end_us: u32,
-    ) -> Result<Scenario<N, A>, AllocError>
+    ) -> Result<Scenario<N>, AllocError>
         requires { IsValid N (record self.now { budget_mw = budget_mw; end_us = end_us }) }
         ensures { IfOk result (λ s. s ≡ record self.now { budget_mw = budget_mw; end_us = end_us }) }
     {
@@ -124,10 +124,10 @@ impl<const N: usize, A: Allocator + Copy> Scenario<N, A> {
     }
 }
 
-pub(crate) fn copy_settings<A: Allocator>(
-    alloc: A,
+pub(crate) fn copy_settings(
+    alloc: Global,
     settings: &[Settings],
-) -> Result<Vec<Settings, A>, AllocError>
+) -> Result<Vec<Settings>, AllocError>
     ensures { IfOk result (λ v. v.items ≡ settings.now) }
 {
     let mut copies = Vec::new(alloc);
@@ -137,10 +137,10 @@ pub(crate) fn copy_settings<A: Allocator>(
     Ok(copies)
 }
 
-pub(crate) fn copy_cables<A: Allocator>(
-    alloc: A,
+pub(crate) fn copy_cables(
+    alloc: Global,
     cables: &[NamedCable],
-) -> Result<Vec<NamedCable, A>, AllocError>
+) -> Result<Vec<NamedCable>, AllocError>
     ensures { IfOk result (λ v. v.items ≡ cables.now) }
 {
     let mut copies = Vec::new(alloc);
@@ -150,10 +150,7 @@ pub(crate) fn copy_cables<A: Allocator>(
     Ok(copies)
 }
 
-pub(crate) fn copy_sinks<A: Allocator>(
-    alloc: A,
-    sinks: &[NamedSink],
-) -> Result<Vec<NamedSink, A>, AllocError>
+pub(crate) fn copy_sinks(alloc: Global, sinks: &[NamedSink]) -> Result<Vec<NamedSink>, AllocError>
     ensures { IfOk result (λ v. v.items ≡ sinks.now) }
 {
     let mut copies = Vec::new(alloc);
@@ -163,10 +160,10 @@ pub(crate) fn copy_sinks<A: Allocator>(
     Ok(copies)
 }
 
-pub(crate) fn copy_events<A: Allocator>(
-    alloc: A,
+pub(crate) fn copy_events(
+    alloc: Global,
     events: &[ScenarioEvent],
-) -> Result<Vec<ScenarioEvent, A>, AllocError>
+) -> Result<Vec<ScenarioEvent>, AllocError>
     ensures { IfOk result (λ v. v.items ≡ events.now) }
 {
     let mut copies = Vec::new(alloc);

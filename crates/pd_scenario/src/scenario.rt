@@ -20,16 +20,16 @@ use std::marker::Model;
 /// 64 sinks and 4,096 events; numbers within their limits; events with names that are there; floors that add to no more
 /// than the least of the budget and its changes.
 #[derive(Drop)]
-pub struct Scenario<const N: usize, A: Allocator = Global> {
-    settings: Vec<Settings, A>,
-    cables: Vec<NamedCable, A>,
-    sinks: Vec<NamedSink, A>,
-    events: Vec<ScenarioEvent, A>,
+pub struct Scenario<const N: usize> {
+    settings: Vec<Settings>,
+    cables: Vec<NamedCable>,
+    sinks: Vec<NamedSink>,
+    events: Vec<ScenarioEvent>,
     budget_mw: u32,
     end_us: u32,
 }
 
-impl<const N: usize, A: Allocator> Model for Scenario<N, A> {
+impl<const N: usize> Model for Scenario<N> {
     ghost use Rattle.pd_scenario.specs.Contents.{Contents, IsValid};
 
     ghost Value = { Contents };
@@ -53,16 +53,16 @@ impl<const N: usize, A: Allocator> Model for Scenario<N, A> {
     }) };
 }
 
-impl<const N: usize, A: Allocator> Scenario<N, A> {
+impl<const N: usize> Scenario<N> {
     /// The scenario of these parts: a budget in mW and an end in microseconds.
     pub fn new(
-        settings: Vec<Settings, A>,
-        cables: Vec<NamedCable, A>,
-        sinks: Vec<NamedSink, A>,
-        events: Vec<ScenarioEvent, A>,
+        settings: Vec<Settings>,
+        cables: Vec<NamedCable>,
+        sinks: Vec<NamedSink>,
+        events: Vec<ScenarioEvent>,
         budget_mw: u32,
         end_us: u32,
-    ) -> Scenario<N, A>
+    ) -> Scenario<N>
         requires { IsValid N (record { settings = settings.items; cables = cables.items; sinks = sinks.items; events = events.items; budget_mw = budget_mw; end_us = end_us }) }
         ensures { result ≡ record { settings = settings.items; cables = cables.items; sinks = sinks.items; events = events.items; budget_mw = budget_mw; end_us = end_us } }
     {
@@ -81,16 +81,14 @@ impl<const N: usize, A: Allocator> Scenario<N, A> {
     /// # Errors
     /// There is no memory.
     pub fn of(
-        alloc: A,
+        alloc: Global,
         settings: &[Settings],
         cables: &[NamedCable],
         sinks: &[NamedSink],
         events: &[ScenarioEvent],
         budget_mw: u32,
         end_us: u32,
-    ) -> Result<Scenario<N, A>, AllocError>
-    where
-        A: Copy,
+    ) -> Result<Scenario<N>, AllocError>
         requires { IsValid N (record { settings = settings.now; cables = cables.now; sinks = sinks.now; events = events.now; budget_mw = budget_mw; end_us = end_us }) }
         ensures { IfOk result (λ s. s ≡ record { settings = settings.now; cables = cables.now; sinks = sinks.now; events = events.now; budget_mw = budget_mw; end_us = end_us }) }
     {
