@@ -72,7 +72,7 @@ as_today (Insert id at (Budget mw)) result = Err edit_faults.Syntax
 as_today edit result = result
 
 -- the scenario of n ports after an edit, or its refusal
-abbrev pub edited_today : ℕ → Contents → Edit → Result Contents EditFault
+unfoldable pub edited_today : ℕ → Contents → Edit → Result Contents EditFault
 edited_today n s edit = as_today edit (edited n s edit)
 
 -- a show of a port: the transcript of the scenario's run, where there is such a port

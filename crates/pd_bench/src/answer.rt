@@ -83,6 +83,7 @@ fn change<const N: usize, T: Runner<N>, W: TextOut>(
 }
 
 /// The scenario after an edit. A budget that changes in time is no edit of this version.
+#[tactic(auto, unfolding(crate::specs::Session::edited_today))]
 fn edited_today<const N: usize>(
     alloc: Global,
     scenario: &Scenario<N>,
