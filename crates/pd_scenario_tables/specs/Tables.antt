@@ -150,3 +150,14 @@ is_sound_event version ports t = is_sound version ports (Event (event_at version
 -- a port's supplies are 1 to 7, with rising voltages
 unfoldable pub is_sound_port : Version → ℕ → Members → Bool
 is_sound_port version ports t = is_sound version ports Port t && not (fails fault.Supplies version ports Port t)
+
+-- a table is sound in a file of some version for some number of ports
+pub record IsSound (kind : TableKind) (t : Members) : Type 0 where
+  pub version : Version
+  pub ports : ℕ
+  pub sound : is_sound version ports kind t ≡ true
+
+pub record IsSoundPort (t : Members) : Type 0 where
+  pub version : Version
+  pub ports : ℕ
+  pub sound : is_sound_port version ports t ≡ true

@@ -1,11 +1,11 @@
 //! What one table of a file says.
 
-ghost use Rattle.std.specs.Prelude.{◌≡◌, true, pos};
+ghost use Rattle.std.specs.Prelude.{◌≡◌, pos};
 ghost use Rattle.toml.specs.View.{view, table_view};
 ghost use Rattle.pd_objects.specs.Supply.{IsSupply};
 ghost use Rattle.pd_scenario_tables.specs.Schema.{port_rules, sink_rules};
 ghost use Rattle.pd_scenario_tables.specs.Values.{small, supply_of};
-ghost use Rattle.pd_scenario_tables.specs.Tables.{value_at, need_of, default_whole, whole_in, number_at as number_of_key, word_at, is_sound, is_sound_event, is_sound_port};
+ghost use Rattle.pd_scenario_tables.specs.Tables.{value_at, need_of, default_whole, whole_in, number_at as number_of_key, word_at, event_at, IsSound, IsSoundPort};
 ghost use Rattle.pd_scenario_tables.specs.Convert.{settings_of, cable_of, sink_of, on, happening_of, event_of};
 
 use crate::schema::{EventName, Key, TableKind, Version};
@@ -45,8 +45,8 @@ fn supply_of(value: &Value) -> Supply
     Supply::new(mv, ma)
 }
 
-fn supplies_of(version: Version, ports: u64, table: &Table) -> ArrayVec<Supply, 7>
-    requires { is_sound_port version ports (table_view table.now) ≡ true }
+fn supplies_of(table: &Table) -> ArrayVec<Supply, 7>
+    requires { IsSoundPort (table_view table.now) }
     ensures { result.items ≡ (settings_of (table_view table.now)).supplies }
 {
     let items = elements_at(table, Key::Supplies);
@@ -57,22 +57,21 @@ fn supplies_of(version: Version, ports: u64, table: &Table) -> ArrayVec<Supply, 
     supplies
 }
 
-/// The settings that the table of a port says. Its numbers are in range and its supplies are well formed for a file of a
-/// version and so many ports.
-pub fn settings_of(version: Version, ports: u64, table: &Table) -> Settings
-    requires { is_sound_port version ports (table_view table.now) ≡ true }
+/// The settings that the table of a port says, which is sound and whose supplies are well formed.
+pub fn settings_of(table: &Table) -> Settings
+    requires { IsSoundPort (table_view table.now) }
     ensures { result ≡ settings_of (table_view table.now) }
 {
-    let supplies = supplies_of(version, ports, table);
+    let supplies = supplies_of(table);
     let floor_mw = number_at(table, Key::Floor);
     let tries = tries_at(table);
     let unconstrained = truth_at(table, Key::Unconstrained, false);
     Settings::new(floor_mw, supplies, tries as u8, unconstrained)
 }
 
-/// The cable that a table says, which lacks no key and whose numbers, words and name are in range.
-pub fn cable_of(version: Version, ports: u64, table: &Table) -> NamedCable
-    requires { is_sound version ports TableKind.Cable (table_view table.now) ≡ true }
+/// The cable that a sound table says.
+pub fn cable_of(table: &Table) -> NamedCable
+    requires { IsSound TableKind.Cable (table_view table.now) }
     ensures { result ≡ cable_of (table_view table.now) }
 {
     let name = word_at(table, Key::Name);
@@ -94,10 +93,9 @@ fn revision_default(version: Version) -> i64
     }
 }
 
-/// The sink that a table says, which lacks no key and whose numbers, words and name are in range. One of a file of the
-/// first version is of Revision 3.0.
-pub fn sink_of(version: Version, ports: u64, table: &Table) -> NamedSink
-    requires { is_sound version ports TableKind.Sink (table_view table.now) ≡ true }
+/// The sink that a sound table says in a file of a version; of the first version it is of Revision 3.0.
+pub fn sink_of(version: Version, table: &Table) -> NamedSink
+    requires { IsSound TableKind.Sink (table_view table.now) }
     ensures { result ≡ sink_of version (table_view table.now) }
 {
     let name = word_at(table, Key::Name);
@@ -122,8 +120,8 @@ fn on(table: &Table, kind: ScenarioEventKind) -> ScenarioHappening
     }
 }
 
-fn attach_of(version: Version, ports: u64, table: &Table) -> ScenarioEventKind
-    requires { is_sound version ports (TableKind.Event EventName.Attach) (table_view table.now) ≡ true }
+fn attach_of(table: &Table) -> ScenarioEventKind
+    requires { IsSound (TableKind.Event EventName.Attach) (table_view table.now) }
     ensures { result ≡ ScenarioEventKind.Attach (word_at Key.Cable (table_view table.now)) (word_at Key.Sink (table_view table.now)) }
 {
     let cable = word_at(table, Key::Cable);
@@ -134,16 +132,16 @@ fn attach_of(version: Version, ports: u64, table: &Table) -> ScenarioEventKind
     }
 }
 
-fn demand_of(version: Version, ports: u64, table: &Table) -> ScenarioEventKind
-    requires { is_sound version ports (TableKind.Event EventName.Demand) (table_view table.now) ≡ true }
+fn demand_of(table: &Table) -> ScenarioEventKind
+    requires { IsSound (TableKind.Event EventName.Demand) (table_view table.now) }
     ensures { result ≡ ScenarioEventKind.Demand (small (whole_in (value_at Key.Mw (table_view table.now)) (pos 0))) }
 {
     let mw = number_at(table, Key::Mw);
     ScenarioEventKind::Demand(Demand::new(mw))
 }
 
-fn damage_of(version: Version, ports: u64, table: &Table) -> ScenarioEventKind
-    requires { is_sound version ports (TableKind.Event EventName.Damage) (table_view table.now) ≡ true }
+fn damage_of(table: &Table) -> ScenarioEventKind
+    requires { IsSound (TableKind.Event EventName.Damage) (table_view table.now) }
     ensures { result ≡ ScenarioEventKind.Damage (record { place = small (whole_in (value_at Key.Place (table_view table.now)) (pos 0)); mask = small (whole_in (value_at Key.Mask (table_view table.now)) (pos 0)) }) }
 {
     let place = number_at(table, Key::Place);
@@ -151,15 +149,15 @@ fn damage_of(version: Version, ports: u64, table: &Table) -> ScenarioEventKind
     ScenarioEventKind::Damage(Damage::new(place as u8, mask as u8))
 }
 
-fn happening_of(version: Version, ports: u64, name: EventName, table: &Table) -> ScenarioHappening
-    requires { is_sound version ports (TableKind.Event name) (table_view table.now) ≡ true }
+fn happening_of(name: EventName, table: &Table) -> ScenarioHappening
+    requires { IsSound (TableKind.Event name) (table_view table.now) }
     ensures { result ≡ happening_of name (table_view table.now) }
 {
     match name {
-        EventName::Attach => on(table, attach_of(version, ports, table)),
-        EventName::Demand => on(table, demand_of(version, ports, table)),
+        EventName::Attach => on(table, attach_of(table)),
+        EventName::Demand => on(table, demand_of(table)),
         EventName::Lose => on(table, ScenarioEventKind::Lose),
-        EventName::Damage => on(table, damage_of(version, ports, table)),
+        EventName::Damage => on(table, damage_of(table)),
         EventName::GetSource => on(table, ScenarioEventKind::GetSource),
         EventName::GetSink => on(table, ScenarioEventKind::GetSink),
         EventName::Budget => ScenarioHappening::Budget {
@@ -169,12 +167,12 @@ fn happening_of(version: Version, ports: u64, name: EventName, table: &Table) ->
     }
 }
 
-/// The event that a table says, which lacks no key of its kind and whose numbers, words and names are in range.
-pub fn event_of(version: Version, ports: u64, table: &Table) -> ScenarioEvent
-    requires { is_sound_event version ports (table_view table.now) ≡ true }
+/// The event that a sound table says in a file of a version.
+pub fn event_of(version: Version, table: &Table) -> ScenarioEvent
+    requires { IsSound (TableKind.Event (event_at version (table_view table.now))) (table_view table.now) }
     ensures { result ≡ event_of version (table_view table.now) }
 {
-    let happening = happening_of(version, ports, event_at(version, table), table);
+    let happening = happening_of(event_at(version, table), table);
     ScenarioEvent {
         id: number_at(table, Key::Id),
         at: number_at(table, Key::At),

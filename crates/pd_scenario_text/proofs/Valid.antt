@@ -1,11 +1,13 @@
 -- A file to which no refusal applies gives a scenario that keeps every limit.
-use Rattle.std.proofs.Common.{◌≡◌, ℕ, ◌≤◌, Bool, true, false, not, ◌||◌, ◌&&◌, ◌==◌, List, [], ◌∷◌, length, map, refl, arith, lit<}
+use Rattle.std.proofs.Common.{◌≡◌, ℕ, ◌≤◌, Bool, true, false, not, ◌||◌, ◌&&◌, ◌==◌, List, [], ◌∷◌, length, map, refl, arith, lit<, Bor, BTreeMap, String, Global}
 use Rattle.std.specs.Prelude.{nat_lt, sum_by, All}
 use Rattle.std.specs.List.{list_any, list_all}
 use Rattle.std.proofs.lemmas.Bool.{and_parts, or_parts, not-false}
 use Rattle.std.proofs.lemmas.Bool.Decides.{nat_tests}
 use Rattle.std.proofs.lemmas.List.Elements.{All-nil, All-cons}
 use Rattle.toml.specs.Data.{Members}
+use Rattle.toml.specs.View.{table_view}
+use Rattle.toml.specs.declared.value.Value.{Value}
 use Rattle.pd_sink.specs.Settings.{IsSink}
 use Rattle.pd_plan.specs.Settings.{SettingsData, IsSettings}
 use Rattle.pd_scenario.specs.Names.{is_name}
@@ -23,7 +25,8 @@ use Rattle.pd_scenario_tables.specs.declared.schema.Form.TheVariants as form
 use Rattle.pd_scenario_tables.specs.declared.fault.ScenarioFault.{ScenarioFault}
 use Rattle.pd_scenario_tables.specs.declared.fault.ScenarioFault.TheVariants as fault
 use Rattle.pd_scenario_tables.specs.Schema.{rule}
-use Rattle.pd_scenario_tables.specs.Tables.{event_at, fails, event_fails, is_sound, is_sound_event, is_sound_port}
+use Rattle.pd_scenario_tables.specs.Tables.{event_at, fails, event_fails, is_sound, is_sound_event, is_sound_port, IsSound, IsSoundPort}
+use Rattle.pd_scenario_tables.specs.Seen.{views}
 use Rattle.pd_scenario_tables.specs.Convert.{settings_of, cable_of, sink_of, event_of}
 use Rattle.pd_scenario_text.specs.Contents.{Tables, contents_of}
 use Rattle.pd_scenario_text.specs.Refusals.{fails_somewhere, has_duplicate, has_unknown_name, exceeds_budget, exceed_limits, exceeds_limit}
@@ -105,6 +108,27 @@ sound_ports ports d h supplied =
 
 sound_top : (ports : ℕ) (d : Tables) → Clean ports d → is_sound d.version ports Top d.top ≡ true
 sound_top ports d h = sound d.version ports Top d.top (nowhere fault.MissingKey ports d h.complete).top (nowhere fault.Range ports d h.ranged).top (nowhere fault.Name ports d h.named).top
+
+-- the tables that the code keeps are sound
+each_table : (p : Members → Bool) (Q : Members → Type 0) → ((t : Members) → p t ≡ true → Q t) → (ts : List (Bor (BTreeMap (String Global) Value))) → list_all p (views ts) ≡ true → All (λ (t : Bor (BTreeMap (String Global) Value)). Q (table_view t.now)) ts
+each_table p Q each [] h = All-nil (λ (t : Bor (BTreeMap (String Global) Value)). Q (table_view t.now))
+each_table p Q each (t ∷ ts) h =
+    let both = and_parts (p (table_view t.now)) (list_all p (views ts)) h in
+    All-cons (λ (u : Bor (BTreeMap (String Global) Value)). Q (table_view u.now)) t ts (each (table_view t.now) both.0) (each_table p Q each ts both.1)
+
+pub tables_of_cables_sound : (version : Version) (ports : ℕ) (ts : List (Bor (BTreeMap (String Global) Value))) → list_all (is_sound version ports Cable) (views ts) ≡ true → All (λ (t : Bor (BTreeMap (String Global) Value)). IsSound Cable (table_view t.now)) ts
+tables_of_cables_sound version ports ts h = each_table (is_sound version ports Cable) (IsSound Cable) (λ t s. record { version = version; ports = ports; sound = s }) ts h
+
+pub tables_of_sinks_sound : (version : Version) (ports : ℕ) (ts : List (Bor (BTreeMap (String Global) Value))) → list_all (is_sound version ports Sink) (views ts) ≡ true → All (λ (t : Bor (BTreeMap (String Global) Value)). IsSound Sink (table_view t.now)) ts
+tables_of_sinks_sound version ports ts h = each_table (is_sound version ports Sink) (IsSound Sink) (λ t s. record { version = version; ports = ports; sound = s }) ts h
+
+pub tables_of_events_sound : (version : Version) (ports : ℕ) (ts : List (Bor (BTreeMap (String Global) Value))) → list_all (is_sound_event version ports) (views ts) ≡ true
+    → All (λ (t : Bor (BTreeMap (String Global) Value)). IsSound (Event (event_at version (table_view t.now))) (table_view t.now)) ts
+tables_of_events_sound version ports ts h =
+    each_table (is_sound_event version ports) (λ t. IsSound (Event (event_at version t)) t) (λ t s. record { version = version; ports = ports; sound = s }) ts h
+
+pub tables_of_ports_sound : (version : Version) (ports : ℕ) (ts : List (Bor (BTreeMap (String Global) Value))) → list_all (is_sound_port version ports) (views ts) ≡ true → All (λ (t : Bor (BTreeMap (String Global) Value)). IsSoundPort (table_view t.now)) ts
+tables_of_ports_sound version ports ts h = each_table (is_sound_port version ports) IsSoundPort (λ t s. record { version = version; ports = ports; sound = s }) ts h
 
 -- ---- each of a list
 

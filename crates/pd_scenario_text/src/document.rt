@@ -112,13 +112,13 @@ impl<'a> Document<'a> {
         if let Some(fault) = self.first_refusal(ports) {
             return Err(fault);
         }
-        let Ok(cables) = all_cables(alloc, self.version, ports, &self.cables) else {
+        let Ok(cables) = all_cables(alloc, &self.cables) else {
             return Err(ScenarioFault::Memory);
         };
-        let Ok(sinks) = all_sinks(alloc, self.version, ports, &self.sinks) else {
+        let Ok(sinks) = all_sinks(alloc, self.version, &self.sinks) else {
             return Err(ScenarioFault::Memory);
         };
-        let Ok(events) = all_events(alloc, self.version, ports, &self.events) else {
+        let Ok(events) = all_events(alloc, self.version, &self.events) else {
             return Err(ScenarioFault::Memory);
         };
         let Ok(checked) = check_names(alloc, &cables, &sinks, &events) else {
@@ -130,7 +130,7 @@ impl<'a> Document<'a> {
         if self.fails_somewhere(ScenarioFault::Supplies, ports) {
             return Err(ScenarioFault::Supplies);
         }
-        let Ok(settings) = all_settings(alloc, self.version, ports, &self.ports) else {
+        let Ok(settings) = all_settings(alloc, &self.ports) else {
             return Err(ScenarioFault::Memory);
         };
         let budget_mw = self.top_number(Key::Budget);

@@ -1,9 +1,10 @@
 //! The tables of one kind: whether a refusal applies to one of them, and what they say.
 
-ghost use Rattle.std.specs.Prelude.{◌≡◌, true, map, IfOk};
-ghost use Rattle.std.specs.List.{list_any, list_all};
+ghost use Rattle.std.specs.Prelude.{◌≡◌, map, IfOk, All};
+ghost use Rattle.std.specs.List.{list_any};
+ghost use Rattle.toml.specs.View.{table_view};
 ghost use Rattle.pd_scenario_tables.specs.Seen.{views};
-ghost use Rattle.pd_scenario_tables.specs.Tables.{fails, event_fails, is_sound, is_sound_event, is_sound_port};
+ghost use Rattle.pd_scenario_tables.specs.Tables.{fails, event_fails, event_at, IsSound, IsSoundPort};
 ghost use Rattle.pd_scenario_tables.specs.Convert.{settings_of, cable_of, sink_of, event_of};
 
 use pd_plan::Settings;
@@ -47,18 +48,13 @@ pub fn some_event_fails(
 ///
 /// # Errors
 /// There is no memory.
-pub fn all_settings(
-    alloc: Global,
-    version: Version,
-    ports: u64,
-    tables: &[&Table],
-) -> Result<Vec<Settings>, AllocError>
-    requires { list_all (is_sound_port version ports) (views tables.now) ≡ true }
+pub fn all_settings(alloc: Global, tables: &[&Table]) -> Result<Vec<Settings>, AllocError>
+    requires { All (λ t. IsSoundPort (table_view t.now)) tables.now }
     ensures { IfOk result (λ v. v.items ≡ map settings_of (views tables.now)) }
 {
     let mut all = Vec::new(alloc);
     for table in tables {
-        all.push(settings_of(version, ports, table))?;
+        all.push(settings_of(table))?;
     }
     Ok(all)
 }
@@ -67,58 +63,51 @@ pub fn all_settings(
 ///
 /// # Errors
 /// There is no memory.
-pub fn all_cables(
-    alloc: Global,
-    version: Version,
-    ports: u64,
-    tables: &[&Table],
-) -> Result<Vec<NamedCable>, AllocError>
-    requires { list_all (is_sound version ports TableKind.Cable) (views tables.now) ≡ true }
+pub fn all_cables(alloc: Global, tables: &[&Table]) -> Result<Vec<NamedCable>, AllocError>
+    requires { All (λ t. IsSound TableKind.Cable (table_view t.now)) tables.now }
     ensures { IfOk result (λ v. v.items ≡ map cable_of (views tables.now)) }
 {
     let mut all = Vec::new(alloc);
     for table in tables {
-        all.push(cable_of(version, ports, table))?;
+        all.push(cable_of(table))?;
     }
     Ok(all)
 }
 
-/// The sinks.
+/// The sinks of a file of a version.
 ///
 /// # Errors
 /// There is no memory.
 pub fn all_sinks(
     alloc: Global,
     version: Version,
-    ports: u64,
     tables: &[&Table],
 ) -> Result<Vec<NamedSink>, AllocError>
-    requires { list_all (is_sound version ports TableKind.Sink) (views tables.now) ≡ true }
+    requires { All (λ t. IsSound TableKind.Sink (table_view t.now)) tables.now }
     ensures { IfOk result (λ v. v.items ≡ map (sink_of version) (views tables.now)) }
 {
     let mut all = Vec::new(alloc);
     for table in tables {
-        all.push(sink_of(version, ports, table))?;
+        all.push(sink_of(version, table))?;
     }
     Ok(all)
 }
 
-/// The events.
+/// The events of a file of a version.
 ///
 /// # Errors
 /// There is no memory.
 pub fn all_events(
     alloc: Global,
     version: Version,
-    ports: u64,
     tables: &[&Table],
 ) -> Result<Vec<ScenarioEvent>, AllocError>
-    requires { list_all (is_sound_event version ports) (views tables.now) ≡ true }
+    requires { All (λ t. IsSound (TableKind.Event (event_at version (table_view t.now))) (table_view t.now)) tables.now }
     ensures { IfOk result (λ v. v.items ≡ map (event_of version) (views tables.now)) }
 {
     let mut all = Vec::new(alloc);
     for table in tables {
-        all.push(event_of(version, ports, table))?;
+        all.push(event_of(version, table))?;
     }
     Ok(all)
 }
