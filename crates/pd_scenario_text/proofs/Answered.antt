@@ -1,16 +1,17 @@
 -- The refusal that is answered is the least that applies, and what is accepted is valid.
-use Rattle.std.proofs.Common.{◌≡◌, ℕ, ◌<◌, ◌≤◌, ◌⊎◌, Bool, true, false, cond, List, [], ◌∷◌, find, refl, sym, ap, subst, ◌∙◌, inl, inr, arith, lit<, Some, None, Ok, Err}
+use Rattle.std.proofs.Common.{◌≡◌, ℕ, ◌<◌, ◌≤◌, ◌⊎◌, ◌↔◌, Bool, true, false, cond, List, [], ◌∷◌, find, refl, sym, ap, subst, ◌∙◌, inl, inr, arith, lit<, Some, None, Ok, Err}
 use Rattle.std.specs.Prelude.{Option, Result}
 use Rattle.std.proofs.lemmas.Bool.{cases_Bool, false≢true}
 use Rattle.toml.specs.Data.{Members}
 use Rattle.pd_scenario.specs.Contents.{Contents, IsValid}
-use Rattle.pd_scenario_text.specs.declared.fault.ScenarioFault.{ScenarioFault}
-use Rattle.pd_scenario_text.specs.declared.fault.ScenarioFault.TheVariants.{Toml, UnknownKey, WrongType, MissingKey, Range, Name, Duplicate, Supplies, Floors, UnknownName, Limit, Memory}
-use Rattle.pd_scenario_text.specs.Numbers.{number_of}
-use Rattle.pd_scenario_text.specs.Convert.{Tables, tables_of, contents_of}
-use Rattle.pd_scenario_text.specs.Refusals.{applies, refusals, refusal, fails_somewhere, has_duplicate, exceeds_budget, has_unknown_name, exceeds_limit}
+use Rattle.pd_scenario_tables.specs.declared.fault.ScenarioFault.{ScenarioFault}
+use Rattle.pd_scenario_tables.specs.declared.fault.ScenarioFault.TheVariants.{Toml, UnknownKey, WrongType, MissingKey, Range, Name, Duplicate, Supplies, Floors, UnknownName, Limit, Memory}
+use Rattle.pd_scenario_tables.specs.Numbers.{number_of}
+use Rattle.pd_scenario_text.specs.Contents.{Tables, tables_of, contents_of}
+use Rattle.pd_scenario_text.specs.Refusals.{applies, refusals, refusal}
 use Rattle.pd_scenario_text.specs.Reading.{answered, reading, Answers, IsTextOf, Reads}
-use Rattle.pd_scenario_text.proofs.Decided.{Clean, Later, Last}
+use Rattle.pd_scenario_text.specs.Laws.{IsLeast}
+use Rattle.pd_scenario_text.proofs.Decided.{Clean, Later, Last, same_answer, same_valid}
 use Rattle.pd_scenario_text.proofs.Valid.{valid}
 
 -- ---- an answer over the tables is one over the text
@@ -44,8 +45,8 @@ abbrev AreRising : List ScenarioFault → Type 0
 AreRising [] = Unit {0}
 AreRising (fault ∷ faults) = AllAbove (number_of fault) faults × AreRising faults
 
-abbrev IsLeast : (ScenarioFault → Bool) → ScenarioFault → Type 0
-IsLeast test fault = (test fault ≡ true) × ((other : ScenarioFault) → number_of other < number_of fault → test other ≡ false)
+abbrev IsFirst : (ScenarioFault → Bool) → ScenarioFault → Type 0
+IsFirst test fault = (test fault ≡ true) × ((other : ScenarioFault) → number_of other < number_of fault → test other ≡ false)
 
 above : (number : ℕ) (fault : ScenarioFault) (faults : List ScenarioFault) → AllAbove number faults → IsIn fault faults → number < number_of fault
 above number fault [] all there = absurd there
@@ -56,7 +57,7 @@ above number fault (first ∷ faults) all there =
     ]
 
 least : (test : ScenarioFault → Bool) (faults : List ScenarioFault) (c : Contents) (fault : ScenarioFault) → AreRising faults
-    → ((other : ScenarioFault) → (test other ≡ false) ⊎ IsIn other faults) → answered (find test faults) c ≡ Err fault → IsLeast test fault
+    → ((other : ScenarioFault) → (test other ≡ false) ⊎ IsIn other faults) → answered (find test faults) c ≡ Err fault → IsFirst test fault
 least test [] c fault rising left h = absurd (cc)
 least test (first ∷ faults) c fault rising left h =
     elim (cases_Bool (test first)) [
@@ -102,41 +103,76 @@ listed ports d UnknownName = inr (inr (inr (inr (inr (inr (inr (inr (inr (inl re
 listed ports d Limit = inr (inr (inr (inr (inr (inr (inr (inr (inr (inr (inl refl))))))))))
 listed ports d Memory = inl refl
 
-pub least_refusal : (ports : ℕ) (t : Members) (fault : ScenarioFault) → reading ports t ≡ Err fault
-    → (applies fault ports (tables_of t) ≡ true) × ((other : ScenarioFault) → number_of other < number_of fault → applies other ports (tables_of t) ≡ false)
-least_refusal ports t fault h = least (λ f. applies f ports (tables_of t)) refusals (contents_of (tables_of t)) fault rising (listed ports (tables_of t)) h
+-- and the other way round
+found : (test : ScenarioFault → Bool) (faults : List ScenarioFault) (fault : ScenarioFault) → AreRising faults → IsIn fault faults → IsFirst test fault → find test faults ≡ Some fault
+found test [] fault rising there first = absurd there
+found test (x ∷ faults) fault rising there first =
+    elim there [
+      | inl here ↦ let chosen : test x ≡ true = rw here at first.0 in rw chosen (ap (λ (f : ScenarioFault). Some f) (sym here))
+      | inr later ↦
+          let passed : test x ≡ false = first.1 x (above (number_of x) fault faults rising.0 later) in
+          rw passed (found test faults fault rising.1 later first)
+    ]
+
+refused_first : (ports : ℕ) (d : Tables) (fault : ScenarioFault) → IsFirst (λ f. applies f ports d) fault → refusal ports d ≡ Some fault
+refused_first ports d fault first =
+    elim (listed ports d fault) [
+      | inl passes ↦ absurd (false≢true (sym passes ∙ first.0))
+      | inr there ↦ found (λ f. applies f ports d) refusals fault rising there first
+    ]
+
+pub least_refusal : (ports : ℕ) (t : Members) (fault : ScenarioFault) → (reading ports t ≡ Err fault) ↔ IsLeast fault ports (tables_of t)
+least_refusal ports t fault = (
+  λ h.
+      let both = least (λ f. applies f ports (tables_of t)) refusals (contents_of (tables_of t)) fault rising (listed ports (tables_of t)) h in
+      record { holds = both.0; lesser = both.1 },
+  λ h. ap (λ (o : Option ScenarioFault). answered o (contents_of (tables_of t))) (refused_first ports (tables_of t) fault (h.holds, h.lesser)),
+)
 
 -- ---- accepted
 
-ten : (a b c d e f g h i j : Bool) → cond a (Some UnknownKey) (cond b (Some WrongType) (cond c (Some MissingKey) (cond d (Some Range) (cond e (Some Name) (cond f (Some Duplicate) (cond g (Some Supplies) (cond h (Some Floors) (cond i (Some UnknownName) (cond j (Some Limit) None))))))))) ≡ None
-    → (a ≡ false) × (b ≡ false) × (c ≡ false) × (d ≡ false) × (e ≡ false) × (f ≡ false) × (g ≡ false) × (h ≡ false) × (i ≡ false) × (j ≡ false)
-ten true b c d e f g h i j is = absurd (cc)
-ten false true c d e f g h i j is = absurd (cc)
-ten false false true d e f g h i j is = absurd (cc)
-ten false false false true e f g h i j is = absurd (cc)
-ten false false false false true f g h i j is = absurd (cc)
-ten false false false false false true g h i j is = absurd (cc)
-ten false false false false false false true h i j is = absurd (cc)
-ten false false false false false false false true i j is = absurd (cc)
-ten false false false false false false false false true j is = absurd (cc)
-ten false false false false false false false false false true is = absurd (cc)
-ten false false false false false false false false false false is = (refl, refl, refl, refl, refl, refl, refl, refl, refl, refl)
+passed_all : (test : ScenarioFault → Bool) (faults : List ScenarioFault) (fault : ScenarioFault) → find test faults ≡ None → IsIn fault faults → test fault ≡ false
+passed_all test [] fault none there = absurd there
+passed_all test (x ∷ faults) fault none there =
+    elim (cases_Bool (test x)) [
+      | inl chosen ↦ let e : Some x ≡ None = rw chosen at none in absurd (cc)
+      | inr passed ↦
+          let rest : find test faults ≡ None = rw passed at none in
+          elim there [ inl here ↦ rw here passed | inr later ↦ passed_all test faults fault rest later ]
+    ]
+
+none_found : (test : ScenarioFault → Bool) (faults : List ScenarioFault) → ((fault : ScenarioFault) → test fault ≡ false) → find test faults ≡ None
+none_found test [] passes = refl
+none_found test (x ∷ faults) passes = rw (passes x) (none_found test faults passes)
+
+none_of : (ports : ℕ) (d : Tables) → refusal ports d ≡ None → (fault : ScenarioFault) → applies fault ports d ≡ false
+none_of ports d none fault =
+    elim (listed ports d fault) [
+      | inl passes ↦ passes
+      | inr there ↦ passed_all (λ f. applies f ports d) refusals fault none there
+    ]
 
 none_applies : (o : Option ScenarioFault) (c k : Contents) → answered o c ≡ Ok k → (o ≡ None) × (c ≡ k)
 none_applies None c k h = (refl, cc)
 none_applies (Some fault) c k h = absurd (cc)
 
+pub accepted_exactly : (ports : ℕ) (t : Members) (c : Contents)
+    → (reading ports t ≡ Ok c) ↔ ((contents_of (tables_of t) ≡ c) × ((fault : ScenarioFault) → applies fault ports (tables_of t) ≡ false))
+accepted_exactly ports t c = (
+  λ h. let both = none_applies (refusal ports (tables_of t)) (contents_of (tables_of t)) c h in (both.1, none_of ports (tables_of t) both.0),
+  λ both. same_answer (refusal ports (tables_of t)) (contents_of (tables_of t)) c (none_found (λ f. applies f ports (tables_of t)) refusals both.1) both.0,
+)
+
 pub accepted_is_valid : (ports : ℕ) (t : Members) (c : Contents) → 1 ≤ ports → ports ≤ 8 → reading ports t ≡ Ok c → IsValid ports c
 accepted_is_valid ports t c some few h =
     let d = tables_of t in
     let both = none_applies (refusal ports d) (contents_of d) c h in
-    let all = ten (fails_somewhere UnknownKey ports d) (fails_somewhere WrongType ports d) (fails_somewhere MissingKey ports d) (fails_somewhere Range ports d) (fails_somewhere Name ports d) (has_duplicate (contents_of d)) (fails_somewhere Supplies ports d) (exceeds_budget (contents_of d)) (has_unknown_name (contents_of d)) (exceeds_limit ports (contents_of d)) both.0 in
-    let tables : Clean ports d = record { keys = all.0; types = all.1; complete = all.2; ranged = all.3; named = all.4 } in
-    let later : Later ports d = record { tables = tables; single = all.5; supplied = all.6 } in
-    let last : Last ports d = record { later = later; funded = all.7; known = all.8 } in
-    let P : Contents → Type 0 = λ x. IsValid ports x in
-    subst P both.1 (valid ports d some few last all.9)
+    let none = none_of ports d both.0 in
+    let tables : Clean ports d = record { keys = none UnknownKey; types = none WrongType; complete = none MissingKey; ranged = none Range; named = none Name } in
+    let later : Later ports d = record { tables = tables; single = none Duplicate; supplied = none Supplies } in
+    let last : Last ports d = record { later = later; funded = none Floors; known = none UnknownName } in
+    same_valid ports (contents_of d) c both.1 (valid ports d some few last (none Limit))
 
 -- a file of tables is never answered to be no TOML
 pub not_toml : (ports : ℕ) (t : Members) → reading ports t ≡ Err Toml → ⊥
-not_toml ports t h = false≢true (least_refusal ports t Toml h).0
+not_toml ports t h = false≢true ((least_refusal ports t Toml).0 h).holds

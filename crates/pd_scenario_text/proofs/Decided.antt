@@ -10,13 +10,13 @@ use Rattle.pd_plan.specs.Settings.{SettingsData}
 use Rattle.pd_scenario.specs.declared.contents.NamedCable.{NamedCable}
 use Rattle.pd_scenario.specs.declared.contents.NamedSink.{NamedSink}
 use Rattle.pd_scenario.specs.declared.contents.ScenarioEvent.{ScenarioEvent}
-use Rattle.pd_scenario_text.specs.declared.fault.ScenarioFault.{ScenarioFault}
-use Rattle.pd_scenario_text.specs.declared.fault.ScenarioFault.TheVariants.{Toml, UnknownKey, WrongType, MissingKey, Range, Name, Duplicate, Supplies, Floors, UnknownName, Limit, Memory}
+use Rattle.pd_scenario_tables.specs.declared.fault.ScenarioFault.{ScenarioFault}
+use Rattle.pd_scenario_tables.specs.declared.fault.ScenarioFault.TheVariants.{Toml, UnknownKey, WrongType, MissingKey, Range, Name, Duplicate, Supplies, Floors, UnknownName, Limit, Memory}
 use Rattle.pd_scenario_text.specs.Names.{cable_names, sink_names, name_check}
-use Rattle.pd_scenario_text.specs.Convert.{Tables, contents_of}
+use Rattle.pd_scenario_text.specs.Contents.{Tables, contents_of}
 use Rattle.pd_scenario_text.specs.Refusals.{fails_somewhere, table_refusals, has_duplicate, has_unknown_name, exceeds_budget, exceed_limits, exceeds_limit, refusal}
 use Rattle.pd_scenario_text.specs.Reading.{Answers, answered}
-use Rattle.pd_scenario_text.proofs.Members.{filter_map-more}
+use Rattle.pd_scenario_tables.proofs.Members.{filter_map-more}
 
 -- no refusal of single tables applies, up to the names
 pub record Clean (ports : ℕ) (d : Tables) : Type 0 where

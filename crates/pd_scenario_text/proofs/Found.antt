@@ -23,7 +23,7 @@ use Rattle.pd_scenario.specs.declared.contents.ScenarioHappening.TheVariants.{On
 use Rattle.pd_scenario.specs.declared.contents.ScenarioEvent.{ScenarioEvent}
 use Rattle.pd_scenario_text.specs.Names.{texts, cable_names, sink_names, has_text, Has, kind_is_in, is_in, name_check}
 use Rattle.pd_scenario_text.proofs.Differing.{list_any-last, list_any-same, differ, differ-part, differ-last, turn_from, insert_has}
-use Rattle.pd_scenario_text.proofs.Members.{list_any-map}
+use Rattle.pd_scenario_tables.proofs.Members.{list_any-map}
 
 -- ---- the definitions as one
 

@@ -1,38 +1,38 @@
 -- A file to which no refusal applies gives a scenario that keeps every limit.
-use Rattle.std.proofs.Common.{◌≡◌, ℕ, ◌<◌, ◌≤◌, ℤ, pos, Bool, true, false, not, ◌||◌, ◌&&◌, ◌==◌, List, [], ◌∷◌, length, map, refl, sym, ap, ◌∙◌, arith, lit<, Some, None}
-use Rattle.std.specs.Prelude.{Option, is_none, nat_lt, nat_le, sum_by, All}
+use Rattle.std.proofs.Common.{◌≡◌, ℕ, ◌≤◌, Bool, true, false, not, ◌||◌, ◌&&◌, ◌==◌, List, [], ◌∷◌, length, map, refl, arith, lit<, Bor, BTreeMap, String, Global}
+use Rattle.std.specs.Prelude.{nat_lt, sum_by, All}
 use Rattle.std.specs.List.{list_any, list_all}
-use Rattle.std.proofs.lemmas.Bool.{false≢true, and_parts, and_from, or_parts, not-false}
+use Rattle.std.proofs.lemmas.Bool.{and_parts, or_parts, not-false}
 use Rattle.std.proofs.lemmas.Bool.Decides.{nat_tests}
 use Rattle.std.proofs.lemmas.List.Elements.{All-nil, All-cons}
-use Rattle.toml.specs.Data.{Data, Members}
+use Rattle.toml.specs.Data.{Members}
+use Rattle.toml.specs.View.{table_view}
+use Rattle.toml.specs.declared.value.Value.{Value}
 use Rattle.pd_sink.specs.Settings.{IsSink}
 use Rattle.pd_plan.specs.Settings.{SettingsData, IsSettings}
 use Rattle.pd_scenario.specs.Names.{is_name}
-use Rattle.pd_scenario.specs.Limits.{allows, is_port}
-use Rattle.pd_scenario.specs.Contents.{Contents, IsValid, event_fits, happening_fits, kind_fits, names_differ, ids_differ, names_are_known, least_budget}
+use Rattle.pd_scenario.specs.Contents.{Contents, IsValid, event_fits, names_differ, ids_differ, names_are_known, least_budget}
 use Rattle.pd_scenario.specs.declared.limits.Quantity.TheVariants as quantity
 use Rattle.pd_scenario.specs.declared.contents.NamedCable.{NamedCable}
 use Rattle.pd_scenario.specs.declared.contents.NamedSink.{NamedSink}
 use Rattle.pd_scenario.specs.declared.contents.ScenarioEvent.{ScenarioEvent}
-use Rattle.pd_scenario_text.specs.declared.schema.Version.{Version}
-use Rattle.pd_scenario_text.specs.declared.schema.EventName.{EventName}
-use Rattle.pd_scenario_text.specs.declared.schema.EventName.TheVariants as event
-use Rattle.pd_scenario_text.specs.declared.schema.TableKind.{TableKind}
-use Rattle.pd_scenario_text.specs.declared.schema.TableKind.TheVariants.{Top, Port, Cable, Sink, Event}
-use Rattle.pd_scenario_text.specs.declared.schema.Key.TheVariants as key
-use Rattle.pd_scenario_text.specs.declared.schema.Need.TheVariants.{Required}
-use Rattle.pd_scenario_text.specs.declared.schema.Form.TheVariants as form
-use Rattle.pd_scenario_text.specs.declared.fault.ScenarioFault.{ScenarioFault}
-use Rattle.pd_scenario_text.specs.declared.fault.ScenarioFault.TheVariants as fault
-use Rattle.pd_scenario_text.specs.Schema.{rule, rules_of, event_rules, any_event, top_rules}
-use Rattle.pd_scenario_text.specs.Words.{event_named}
-use Rattle.pd_scenario_text.specs.Values.{word_of, small, is_known}
-use Rattle.pd_scenario_text.specs.Tables.{value_at, word_in, value_fails, number_at, event_at, fails, event_fails, is_sound, is_sound_event, is_sound_port}
-use Rattle.pd_scenario_text.specs.Convert.{Tables, settings_of, cable_of, sink_of, happening_of, event_of, contents_of}
+use Rattle.pd_scenario_tables.specs.declared.schema.Version.{Version}
+use Rattle.pd_scenario_tables.specs.declared.schema.TableKind.{TableKind}
+use Rattle.pd_scenario_tables.specs.declared.schema.TableKind.TheVariants.{Top, Port, Cable, Sink, Event}
+use Rattle.pd_scenario_tables.specs.declared.schema.Key.TheVariants as key
+use Rattle.pd_scenario_tables.specs.declared.schema.Need.TheVariants.{Required}
+use Rattle.pd_scenario_tables.specs.declared.schema.Form.TheVariants as form
+use Rattle.pd_scenario_tables.specs.declared.fault.ScenarioFault.{ScenarioFault}
+use Rattle.pd_scenario_tables.specs.declared.fault.ScenarioFault.TheVariants as fault
+use Rattle.pd_scenario_tables.specs.Schema.{rule}
+use Rattle.pd_scenario_tables.specs.Tables.{event_at, fails, event_fails, is_sound, is_sound_event, is_sound_port, IsSound, IsSoundPort}
+use Rattle.pd_scenario_tables.specs.Seen.{views}
+use Rattle.pd_scenario_tables.specs.Convert.{settings_of, cable_of, sink_of, event_of}
+use Rattle.pd_scenario_text.specs.Contents.{Tables, contents_of}
 use Rattle.pd_scenario_text.specs.Refusals.{fails_somewhere, has_duplicate, has_unknown_name, exceeds_budget, exceed_limits, exceeds_limit}
-use Rattle.pd_scenario_text.proofs.Sound.{Holds, holds, needed, port_needed}
-use Rattle.pd_scenario_text.proofs.Parts.{cable_named, sink_named, sink_fits, port_fits, attach_named, demand_allowed, damage_allowed, budget_allowed}
+use Rattle.pd_scenario_tables.proofs.Sound.{Holds, holds, needed}
+use Rattle.pd_scenario_tables.proofs.Parts.{cable_named, sink_named, sink_fits, port_fits}
+use Rattle.pd_scenario_tables.proofs.Events.{event_fit}
 use Rattle.pd_scenario_text.proofs.Decided.{Clean, Later, Last}
 
 -- ---- where a refusal applies nowhere
@@ -109,6 +109,27 @@ sound_ports ports d h supplied =
 sound_top : (ports : ℕ) (d : Tables) → Clean ports d → is_sound d.version ports Top d.top ≡ true
 sound_top ports d h = sound d.version ports Top d.top (nowhere fault.MissingKey ports d h.complete).top (nowhere fault.Range ports d h.ranged).top (nowhere fault.Name ports d h.named).top
 
+-- the tables that the code keeps are sound
+each_table : (p : Members → Bool) (Q : Members → Type 0) → ((t : Members) → p t ≡ true → Q t) → (ts : List (Bor (BTreeMap (String Global) Value))) → list_all p (views ts) ≡ true → All (λ (t : Bor (BTreeMap (String Global) Value)). Q (table_view t.now)) ts
+each_table p Q each [] h = All-nil (λ (t : Bor (BTreeMap (String Global) Value)). Q (table_view t.now))
+each_table p Q each (t ∷ ts) h =
+    let both = and_parts (p (table_view t.now)) (list_all p (views ts)) h in
+    All-cons (λ (u : Bor (BTreeMap (String Global) Value)). Q (table_view u.now)) t ts (each (table_view t.now) both.0) (each_table p Q each ts both.1)
+
+pub tables_of_cables_sound : (version : Version) (ports : ℕ) (ts : List (Bor (BTreeMap (String Global) Value))) → list_all (is_sound version ports Cable) (views ts) ≡ true → All (λ (t : Bor (BTreeMap (String Global) Value)). IsSound Cable (table_view t.now)) ts
+tables_of_cables_sound version ports ts h = each_table (is_sound version ports Cable) (IsSound Cable) (λ t s. record { version = version; ports = ports; sound = s }) ts h
+
+pub tables_of_sinks_sound : (version : Version) (ports : ℕ) (ts : List (Bor (BTreeMap (String Global) Value))) → list_all (is_sound version ports Sink) (views ts) ≡ true → All (λ (t : Bor (BTreeMap (String Global) Value)). IsSound Sink (table_view t.now)) ts
+tables_of_sinks_sound version ports ts h = each_table (is_sound version ports Sink) (IsSound Sink) (λ t s. record { version = version; ports = ports; sound = s }) ts h
+
+pub tables_of_events_sound : (version : Version) (ports : ℕ) (ts : List (Bor (BTreeMap (String Global) Value))) → list_all (is_sound_event version ports) (views ts) ≡ true
+    → All (λ (t : Bor (BTreeMap (String Global) Value)). IsSound (Event (event_at version (table_view t.now))) (table_view t.now)) ts
+tables_of_events_sound version ports ts h =
+    each_table (is_sound_event version ports) (λ t. IsSound (Event (event_at version t)) t) (λ t s. record { version = version; ports = ports; sound = s }) ts h
+
+pub tables_of_ports_sound : (version : Version) (ports : ℕ) (ts : List (Bor (BTreeMap (String Global) Value))) → list_all (is_sound_port version ports) (views ts) ≡ true → All (λ (t : Bor (BTreeMap (String Global) Value)). IsSoundPort (table_view t.now)) ts
+tables_of_ports_sound version ports ts h = each_table (is_sound_port version ports) IsSoundPort (λ t s. record { version = version; ports = ports; sound = s }) ts h
+
 -- ---- each of a list
 
 all_of : {A B : Type 0} (p : A → Bool) (q : B → Bool) (f : A → B) → ((x : A) → p x ≡ true → q (f x) ≡ true) → (xs : List A) → list_all p xs ≡ true → list_all q (map f xs) ≡ true
@@ -122,85 +143,6 @@ every p Q f each [] h = All-nil Q
 every p Q f each (x ∷ xs) h =
     let both = and_parts (p x) (list_all p xs) h in
     All-cons Q (f x) (map f xs) (each x both.0) (every p Q f each xs both.1)
-
--- ---- events
-
-known_in : (version : Version) (o : Option Data) → (true && is_none o) ≡ false → value_fails (λ d. is_known (event_named version (word_of d))) o ≡ false → is_known (event_named version (word_in o)) ≡ true
-known_in version None there h = absurd (false≢true (sym there))
-known_in version (Some d) there h = not-false (is_known (event_named version (word_of d))) h
-
-record Common (version : Version) (ports : ℕ) (t : Members) : Type 0 where
-  id : Holds version ports (rule key.Id Required (form.Number quantity.EventId)) t
-  at : Holds version ports (rule key.At Required (form.Number quantity.Time)) t
-  kind : Holds version ports (rule key.Kind Required form.EventWord) t
-
-common : (version : Version) (ports : ℕ) (name : EventName) (t : Members) → is_sound version ports (Event name) t ≡ true → Common version ports t
-common version ports event.Attach t s = record {
-  id = holds version ports (Event event.Attach) t (rule key.Id Required (form.Number quantity.EventId)) s (3, lit< tt, refl);
-  at = holds version ports (Event event.Attach) t (rule key.At Required (form.Number quantity.Time)) s (4, lit< tt, refl);
-  kind = holds version ports (Event event.Attach) t (rule key.Kind Required form.EventWord) s (5, lit< tt, refl);
-}
-common version ports event.Detach t s = record {
-  id = holds version ports (Event event.Detach) t (rule key.Id Required (form.Number quantity.EventId)) s (1, lit< tt, refl);
-  at = holds version ports (Event event.Detach) t (rule key.At Required (form.Number quantity.Time)) s (2, lit< tt, refl);
-  kind = holds version ports (Event event.Detach) t (rule key.Kind Required form.EventWord) s (3, lit< tt, refl);
-}
-common version ports event.Demand t s = record {
-  id = holds version ports (Event event.Demand) t (rule key.Id Required (form.Number quantity.EventId)) s (2, lit< tt, refl);
-  at = holds version ports (Event event.Demand) t (rule key.At Required (form.Number quantity.Time)) s (3, lit< tt, refl);
-  kind = holds version ports (Event event.Demand) t (rule key.Kind Required form.EventWord) s (4, lit< tt, refl);
-}
-common version ports event.Lose t s = record {
-  id = holds version ports (Event event.Lose) t (rule key.Id Required (form.Number quantity.EventId)) s (1, lit< tt, refl);
-  at = holds version ports (Event event.Lose) t (rule key.At Required (form.Number quantity.Time)) s (2, lit< tt, refl);
-  kind = holds version ports (Event event.Lose) t (rule key.Kind Required form.EventWord) s (3, lit< tt, refl);
-}
-common version ports event.Damage t s = record {
-  id = holds version ports (Event event.Damage) t (rule key.Id Required (form.Number quantity.EventId)) s (3, lit< tt, refl);
-  at = holds version ports (Event event.Damage) t (rule key.At Required (form.Number quantity.Time)) s (4, lit< tt, refl);
-  kind = holds version ports (Event event.Damage) t (rule key.Kind Required form.EventWord) s (5, lit< tt, refl);
-}
-common version ports event.GetSource t s = record {
-  id = holds version ports (Event event.GetSource) t (rule key.Id Required (form.Number quantity.EventId)) s (1, lit< tt, refl);
-  at = holds version ports (Event event.GetSource) t (rule key.At Required (form.Number quantity.Time)) s (2, lit< tt, refl);
-  kind = holds version ports (Event event.GetSource) t (rule key.Kind Required form.EventWord) s (3, lit< tt, refl);
-}
-common version ports event.GetSink t s = record {
-  id = holds version ports (Event event.GetSink) t (rule key.Id Required (form.Number quantity.EventId)) s (1, lit< tt, refl);
-  at = holds version ports (Event event.GetSink) t (rule key.At Required (form.Number quantity.Time)) s (2, lit< tt, refl);
-  kind = holds version ports (Event event.GetSink) t (rule key.Kind Required form.EventWord) s (3, lit< tt, refl);
-}
-common version ports event.Budget t s = record {
-  id = holds version ports (Event event.Budget) t (rule key.Id Required (form.Number quantity.EventId)) s (1, lit< tt, refl);
-  at = holds version ports (Event event.Budget) t (rule key.At Required (form.Number quantity.Time)) s (2, lit< tt, refl);
-  kind = holds version ports (Event event.Budget) t (rule key.Kind Required form.EventWord) s (3, lit< tt, refl);
-}
-common version ports event.Unknown t s = record {
-  id = holds version ports (Event event.Unknown) t (rule key.Id Required (form.Number quantity.EventId)) s (6, lit< tt, refl);
-  at = holds version ports (Event event.Unknown) t (rule key.At Required (form.Number quantity.Time)) s (7, lit< tt, refl);
-  kind = holds version ports (Event event.Unknown) t (rule key.Kind Required form.EventWord) s (8, lit< tt, refl);
-}
-
-happening_fit : (version : Version) (ports : ℕ) (name : EventName) (t : Members) → ports ≤ 8 → is_known name ≡ true → is_sound version ports (Event name) t ≡ true → happening_fits ports (happening_of name t) ≡ true
-happening_fit version ports event.Attach t few known s = rw (port_needed version ports key.Port t few (holds version ports (Event event.Attach) t (rule key.Port Required form.PortNumber) s (2, lit< tt, refl)), (attach_named version ports t s).0, (attach_named version ports t s).1)
-happening_fit version ports event.Detach t few known s = rw (port_needed version ports key.Port t few (holds version ports (Event event.Detach) t (rule key.Port Required form.PortNumber) s (0, lit< tt, refl)))
-happening_fit version ports event.Demand t few known s = rw (port_needed version ports key.Port t few (holds version ports (Event event.Demand) t (rule key.Port Required form.PortNumber) s (1, lit< tt, refl)), demand_allowed version ports t s)
-happening_fit version ports event.Lose t few known s = rw (port_needed version ports key.Port t few (holds version ports (Event event.Lose) t (rule key.Port Required form.PortNumber) s (0, lit< tt, refl)))
-happening_fit version ports event.Damage t few known s = rw (port_needed version ports key.Port t few (holds version ports (Event event.Damage) t (rule key.Port Required form.PortNumber) s (2, lit< tt, refl)), (damage_allowed version ports t s).0, (damage_allowed version ports t s).1)
-happening_fit version ports event.GetSource t few known s = rw (port_needed version ports key.Port t few (holds version ports (Event event.GetSource) t (rule key.Port Required form.PortNumber) s (0, lit< tt, refl)))
-happening_fit version ports event.GetSink t few known s = rw (port_needed version ports key.Port t few (holds version ports (Event event.GetSink) t (rule key.Port Required form.PortNumber) s (0, lit< tt, refl)))
-happening_fit version ports event.Budget t few known s = budget_allowed version ports t s
-happening_fit version ports event.Unknown t few known s = absurd (false≢true known)
-
-event_fit : (version : Version) (ports : ℕ) (t : Members) → ports ≤ 8 → is_sound_event version ports t ≡ true → event_fits ports (event_of version t) ≡ true
-event_fit version ports t few s =
-    let parts = common version ports (event_at version t) t s in
-    let id = needed version ports key.Id quantity.EventId t parts.id in
-    let at = needed version ports key.At quantity.Time t parts.at in
-    let known = known_in version (value_at key.Kind t) parts.kind.there parts.kind.ranged in
-    let what = happening_fit version ports (event_at version t) t few known s in
-    let numbers = and_from (allows quantity.EventId ((event_of version t).id)) (allows quantity.Time ((event_of version t).at)) id at in
-    and_from (allows quantity.EventId ((event_of version t).id) && allows quantity.Time ((event_of version t).at)) (happening_fits ports ((event_of version t).happening)) numbers what
 
 -- ---- the whole
 

@@ -1,12 +1,6 @@
-pub mod Convert
+pub mod Contents
 pub mod Document
 pub mod Laws
 pub mod Names
-pub mod Numbers
 pub mod Reading
 pub mod Refusals
-pub mod Schema
-pub mod Seen
-pub mod Tables
-pub mod Values
-pub mod Words

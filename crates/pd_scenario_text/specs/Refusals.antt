@@ -7,11 +7,11 @@ use Rattle.pd_scenario.specs.Contents.{Contents, names_differ, ids_differ, names
 use Rattle.pd_scenario.specs.declared.contents.NamedCable.{NamedCable}
 use Rattle.pd_scenario.specs.declared.contents.NamedSink.{NamedSink}
 use Rattle.pd_scenario.specs.declared.contents.ScenarioEvent.{ScenarioEvent}
-use Rattle.pd_scenario_text.specs.declared.schema.TableKind.TheVariants.{Top, Port, Cable, Sink}
-use Rattle.pd_scenario_text.specs.declared.fault.ScenarioFault.{ScenarioFault}
-use Rattle.pd_scenario_text.specs.declared.fault.ScenarioFault.TheVariants.{Toml, UnknownKey, WrongType, MissingKey, Range, Name, Duplicate, Supplies, Floors, UnknownName, Limit, Memory}
-use Rattle.pd_scenario_text.specs.Tables.{fails, event_fails}
-use Rattle.pd_scenario_text.specs.Convert.{Tables, contents_of}
+use Rattle.pd_scenario_tables.specs.declared.schema.TableKind.TheVariants.{Top, Port, Cable, Sink}
+use Rattle.pd_scenario_tables.specs.declared.fault.ScenarioFault.{ScenarioFault}
+use Rattle.pd_scenario_tables.specs.declared.fault.ScenarioFault.TheVariants.{Toml, UnknownKey, WrongType, MissingKey, Range, Name, Duplicate, Supplies, Floors, UnknownName, Limit, Memory}
+use Rattle.pd_scenario_tables.specs.Tables.{fails, event_fails}
+use Rattle.pd_scenario_text.specs.Contents.{Tables, contents_of}
 
 -- the refusal applies to some table of a file for so many ports
 unfoldable pub fails_somewhere : ScenarioFault → ℕ → Tables → Bool

@@ -3,20 +3,19 @@
 ghost use Rattle.std.specs.Prelude.{◌≡◌, ◌≤◌, pos, find, nat_lt, sum_by, IfOk};
 ghost use Rattle.toml.specs.View.{table_view};
 ghost use Rattle.pd_scenario.specs.Contents.{budget_of, least_budget};
-ghost use Rattle.pd_scenario_text.specs.Values.{small};
-ghost use Rattle.pd_scenario_text.specs.Tables.{value_at, whole_in};
-ghost use Rattle.pd_scenario_text.specs.Convert.{tables_of, contents_of};
+ghost use Rattle.pd_scenario_tables.specs.Values.{small};
+ghost use Rattle.pd_scenario_tables.specs.Tables.{value_at, whole_in};
+ghost use Rattle.pd_scenario_text.specs.Contents.{tables_of, contents_of};
 ghost use Rattle.pd_scenario_text.specs.Refusals.{fails_somewhere, table_refusals, refusal, exceed_limits};
 ghost use Rattle.pd_scenario_text.specs.Reading.{answered, Answers};
 
-use crate::convert::{all_cables, all_events, all_settings, all_sinks};
 use crate::distinct::check_names;
-use crate::fault::ScenarioFault;
-use crate::schema::{Key, TableKind, Version};
-use crate::tables::{fails, some_event_fails, some_fails, tables_at, version_at, whole_at};
-use crate::values::small;
+use crate::lists::{all_cables, all_events, all_settings, all_sinks, some_event_fails, some_fails};
 use pd_plan::Settings;
 use pd_scenario::{NamedCable, NamedSink, Scenario, ScenarioEvent, ScenarioHappening};
+use pd_scenario_tables::{
+    Key, ScenarioFault, TableKind, Version, fails, number_at, tables_at, version_at,
+};
 use std::alloc::{AllocError, Global};
 use toml::Table;
 
@@ -97,7 +96,7 @@ impl<'a> Document<'a> {
     fn top_number(&self, key: Key) -> u32
         ensures { result ≡ small (whole_in (value_at key (seen self.now).top) (pos 0)) }
     {
-        small(whole_at(self.top, key, 0))
+        number_at(self.top, key)
     }
 
     /// The scenario of the tables, for N ports.
@@ -113,13 +112,13 @@ impl<'a> Document<'a> {
         if let Some(fault) = self.first_refusal(ports) {
             return Err(fault);
         }
-        let Ok(cables) = all_cables(alloc, self.version, ports, &self.cables) else {
+        let Ok(cables) = all_cables(alloc, &self.cables) else {
             return Err(ScenarioFault::Memory);
         };
-        let Ok(sinks) = all_sinks(alloc, self.version, ports, &self.sinks) else {
+        let Ok(sinks) = all_sinks(alloc, self.version, &self.sinks) else {
             return Err(ScenarioFault::Memory);
         };
-        let Ok(events) = all_events(alloc, self.version, ports, &self.events) else {
+        let Ok(events) = all_events(alloc, self.version, &self.events) else {
             return Err(ScenarioFault::Memory);
         };
         let Ok(checked) = check_names(alloc, &cables, &sinks, &events) else {
@@ -131,7 +130,7 @@ impl<'a> Document<'a> {
         if self.fails_somewhere(ScenarioFault::Supplies, ports) {
             return Err(ScenarioFault::Supplies);
         }
-        let Ok(settings) = all_settings(alloc, self.version, ports, &self.ports) else {
+        let Ok(settings) = all_settings(alloc, &self.ports) else {
             return Err(ScenarioFault::Memory);
         };
         let budget_mw = self.top_number(Key::Budget);

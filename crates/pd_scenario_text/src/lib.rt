@@ -1,18 +1,11 @@
 //! Scenario files: what a text says, and why it is refused.
 #![tactic(auto)]
 
-mod convert;
 mod distinct;
 mod document;
-mod fault;
 pub mod laws;
-mod schema;
-mod tables;
-#[cfg(test)]
-mod tests;
+mod lists;
 mod text;
-mod values;
-mod words;
 
-pub use fault::ScenarioFault;
+pub use pd_scenario_tables::ScenarioFault;
 pub use text::{port_count, scenario_from_text};

@@ -1,20 +1,12 @@
 //! Scenario files.
 
-ghost use Rattle.std.specs.Prelude.{◌≡◌, ◌≤◌};
-ghost use Rattle.toml.specs.View.{table_view};
-ghost use Rattle.pd_scenario_text.specs.Reading.{Reads, Counts, count_of, counted};
+ghost use Rattle.std.specs.Prelude.{◌≤◌};
+ghost use Rattle.pd_scenario_text.specs.Reading.{Reads, Counts};
 
 use crate::document::Document;
-use crate::fault::ScenarioFault;
-use crate::schema::Key;
-use crate::tables::value_at;
-use crate::values::are_tables;
 use pd_scenario::Scenario;
+use pd_scenario_tables::{ScenarioFault, counted};
 use std::alloc::Global;
-use toml::{Table, Value};
-
-/// The most ports.
-const MOST_PORTS: usize = 8;
 
 /// The scenario of a text, for N ports.
 ///
@@ -42,28 +34,6 @@ pub fn scenario_from_text<const N: usize>(
         return Err(ScenarioFault::Memory);
     };
     document.scenario(alloc)
-}
-
-fn count_of(are_tables: bool, len: usize) -> Result<usize, ScenarioFault>
-    ensures { result ≡ count_of are_tables len }
-{
-    if !are_tables {
-        return Err(ScenarioFault::WrongType);
-    }
-    if len < 1 || len > MOST_PORTS {
-        return Err(ScenarioFault::Limit);
-    }
-    Ok(len)
-}
-
-fn counted(table: &Table) -> Result<usize, ScenarioFault>
-    ensures { result ≡ counted (table_view table.now) }
-{
-    match value_at(table, Key::Port) {
-        None => Err(ScenarioFault::MissingKey),
-        Some(Value::Array(items)) => count_of(are_tables(items), items.len()),
-        Some(_) => Err(ScenarioFault::WrongType),
-    }
 }
 
 /// How many ports a text has.

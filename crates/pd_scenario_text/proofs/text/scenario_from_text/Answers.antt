@@ -1,6 +1,6 @@
 use Rattle.std.proofs.Common.{◌≡◌, subst}
 use Rattle.toml.specs.View.{table_view}
-use Rattle.pd_scenario_text.specs.Convert.{Tables, contents_of}
+use Rattle.pd_scenario_text.specs.Contents.{Tables, contents_of}
 use Rattle.pd_scenario_text.specs.Refusals.{refusal}
 use Rattle.pd_scenario_text.specs.Reading.{IsTextOf, Answers, answered, reading}
 use Rattle.pd_scenario_text.proofs.Answered.{read_answer, not_toml}

@@ -1,29 +1,30 @@
 use Rattle.std.proofs.Common.{◌≡◌, ◌∙◌, not, map, sym, ap, lit<}
-use Rattle.pd_scenario_text.specs.Seen.{views}
+use Rattle.pd_scenario_tables.specs.Seen.{views}
 use Rattle.pd_scenario_text.specs.Document.{seen}
-use Rattle.pd_scenario_text.specs.Convert.{settings_of, cable_of, sink_of, event_of, contents_of}
+use Rattle.pd_scenario_tables.specs.Convert.{settings_of, cable_of, sink_of, event_of}
+use Rattle.pd_scenario_text.specs.Contents.{contents_of}
 use Rattle.pd_scenario_text.specs.Refusals.{refusal}
 use Rattle.pd_scenario_text.proofs.Decided.{Clean, clean, Later, Last, no_check, a_check, refused_duplicate, refused_supplies, refused_floors, refused_unknown, refused_limit, accepted, same_check, same_exceed, same_limit, same_contents, same_valid, same_answer}
-use Rattle.pd_scenario_text.proofs.Valid.{sound_cables, sound_sinks, sound_events, sound_ports, valid}
+use Rattle.pd_scenario_text.proofs.Valid.{sound_cables, sound_sinks, sound_events, sound_ports, tables_of_cables_sound, tables_of_sinks_sound, tables_of_events_sound, tables_of_ports_sound, valid}
 use Rattle.pd_scenario_text.proofs.document.Document.scenario.Goals as goal
 
 pub all_cables-requires : goal.all_cables-requires
 all_cables-requires g c =
     let d = seen c.args.self.now in
     let k = clean g.row.N d (sym c.first_refusal.ensures ∙ c.in_default.is) in
-    rw c.deref.ensures.value (sound_cables g.row.N d k)
+    rw c.deref.ensures.value (tables_of_cables_sound d.version g.row.N c.args.self.now.cables.items (sound_cables g.row.N d k))
 
 pub all_sinks-requires : goal.all_sinks-requires
 all_sinks-requires g c =
     let d = seen c.args.self.now in
     let k = clean g.row.N d (sym c.first_refusal.ensures ∙ c.in_default.is) in
-    rw c.deref-2.ensures.value (sound_sinks g.row.N d k)
+    rw c.deref-2.ensures.value (tables_of_sinks_sound d.version g.row.N c.args.self.now.sinks.items (sound_sinks g.row.N d k))
 
 pub all_events-requires : goal.all_events-requires
 all_events-requires g c =
     let d = seen c.args.self.now in
     let k = clean g.row.N d (sym c.first_refusal.ensures ∙ c.in_default.is) in
-    rw c.deref-3.ensures.value (sound_events g.row.N d k)
+    rw c.deref-3.ensures.value (tables_of_events_sound d.version g.row.N c.args.self.now.events.items (sound_events g.row.N d k))
 
 pub returns-in_default-checked : goal.returns-in_default-checked
 returns-in_default-checked g c =
@@ -50,7 +51,7 @@ pub all_settings-requires : goal.all_settings-requires
 all_settings-requires g c =
     let d = seen c.args.self.now in
     let k = clean g.row.N d (sym c.first_refusal.ensures ∙ c.in_default.is) in
-    rw c.deref-7.ensures.value (sound_ports g.row.N d k (sym c.fails_somewhere.ensures ∙ c.if-fails_somewhere.false))
+    rw c.deref-7.ensures.value (tables_of_ports_sound d.version g.row.N c.args.self.now.ports.items (sound_ports g.row.N d k (sym c.fails_somewhere.ensures ∙ c.if-fails_somewhere.false)))
 
 pub returns-then-exceed : goal.returns-then-exceed
 returns-then-exceed g c =

@@ -1,0 +1,74 @@
+-- What one table of a file says.
+use Rattle.std.specs.Prelude.{map, unwrap_or}
+use Rattle.toml.specs.Data.{Members}
+use Rattle.pd_identity.specs.declared.CablePlug.TheVariants.{Absent}
+use Rattle.pd_identity.specs.declared.Rating.TheVariants.{ThreeAmperes}
+use Rattle.pd_sink.specs.declared.settings.SinkRevision.TheVariants.{Revision3}
+use Rattle.pd_plan.specs.Settings.{SettingsData}
+use Rattle.pd_scenario.specs.declared.contents.NamedCable.{NamedCable}
+use Rattle.pd_scenario.specs.declared.contents.NamedSink.{NamedSink}
+use Rattle.pd_scenario.specs.declared.contents.ScenarioEventKind.{ScenarioEventKind}
+use Rattle.pd_scenario.specs.declared.contents.ScenarioEventKind.TheVariants as happens
+use Rattle.pd_scenario.specs.declared.contents.ScenarioHappening.{ScenarioHappening}
+use Rattle.pd_scenario.specs.declared.contents.ScenarioHappening.TheVariants.{OnPort, Budget}
+use Rattle.pd_scenario.specs.declared.contents.ScenarioEvent.{ScenarioEvent}
+use Rattle.pd_scenario_tables.specs.declared.schema.Version.{Version}
+use Rattle.pd_scenario_tables.specs.declared.schema.EventName.{EventName}
+use Rattle.pd_scenario_tables.specs.declared.schema.EventName.TheVariants as event
+use Rattle.pd_scenario_tables.specs.declared.schema.Key.TheVariants as key
+use Rattle.pd_scenario_tables.specs.Schema.{port_rules, cable_rules, sink_rules, any_event, on_port, event_rules}
+use Rattle.pd_scenario_tables.specs.Words.{plug_of, rating_of, revision_of}
+use Rattle.pd_scenario_tables.specs.Values.{supply_of}
+use Rattle.pd_scenario_tables.specs.Tables.{whole_at, number_at, truth_at, word_at, elements_at, mode_at, event_at}
+
+abbrev pub settings_of : Members → SettingsData
+settings_of t = record {
+  floor_mw = number_at port_rules key.Floor t;
+  supplies = map supply_of (elements_at key.Supplies t);
+  identity_tries = number_at port_rules key.IdentityTries t;
+  unconstrained = truth_at port_rules key.Unconstrained t;
+}
+
+abbrev pub cable_of : Members → NamedCable
+cable_of t = record {
+  name = word_at key.Name t;
+  cable = record {
+    plug = unwrap_or (plug_of (word_at key.Plug t)) Absent;
+    rating = unwrap_or (rating_of (whole_at cable_rules key.Rating t)) ThreeAmperes;
+  };
+}
+
+-- a sink of a file of the first version is of Revision 3.0
+abbrev pub sink_of : Version → Members → NamedSink
+sink_of version t = record {
+  name = word_at key.Name t;
+  sink = record {
+    max_mv = number_at (sink_rules version) key.Max t;
+    demand_mw = number_at (sink_rules version) key.Demand t;
+    mode = mode_at (sink_rules version) t;
+    revision = unwrap_or (revision_of (whole_at (sink_rules version) key.Revision t)) Revision3;
+  };
+}
+
+abbrev pub on : Members → ScenarioEventKind → ScenarioHappening
+on t kind = OnPort (number_at on_port key.Port t) kind
+
+-- what an event says; one of no known kind is refused
+abbrev pub happening_of : EventName → Members → ScenarioHappening
+happening_of event.Attach t = on t (happens.Attach (word_at key.Cable t) (word_at key.Sink t))
+happening_of event.Detach t = on t happens.Detach
+happening_of event.Demand t = on t (happens.Demand (number_at (event_rules event.Demand) key.Mw t))
+happening_of event.Lose t = on t happens.Lose
+happening_of event.Damage t =
+    on t (happens.Damage (record { place = number_at (event_rules event.Damage) key.Place t; mask = number_at (event_rules event.Damage) key.Mask t }))
+happening_of event.GetSource t = on t happens.GetSource
+happening_of event.GetSink t = on t happens.GetSink
+happening_of event.Budget t = Budget (number_at (event_rules event.Budget) key.Mw t)
+happening_of event.Unknown t = on t happens.Detach
+
+abbrev pub event_of : Version → Members → ScenarioEvent
+event_of version t = record {
+  id = number_at any_event key.Id t;
+  at = number_at any_event key.At t;
+  happening = happening_of (event_at version t) t;
+}

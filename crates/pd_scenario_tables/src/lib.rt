@@ -1,0 +1,16 @@
+//! The tables of a scenario file: which keys each kind has, what one table says, and the refusals of one table.
+#![tactic(auto)]
+
+mod convert;
+mod fault;
+mod ports;
+mod schema;
+mod tables;
+mod values;
+mod words;
+
+pub use convert::{cable_of, event_of, number_at, settings_of, sink_of};
+pub use fault::ScenarioFault;
+pub use ports::counted;
+pub use schema::{EventName, Key, TableKind, Version};
+pub use tables::{event_fails, fails, tables_at, version_at};

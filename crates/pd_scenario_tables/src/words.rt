@@ -1,0 +1,93 @@
+//! The words of a scenario file, and the numbers that stand for a choice.
+
+ghost use Rattle.std.specs.Prelude.{◌≡◌};
+ghost use Rattle.pd_scenario_tables.specs.Words.{plug_of, mode_of, rating_of, revision_of, version_of, event_named};
+
+use crate::schema::{EventName, Version};
+use pd_identity::{CablePlug, Rating};
+use pd_sink::{SinkMode, SinkRevision};
+
+/// The plug of a word.
+pub fn plug_of(word: &str) -> Option<CablePlug>
+    ensures { result ≡ plug_of word.now }
+{
+    match word {
+        "none" => Some(CablePlug::Absent),
+        "ack" => Some(CablePlug::Ack),
+        "nak" => Some(CablePlug::Nak),
+        "busy" => Some(CablePlug::Busy),
+        "silent" => Some(CablePlug::Silent),
+        _ => None,
+    }
+}
+
+/// The mode of a word.
+pub fn mode_of(word: &str) -> Option<SinkMode>
+    ensures { result ≡ mode_of word.now }
+{
+    match word {
+        "pd" => Some(SinkMode::PowerDelivery),
+        "plain" => Some(SinkMode::Plain),
+        "greedy" => Some(SinkMode::Greedy),
+        _ => None,
+    }
+}
+
+/// The rating of a number in mA.
+pub fn rating_of(number: i64) -> Option<Rating>
+    ensures { result ≡ rating_of number }
+{
+    if number == 3_000 {
+        return Some(Rating::ThreeAmperes);
+    }
+    if number == 5_000 {
+        return Some(Rating::FiveAmperes);
+    }
+    None
+}
+
+/// The revision of a number.
+pub fn revision_of(number: i64) -> Option<SinkRevision>
+    ensures { result ≡ revision_of number }
+{
+    if number == 2 {
+        return Some(SinkRevision::Revision2);
+    }
+    if number == 3 {
+        return Some(SinkRevision::Revision3);
+    }
+    None
+}
+
+/// The version of a number.
+pub fn version_of(number: i64) -> Option<Version>
+    ensures { result ≡ version_of number }
+{
+    if number == 1 {
+        return Some(Version::One);
+    }
+    if number == 2 {
+        return Some(Version::Two);
+    }
+    None
+}
+
+/// What the word of an event's kind says in a file of a version.
+pub fn event_named(version: Version, word: &str) -> EventName
+    ensures { result ≡ event_named version word.now }
+{
+    match word {
+        "attach" => EventName::Attach,
+        "detach" => EventName::Detach,
+        "demand" => EventName::Demand,
+        "lose" => EventName::Lose,
+        "damage" => EventName::Damage,
+        "get_source" => EventName::GetSource,
+        "get_sink" => EventName::GetSink,
+        "budget" => match version {
+            Version::One => EventName::Unknown,
+            Version::Two => EventName::Budget,
+        },
+        _ => EventName::Unknown,
+    }
+}

@@ -1,7 +1,0 @@
-use Rattle.std.proofs.Common.{◌≡◌, map, take}
-use Rattle.pd_scenario_text.specs.Seen.{views}
-use Rattle.pd_scenario_text.specs.Convert.{cable_of}
-use Rattle.pd_scenario_text.proofs.convert.all_cables.Given as goal
-
-abbrev pub invariant-loop-table : goal.invariant-loop-table
-invariant-loop-table l = l.all.items ≡ map cable_of (views (take l.table-index l.tables))

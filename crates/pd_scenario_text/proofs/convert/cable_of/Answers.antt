@@ -1,7 +1,0 @@
-use Rattle.std.proofs.Common.{◌≡◌}
-use Rattle.toml.specs.View.{table_view}
-use Rattle.pd_scenario_text.proofs.Parts.{cable_named}
-use Rattle.pd_scenario_text.proofs.convert.cable_of.Goals as goal
-
-pub new-requires : goal.new-requires
-new-requires c = rw c.word_at-name.ensures (cable_named c.args.version c.args.ports (table_view c.args.table.now) c.requires)

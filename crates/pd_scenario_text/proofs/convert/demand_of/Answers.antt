@@ -1,7 +1,0 @@
-use Rattle.std.proofs.Common.{◌≡◌}
-use Rattle.toml.specs.View.{table_view}
-use Rattle.pd_scenario_text.proofs.Parts.{is_demand, demand_allowed}
-use Rattle.pd_scenario_text.proofs.convert.demand_of.Goals as goal
-
-pub new-requires : goal.new-requires
-new-requires c = rw c.number_at-mw.ensures (is_demand _ (demand_allowed c.args.version c.args.ports (table_view c.args.table.now) c.requires))

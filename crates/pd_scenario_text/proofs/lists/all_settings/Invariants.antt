@@ -1,0 +1,7 @@
+use Rattle.std.proofs.Common.{◌≡◌, map, take}
+use Rattle.pd_scenario_tables.specs.Seen.{views}
+use Rattle.pd_scenario_tables.specs.Convert.{settings_of}
+use Rattle.pd_scenario_text.proofs.lists.all_settings.Given as goal
+
+abbrev pub invariant-loop-table : goal.invariant-loop-table
+invariant-loop-table l = l.all.items ≡ map settings_of (views (take l.table-index l.tables))
