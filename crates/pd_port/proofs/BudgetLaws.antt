@@ -19,7 +19,7 @@ use Rattle.pd_plan.specs.Settings.{SettingsData, floor_of}
 use Rattle.pd_port.specs.declared.due.Due.{Due}
 use Rattle.pd_port.specs.declared.due.What.{What}
 use Rattle.pd_port.specs.declared.due.What.TheVariants as what
-use Rattle.pd_port.specs.Budget.{KeepsOrSheds, RestsAreEmpty, EventsComeFirst}
+use Rattle.pd_port.specs.Budget.{KeepsOrSheds, RestsEmpty, RestsAreEmpty, EventsComeFirst}
 use Rattle.pd_port.specs.Happens.{is_budget, is_detach}
 use Rattle.pd_port.specs.Laws.{IsEarliest, source_after_told}
 use Rattle.pd_port.specs.Told.{source_told, told_if_shed}
@@ -29,7 +29,7 @@ use Rattle.pd_port.proofs.PortLaws.{due_event}
 use Rattle.pd_port.proofs.Earliest.{due-IsEarliest, is_before-time, some_due}
 
 -- a source at rest holds nothing
-pub empty_detached : (s : SettingsData) → IsEmptyAtRest (detached s).source
+pub empty_detached : (s : SettingsData) → RestsEmpty (detached s)
 unfolding detached nothing_attached
 empty_detached s = empty-off (source_settings s)
 
@@ -41,7 +41,7 @@ empty_either : (b : Bool) (x y : SourceRecord) → IsEmptyAtRest x → IsEmptyAt
 empty_either true x y h k = h
 empty_either false x y h k = k
 
-pub empty_after : (s : SettingsData) (r : PortRecord) (d : Due) (a : Option Answer) → IsEmptyAtRest r.source → IsEmptyAtRest (record_after s r d a).source
+pub empty_after : (s : SettingsData) (r : PortRecord) (d : Due) (a : Option Answer) → RestsEmpty r → RestsEmpty (record_after s r d a)
 empty_after s r d a h =
     subst IsEmptyAtRest (sym (record_after-source s r d a))
     (empty_either (is_budget d.what) _ _ (empty_told (source_settings s) d.time (told_if_shed a) None r.source h)
@@ -61,7 +61,7 @@ source_of_budget s r d a e =
     else (if is_detach d.what && is_some r.cable then off (source_settings s)
     else source_after_told (source_settings s) d.time (source_told d.what (whole s r)) a r.source)) e
 
-pub keeps_or_sheds : (s : SettingsData) (r : PortRecord) (d : Due) → is_budget d.what ≡ true → IsEmptyAtRest r.source → KeepsOrSheds s r d
+pub keeps_or_sheds : (s : SettingsData) (r : PortRecord) (d : Due) → is_budget d.what ≡ true → RestsEmpty r → KeepsOrSheds s r d
 unfolding hold
 keeps_or_sheds s r d e h = record {
   keeps = ap (hold_of (source_settings s) (floor_of s)) (source_of_budget s r d (Some (answers.Fits true)) e);

@@ -11,10 +11,14 @@ use Rattle.pd_port.specs.declared.due.What.TheVariants as what
 use Rattle.pd_port.specs.Happens.{is_budget}
 use Rattle.pd_port.specs.Port.{PortRecord, due, detached, ask, record_after, hold}
 
--- On a detached port a source at rest holds nothing, and so it is after each step of a port on which it was so.
+-- at rest a port's source holds nothing
+abbrev pub RestsEmpty : PortRecord → Type 0
+RestsEmpty r = IsEmptyAtRest r.source
+
+-- So it is on a detached port, and after each step of a port on which it was so.
 pub record RestsAreEmpty : Type 0 where
-  pub at_start : (s : SettingsData) → IsEmptyAtRest (detached s).source
-  pub after_each : (s : SettingsData) (r : PortRecord) (d : Due) (given : Option Answer) → IsEmptyAtRest r.source → IsEmptyAtRest (record_after s r d given).source
+  pub at_start : (s : SettingsData) → RestsEmpty (detached s)
+  pub after_each : (s : SettingsData) (r : PortRecord) (d : Due) (given : Option Answer) → RestsEmpty r → RestsEmpty (record_after s r d given)
 
 -- Where the budget changes, a hold that may stay stays as it is, and a hold that may not falls to the floor.
 pub record KeepsOrSheds (s : SettingsData) (r : PortRecord) (d : Due) : Type 0 where
@@ -22,7 +26,7 @@ pub record KeepsOrSheds (s : SettingsData) (r : PortRecord) (d : Due) : Type 0 w
   pub sheds : hold s (record_after s r d (Some (answer.Fits false))) ≡ floor_of s
 
 abbrev pub ChangesKeepOrShed : Type 0
-ChangesKeepOrShed = (s : SettingsData) (r : PortRecord) (d : Due) → is_budget d.what ≡ true → IsEmptyAtRest r.source → KeepsOrSheds s r d
+ChangesKeepOrShed = (s : SettingsData) (r : PortRecord) (d : Due) → is_budget d.what ≡ true → RestsEmpty r → KeepsOrSheds s r d
 
 -- with an answer that so much free power allows, a hold comes to no more than is free, or than it was
 abbrev pub HoldsStayAllowed : Type 0
