@@ -1,6 +1,6 @@
 //! Who holds how much of the budget.
 
-ghost use Rattle.std.specs.Prelude.{◌≡◌, ℕ, ◌+◌, ◌-◌, ◌<◌, ◌≤◌, ◌^◌, length, sum, slice_index, slice_set, All, nat_le};
+ghost use Rattle.std.specs.Prelude.{◌≡◌, ℕ, ◌+◌, ◌-◌, ◌<◌, ◌≤◌, ◌^◌, max, length, sum, slice_index, slice_set, All, nat_le};
 ghost use Rattle.pd_ledger.specs.Account.{Account, free_of, total_with};
 ghost use Rattle.pd_ledger.specs.Offer.{answer_of};
 
@@ -10,14 +10,15 @@ use std::marker::Model;
 
 /// The budget of N ports, 1 to 8, and the floor and the hold of each, in microwatts.
 ///
-/// No floor is below 500,000, no hold is below its port's floor, and the holds add to at most the budget.
+/// No floor is below 500,000, no hold is below its port's floor, and the floors add to at most the budget.
 /// Ports are numbered from 1.
 #[derive(Drop)]
 pub struct Ledger<const N: usize> {
     budget: u64,
     floors: [u64; 8],
     holds: [u64; 8],
-    total: u64,
+    // Eight holds add to more than a `u64` holds.
+    total: u128,
 }
 
 impl<const N: usize> Model for Ledger<N> {
@@ -51,15 +52,16 @@ impl<const N: usize> Ledger<N> {
         }
     }
 
-    /// The budget less the other ports' holds.
+    /// The budget less the other ports' holds, and at least the port's floor.
     pub fn free(&self, port: usize) -> u64
         requires first { 1 ≤ port }
         requires last { port ≤ N }
         ensures free { result ≡ free_of self.now (port - 1) }
-        ensures held { slice_index self.now.holds (port - 1) ≤ result }
         ensures least { 500000 ≤ result }
     {
-        self.budget - (self.total - self.holds[port - 1])
+        let others = self.total - u128::from(self.holds[port - 1]);
+        let left = u128::from(self.budget).saturating_sub(others) as u64;
+        left.max(self.floors[port - 1])
     }
 
     /// What a port is answered: the current of each supply that it asks for, whether a power is free, or whether its hold
@@ -78,16 +80,24 @@ impl<const N: usize> Ledger<N> {
         }
     }
 
-    /// From now on the port holds this much.
+    /// From now on the port holds this much: no more than is free to it, or than it held.
     pub fn set_hold(&mut self, port: usize, hold: u64)
         requires first { 1 ≤ port }
         requires last { port ≤ N }
         requires least { slice_index self.old.floors (port - 1) ≤ hold }
-        requires most { hold ≤ free_of self.old (port - 1) }
+        requires most { hold ≤ max (free_of self.old (port - 1)) (slice_index self.old.holds (port - 1)) }
         ensures { self.new ≡ record self.old { holds = slice_set self.old.holds (port - 1) hold } }
     {
-        self.total = self.total - self.holds[port - 1] + hold;
+        self.total = self.total - u128::from(self.holds[port - 1]) + u128::from(hold);
         self.holds[port - 1] = hold;
+    }
+
+    /// From now on the ports share this budget, in microwatts. What they hold stays, and may be more.
+    pub fn set_budget(&mut self, budget: u64)
+        requires { sum self.old.floors ≤ budget }
+        ensures { self.new ≡ record self.old { budget = budget } }
+    {
+        self.budget = budget;
     }
 
     /// Whether so much power of a port, the lower ports' holds and the higher ports' floors fit the budget.
@@ -98,14 +108,14 @@ impl<const N: usize> Ledger<N> {
     {
         let lower = total(&self.holds[..port - 1]);
         let higher = total(&self.floors[port..N]);
-        power <= self.budget - (lower + higher)
+        u128::from(power) + (lower + higher) <= u128::from(self.budget)
     }
 }
 
 /// What these powers add to.
-fn total(powers: &[u64]) -> u64
-    requires { sum powers.now < 2 ^ 64 }
+fn total(powers: &[u64]) -> u128
+    requires { sum powers.now < 2 ^ 67 }
     ensures { result ≡ sum powers.now }
 {
-    powers.iter().sum()
+    powers.iter().map(|power| u128::from(*power)).sum()
 }

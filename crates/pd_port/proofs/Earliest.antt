@@ -95,3 +95,8 @@ earliest-IsEarliest ds d e =
 pub due-IsEarliest : (r : PortRecord) (next : Option EventData) (d : Due) → due r next ≡ Some d → IsEarliest d (dues r next)
 unfolding due
 due-IsEarliest r next d e = earliest-IsEarliest (dues r next) d e
+
+-- where something is due, something falls due that it isn't before
+pub some_due : (r : PortRecord) (next : Option EventData) (c : Due) → IsOneOf c (dues r next) → (d : Due) × (due r next ≡ Some d) × (is_before c d ≡ false)
+unfolding due
+some_due r next c h = beaten (dues r next) c h

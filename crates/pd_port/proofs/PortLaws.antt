@@ -1,6 +1,6 @@
 -- What the run of a charger relies on of a port's step.
 use Rattle.std.proofs.Common.{◌≡◌, ◌⊎◌, ℕ, ◌<◌, ◌≤◌, true, false, List, Option, Some, None, refl, ◌∙◌, sym, ap, subst, inl, inr, arith}
-use Rattle.std.proofs.Common.{Bool, ◌&&◌, if◌then◌else◌, is_some}
+use Rattle.std.proofs.Common.{max, Bool, ◌&&◌, if◌then◌else◌, is_some}
 use Rattle.std.specs.Option.{option_and_then}
 use Rattle.pd_header.specs.declared.side.Side.{Side}
 use Rattle.pd_header.specs.declared.side.Side.TheVariants.{Source, Sink, Plug}
@@ -16,7 +16,7 @@ use Rattle.pd_source.specs.Record.{SourceSettings, SourceRecord, off}
 use Rattle.pd_source.specs.Step.{query_of, hold_of}
 use Rattle.pd_source.specs.declared.kinds.Stimulus.{Stimulus}
 use Rattle.pd_source.specs.declared.kinds.Stimulus.TheVariants as told
-use Rattle.pd_source.proofs.Holds.{hold_of-floor, hold_of-off, hold_of-stepped, hold_of-None}
+use Rattle.pd_source.proofs.Holds.{hold_of-floor, hold_of-off, hold_of-allowed, hold_of-None}
 use Rattle.pd_line.specs.Record.{PortRecord, nothing_attached}
 use Rattle.pd_line.proofs.Later.{later_kept}
 use Rattle.pd_line.specs.Later.{Times, times_of, Later, line_end}
@@ -315,43 +315,44 @@ pub hold_detached : (s : SettingsData) → hold s (detached s) ≡ floor_of s
 unfolding hold detached nothing_attached
 hold_detached s = hold_of-off (source_settings s) (floor_of s)
 
--- a hold that is within the free power stays within it where an answer is allowed
-fits_told : (s : SourceSettings) (r : SourceRecord) (floor free t : ℕ) (x : Option Stimulus) (a : Option Answer) → hold_of s floor r ≤ free →
-    IsAllowed free (option_and_then (λ y. query_of s y r) x) a → hold_of s floor (source_after_told s t x a r) ≤ free
-fits_told s r floor free t None a h i = h
-fits_told s r floor free t (Some x) a h i = hold_of-stepped s floor free t x a r h i
+-- a hold comes to no more than is free, or than it was, where an answer is allowed
+fits_told : (s : SourceSettings) (r : SourceRecord) (floor free t : ℕ) (x : Option Stimulus) (a : Option Answer) →
+    IsAllowed free (option_and_then (λ y. query_of s y r) x) a → hold_of s floor (source_after_told s t x a r) ≤ max free (hold_of s floor r)
+fits_told s r floor free t None a i = omega arith
+fits_told s r floor free t (Some x) a i = hold_of-allowed s floor free t x a r i
 
 -- where the hold may not stay, it is shed
-fits_shed : (s : SourceSettings) (r : SourceRecord) (floor free t : ℕ) (a : Option Answer) → hold_of s floor r ≤ free →
-    hold_of s floor (source_after_told s t (told_if_shed a) None r) ≤ free
-fits_shed s r floor free t (Some (answers.Fits false)) h = hold_of-None s floor free t told.Shed r h
-fits_shed s r floor free t a h = h
+fits_shed : (s : SourceSettings) (r : SourceRecord) (floor free t : ℕ) (a : Option Answer) →
+    hold_of s floor (source_after_told s t (told_if_shed a) None r) ≤ max free (hold_of s floor r)
+fits_shed s r floor free t (Some (answers.Fits false)) =
+    let less : hold_of s floor (source_after_told s t (Some told.Shed) None r) ≤ hold_of s floor r = hold_of-None s floor (hold_of s floor r) t told.Shed r (omega arith) in omega arith
+fits_shed s r floor free t a = omega arith
 
 -- a detached port's hold is its floor
-fits_off : (b : Bool) (s : SettingsData) (r new : SourceRecord) (f : ℕ) → hold_of (source_settings s) (floor_of s) r ≤ f →
-    hold_of (source_settings s) (floor_of s) new ≤ f →
-    hold_of (source_settings s) (floor_of s) (if b then off (source_settings s) else new) ≤ f
-fits_off true s r new f h k =
+fits_off : (b : Bool) (s : SettingsData) (r new : SourceRecord) (f : ℕ) →
+    hold_of (source_settings s) (floor_of s) new ≤ max f (hold_of (source_settings s) (floor_of s) r) →
+    hold_of (source_settings s) (floor_of s) (if b then off (source_settings s) else new) ≤ max f (hold_of (source_settings s) (floor_of s) r)
+fits_off true s r new f k =
     let least = hold_of-floor (source_settings s) (floor_of s) r in
     let e = hold_of-off (source_settings s) (floor_of s) in
     omega arith
-fits_off false s r new f h k = k
+fits_off false s r new f k = k
 
-by_budget : (b : Bool) (s : SettingsData) (r : PortRecord) (d : Due) (x : Option Answer) (f : ℕ) → hold_of (source_settings s) (floor_of s) r.source ≤ f →
+by_budget : (b : Bool) (s : SettingsData) (r : PortRecord) (d : Due) (x : Option Answer) (f : ℕ) →
     IsAllowed f (if b then Some (query.Keep (hold s r)) else asks (whole s r) (source_told d.what (whole s r))) x →
     hold_of (source_settings s) (floor_of s)
     (if b then source_after_told (source_settings s) d.time (told_if_shed x) None r.source
     else (if is_detach d.what && is_some r.cable then off (source_settings s)
-    else source_after_told (source_settings s) d.time (source_told d.what (whole s r)) x r.source)) ≤ f
-by_budget true s r d x f h i = fits_shed (source_settings s) r.source (floor_of s) f d.time x h
-by_budget false s r d x f h i =
-    fits_off (is_detach d.what && is_some r.cable) s r.source _ f h
-    (fits_told (source_settings s) r.source (floor_of s) f d.time (source_told d.what (whole s r)) x h i)
+    else source_after_told (source_settings s) d.time (source_told d.what (whole s r)) x r.source)) ≤ max f (hold_of (source_settings s) (floor_of s) r.source)
+by_budget true s r d x f i = fits_shed (source_settings s) r.source (floor_of s) f d.time x
+by_budget false s r d x f i =
+    fits_off (is_detach d.what && is_some r.cable) s r.source _ f
+    (fits_told (source_settings s) r.source (floor_of s) f d.time (source_told d.what (whole s r)) x i)
 
--- with an allowed answer the hold stays within the free power
-pub hold_fits : (s : SettingsData) (r : PortRecord) (d : Due) (x : Option Answer) (f : ℕ) → hold s r ≤ f → IsAllowed f (ask s r d) x →
-    hold s (record_after s r d x) ≤ f
+-- with an allowed answer a hold comes to no more than is free, or than it was
+pub hold_fits : (s : SettingsData) (r : PortRecord) (d : Due) (x : Option Answer) (f : ℕ) → IsAllowed f (ask s r d) x →
+    hold s (record_after s r d x) ≤ max f (hold s r)
 unfolding hold ask
-hold_fits s r d x f h i =
-    subst (λ (n : SourceRecord). hold_of (source_settings s) (floor_of s) n ≤ f) (sym (record_after-source s r d x))
-    (by_budget (is_budget d.what) s r d x f h i)
+hold_fits s r d x f i =
+    subst (λ (n : SourceRecord). hold_of (source_settings s) (floor_of s) n ≤ max f (hold_of (source_settings s) (floor_of s) r.source)) (sym (record_after-source s r d x))
+    (by_budget (is_budget d.what) s r d x f i)

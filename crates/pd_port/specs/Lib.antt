@@ -1,3 +1,4 @@
+pub mod Budget
 pub mod Happens
 pub mod Laws
 pub mod Meter

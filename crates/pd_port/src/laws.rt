@@ -1,6 +1,7 @@
 //! Laws of a port's step. They run nothing.
 
 ghost use Rattle.pd_port.specs.Laws.{StepsSetLater, DuesAreEarliest, SourceStepsOnce, DetachedAreNew, AnswersMatterOnlyWhereAsked, WaitsWhileBusy, StartsNoTwo, BusyLinesAreLeft};
+ghost use Rattle.pd_port.specs.Budget.{RestsAreEmpty, ChangesKeepOrShed, HoldsStayAllowed, EventsComeFirst};
 
 /// Each deadline and each line's end that a step sets is later than the step.
 pub fn later()
@@ -35,4 +36,13 @@ pub fn busy()
     ensures waits { WaitsWhileBusy }
     ensures no_two { StartsNoTwo }
     ensures left { BusyLinesAreLeft }
+{}
+
+/// What a port holds of the shared budget comes to no more than is free, or than it was. At a change of the budget, which
+/// comes first at its time, a hold that may not stay falls to the floor; a source at rest holds nothing above it.
+pub fn budget()
+    ensures rests { RestsAreEmpty }
+    ensures changes { ChangesKeepOrShed }
+    ensures holds { HoldsStayAllowed }
+    ensures events { EventsComeFirst }
 {}

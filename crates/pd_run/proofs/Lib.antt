@@ -1,7 +1,10 @@
+pub mod Awaited
 pub mod First
+pub mod Forces
 pub mod Moves
 pub mod OneRun
 pub mod Runs
+pub mod Scripts
 pub mod Steps
 pub mod Within
 pub mod Work

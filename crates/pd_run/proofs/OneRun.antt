@@ -13,14 +13,14 @@ use Rattle.pd_run.specs.Run.{Move, standing, GoesOn, IsInOrder, IsAnswered, IsDo
 use Rattle.pd_run.proofs.Moves.{due_after-other, in_order-member}
 
 -- what is left of a run after these moves
-record Rest (plan : Plan) (past rest : List Move) : Type 0 where
-  chained : EachAfter (GoesOn plan) past rest
-  ordered : EachAfter IsInOrder past rest
-  answered : EachAfter (IsAnswered plan) past rest
-  timely : EachAfter (λ _ m. m.due.time ≤ plan.end) past rest
-  complete : (p : ℕ) → p < count plan → IsDone plan (past ++ rest) p
+pub record Rest (plan : Plan) (past rest : List Move) : Type 0 where
+  pub chained : EachAfter (GoesOn plan) past rest
+  pub ordered : EachAfter IsInOrder past rest
+  pub answered : EachAfter (IsAnswered plan) past rest
+  pub timely : EachAfter (λ _ m. m.due.time ≤ plan.end) past rest
+  pub complete : (p : ℕ) → p < count plan → IsDone plan (past ++ rest) p
 
-tail : (plan : Plan) (past : List Move) (x : Move) (xs : List Move) → Rest plan past (x ∷ xs) → Rest plan (past ++ x ∷ []) xs
+pub tail : (plan : Plan) (past : List Move) (x : Move) (xs : List Move) → Rest plan past (x ∷ xs) → Rest plan (past ++ x ∷ []) xs
 tail plan past x xs r = record {
   chained = r.chained.1;
   ordered = r.ordered.1;
@@ -48,7 +48,7 @@ waits plan past (m ∷ ms) p t q d run k e soon least =
     (cases_eq m.port p)
 
 -- the first move of what is left isn't later than what is due on another port
-first_first : (plan : Plan) (past : List Move) (x : Move) (xs : List Move) (p : ℕ) (d : Due) → Rest plan past (x ∷ xs) → p < count plan → x.port ≢ p → due_after plan past p ≡ Some d → d.time ≤ plan.end → IsNoLater x.due.time x.port d.time p
+pub first_first : (plan : Plan) (past : List Move) (x : Move) (xs : List Move) (p : ℕ) (d : Due) → Rest plan past (x ∷ xs) → p < count plan → x.port ≢ p → due_after plan past p ≡ Some d → d.time ≤ plan.end → IsNoLater x.due.time x.port d.time p
 first_first plan past x xs p d run k ne e soon =
     waits plan (past ++ x ∷ []) xs p x.due.time x.port d (tail plan past x xs run) k (due_after-other plan past x p ne ∙ e) soon (λ m more h. in_order-member past more x m h)
 
@@ -65,7 +65,7 @@ unfolding make
 same_move plan past x y gx gy ax ay e =
     let b : x.before ≡ y.before = gx.before_is ∙ ap (λ p. (standing plan past p).state) e ∙ sym gy.before_is in
     let d : x.due ≡ y.due = same_Some _ _ (sym gx.due_is ∙ ap (due_after plan past) e ∙ gy.due_is) in
-    let a : x.answer ≡ y.answer = ax ∙ ap (λ p. reply_after plan past p (ask (settings_of plan p) x.before x.due)) e ∙ ap (λ (r : PortRecord). reply_after plan past y.port (ask (settings_of plan y.port) r x.due)) b ∙ ap (λ (f : Due). reply_after plan past y.port (ask (settings_of plan y.port) y.before f)) d ∙ sym ay in
+    let a : x.answer ≡ y.answer = ax ∙ ap (λ p. reply_after plan past x.due.time p (ask (settings_of plan p) x.before x.due)) e ∙ ap (λ (r : PortRecord). reply_after plan past x.due.time y.port (ask (settings_of plan y.port) r x.due)) b ∙ ap (λ (f : Due). reply_after plan past f.time y.port (ask (settings_of plan y.port) y.before f)) d ∙ sym ay in
     let n : x.entry ≡ y.entry = gx.entry_is ∙ ap (λ p. entry_of (settings_of plan p) x.before x.due x.answer) e ∙ ap (λ (r : PortRecord). entry_of (settings_of plan y.port) r x.due x.answer) b ∙ ap (λ (f : Due). entry_of (settings_of plan y.port) y.before f x.answer) d ∙ ap (entry_of (settings_of plan y.port) y.before y.due) a ∙ sym gy.entry_is in
     let same : make x.port x.before x.due x.answer x.entry ≡ make y.port y.before y.due y.answer y.entry = cc in
     same
@@ -92,7 +92,7 @@ one_rest plan past (x ∷ xs) (y ∷ ys) ra rb =
     let tails : xs ≡ ys = one_rest plan (past ++ y ∷ []) xs ys after_y (tail plan past y ys rb) in
     ap (λ (m : Move). m ∷ xs) head ∙ ap (λ (l : List Move). y ∷ l) tails
 
-whole : (plan : Plan) (a : List Move) → Run plan a → Rest plan [] a
+pub whole : (plan : Plan) (a : List Move) → Run plan a → Rest plan [] a
 whole plan a r = record { chained = r.chained; ordered = r.ordered; answered = r.answered; timely = r.timely; complete = r.complete }
 
 -- a plan has at most one run

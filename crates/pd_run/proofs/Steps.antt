@@ -1,5 +1,5 @@
 -- What the ports, the events that they have had and the budget are after one more move.
-use Rattle.std.proofs.Common.{◌≡◌, ◌≢◌, ℕ, ◌+◌, ◌<◌, ◌≤◌, ⊎_elim, List, [], ◌∷◌, ◌++◌, length, map, sum, Option, Some, option_map, true, refl, ap, sym, ◌∙◌, subst, arith, get_or, slice_index, slice_index_or, slice_set, slice_get, set, replicate}
+use Rattle.std.proofs.Common.{◌≡◌, ◌≢◌, ℕ, ◌+◌, ◌<◌, ◌≤◌, ⊎_elim, List, [], ◌∷◌, ◌++◌, length, map, max, Option, Some, option_map, true, refl, ap, sym, ◌∙◌, subst, arith, get_or, slice_index, slice_index_or, slice_set, slice_get, set, replicate}
 use Rattle.std.specs.List.{range_with_len}
 use Rattle.std.proofs.lemmas.List.{length-map, length-replicate, get_or-replicate, get_or_default, get_or-set_same, get_or-set_other, length-set, same_lists}
 use Rattle.std.proofs.Math.ListN as list_map
@@ -17,11 +17,10 @@ use Rattle.pd_port.proofs.PortLaws.{due_event, hold_fits, hold_detached}
 use Rattle.pd_ledger.specs.Account.{Account, free_of}
 use Rattle.pd_ledger.specs.Offer.{answer_of}
 use Rattle.pd_ledger.proofs.Offers.{answer-allowed}
-use Rattle.pd_ledger.proofs.Sums.{hold-free, sum-set-within}
-use Rattle.pd_scenario.specs.Plan.{Plan, IsPlan, count, settings_of, script_of, floors_of, no_settings}
+use Rattle.pd_scenario.specs.Plan.{Plan, IsPlan, count, settings_of, script_of, floors_of, force, no_settings}
 use Rattle.pd_run.specs.Run.{Move, Standing, standing, moved, after, taken_after, due_after, account_after, holds_after, reply_after}
 use Rattle.pd_run.specs.Start.{start_of, no_port}
-use Rattle.pd_run.specs.Live.{LiveData, Stands, IsFirst, IsNext, due_at, next_move, port_at, port_after, reply_at, moved_port}
+use Rattle.pd_run.specs.Live.{LiveData, Stands, IsFirst, IsNext, at_budget, due_at, next_move, port_at, port_after, reply_at, moved_port}
 use Rattle.pd_run.proofs.Moves.{standing-same, standing-other}
 
 -- a table with one entry changed
@@ -54,15 +53,36 @@ hold_known plan past p lt = get_or-map-range_with_len (λ k. hold (settings_of p
 pub length-holds_after : (plan : Plan) (past : List Move) → length (holds_after plan past) ≡ count plan
 length-holds_after plan past = length-map-range_with_len (λ k. hold (settings_of plan k) (standing plan past k).state) 0 (count plan)
 
--- the hold after a move is within the power that was free
-pub hold_after-fits : (plan : Plan) (past : List Move) (live : LiveData) (p : ℕ) (d : Due) → Stands plan past live → p < count plan → hold (settings_of plan p) (after plan (next_move plan past p d)) ≤ free_of live.account p
-hold_after-fits plan past live p d s lt =
-    let inside : p < length (holds_after plan past) = omega (arith, length-holds_after plan past) in
-    let within = subst (λ (l : Account). sum l.holds ≤ l.budget) s.account_is s.funded in
-    let old = hold-free (account_after plan past) p inside within in
-    let held : hold (settings_of plan p) (standing plan past p).state ≤ free_of (account_after plan past) p = omega (arith, hold_known plan past p lt) in
-    let fits = hold_fits (settings_of plan p) (standing plan past p).state d (reply_after plan past p (ask (settings_of plan p) (standing plan past p).state d)) (free_of (account_after plan past) p) held (answer-allowed (account_after plan past) p _) in
-    subst (λ (l : Account). hold (settings_of plan p) (after plan (next_move plan past p d)) ≤ free_of l p) (sym s.account_is) fits
+-- the shared budget, as these moves leave it at a time
+pub account_known : (plan : Plan) (past : List Move) (live : LiveData) (at : ℕ) → Stands plan past live → live.account.budget ≡ force plan at → live.account ≡ account_after plan past at
+account_known plan past live at s budget_is = λ i. record { budget = budget_is i; floors = s.floors_are i; holds = s.holds_are i }
+
+-- the hold after a move is no more than was free, or than it was
+pub hold_after-fits : (plan : Plan) (past : List Move) (live : LiveData) (p : ℕ) (d : Due) → Stands plan past live → live.account.budget ≡ force plan d.time → p < count plan →
+    hold (settings_of plan p) (after plan (next_move plan past p d)) ≤ max (free_of live.account p) (slice_index live.account.holds p)
+hold_after-fits plan past live p d s budget_is lt =
+    let account = account_after plan past d.time in
+    let fits = hold_fits (settings_of plan p) (standing plan past p).state d (reply_after plan past d.time p (ask (settings_of plan p) (standing plan past p).state d)) (free_of account p) (answer-allowed account p _) in
+    let known : hold (settings_of plan p) (after plan (next_move plan past p d)) ≤ max (free_of account p) (slice_index account.holds p) = omega (arith, hold_known plan past p lt, fits) in
+    subst (λ (l : Account). hold (settings_of plan p) (after plan (next_move plan past p d)) ≤ max (free_of l p) (slice_index l.holds p)) (sym (account_known plan past live d.time s budget_is)) known
+
+-- with another budget all of it stands
+pub Stands-budget : (plan : Plan) (past : List Move) (live : LiveData) (budget : ℕ) → Stands plan past live → Stands plan past (at_budget live budget)
+Stands-budget plan past live budget s = record {
+  ports_count = s.ports_count;
+  taken_count = s.taken_count;
+  ports_are = s.ports_are;
+  taken_are = s.taken_are;
+  floors_are = s.floors_are;
+  holds_are = s.holds_are;
+}
+
+-- and the same port is the next
+pub IsNext-budget : (plan : Plan) (live : LiveData) (port : ℕ) (d : Due) (budget : ℕ) → IsNext plan live port d → IsNext plan (at_budget live budget) port d
+IsNext-budget plan live port d budget h = record {
+  from_one = h.from_one;
+  first = record { known = h.first.known; is_due = h.first.is_due; soon = h.first.soon; least = h.first.least };
+}
 
 -- all of it after one more move
 pub Stands-step : (plan : Plan) (past : List Move) (live : LiveData) (p : ℕ) (d : Due) (port : PortData) (more : List ℕ) (h : ℕ) → Stands plan past live → p < count plan
@@ -75,7 +95,6 @@ Stands-step plan past live p d port more h s lt port_is counted at_p at_others h
     let others : (k : ℕ) → k ≢ p → standing plan (past ++ m ∷ []) k ≡ standing plan past k = λ k ne. standing-other plan past m k (λ e. ne (sym e)) in
     let inside : p < length ports = omega (arith, s.ports_count) in
     let holds : slice_set (holds_after plan past) p h ≡ holds_after plan (past ++ m ∷ []) = table-set _ _ (count plan) p h lt (λ k ne. ap (λ (x : Standing). hold (settings_of plan k) x.state) (others k ne)) (ap (λ (x : Standing). hold (settings_of plan p) x.state) here ∙ sym h_is) in
-    let slots : p < length live.account.holds = omega (arith, length-holds_after plan past, ap (λ (l : Account). length l.holds) s.account_is) in
     record {
       ports_count = length-set ports p port ∙ s.ports_count;
       taken_count = counted ∙ s.taken_count;
@@ -89,16 +108,16 @@ Stands-step plan past live p d port more h s lt port_is counted at_p at_others h
           (λ (same : k ≡ p). ap (slice_index more) same ∙ at_p ∙ ap (λ t. taken_after t d) (s.taken_are p lt) ∙ ap (λ (x : Standing). x.taken) (sym here) ∙ ap (λ i. (standing plan (past ++ m ∷ []) i).taken) (sym same))
           (λ (other : k ≢ p). at_others k other ∙ s.taken_are k kn ∙ ap (λ (x : Standing). x.taken) (sym (others k other)))
           (cases_eq k p);
-      account_is = ap (λ (l : Account). record l { holds = slice_set l.holds p h }) s.account_is ∙ ap (λ hs. record { budget = plan.budget; floors = floors_of plan; holds = hs }) holds;
-      funded = sum-set-within live.account p h slots (rw h_is (hold_after-fits plan past live p d s lt)) s.funded;
+      floors_are = s.floors_are;
+      holds_are = ap (λ hs. slice_set hs p h) s.holds_are ∙ holds;
     }
 
 -- a floor of the account is the port's
 pub floor_known : (plan : Plan) (past : List Move) (live : LiveData) (p : ℕ) → Stands plan past live → slice_index live.account.floors p ≡ floor_of (settings_of plan p)
-floor_known plan past live p s = ap (λ (l : Account). slice_index l.floors p) s.account_is ∙ list_map.get_or-map floor_of plan.settings p no_settings
+floor_known plan past live p s = ap (λ hs. slice_index hs p) s.floors_are ∙ list_map.get_or-map floor_of plan.settings p no_settings
 
 -- an event that falls due is the next one
-some_event : (w : What) → is_event w ≡ true → (e : EventData) × (w ≡ what.Event e)
+pub some_event : (w : What) → is_event w ≡ true → (e : EventData) × (w ≡ what.Event e)
 some_event (what.Event e) h = (e, refl)
 some_event what.Line h = cc
 some_event (what.Timer side timer) h = cc
@@ -129,21 +148,21 @@ Stands-start n plan ports taken is ports_is taken_is =
       taken_count = ap length taken_is ∙ length-replicate n 0 ∙ sym is.settings_count;
       ports_are = λ p k. ap (λ (l : List PortData). get_or l p no_port) ports_is ∙ list_map.get_or-map start_of plan.settings p no_settings;
       taken_are = λ p k. ap (λ (l : List ℕ). slice_index l p) taken_is ∙ get_or-replicate n p 0 0 (omega (arith, is.settings_count));
-      account_is = ap (λ hs. record { budget = plan.budget; floors = floors_of plan; holds = hs }) holds;
-      funded = is.funded;
+      floors_are = refl;
+      holds_are = holds;
     }
 
 -- the answer by the ports is the answer after the moves
-pub reply_known : (plan : Plan) (past : List Move) (live : LiveData) (p : ℕ) (d : Due) → Stands plan past live → p < count plan → reply_at live p d ≡ (next_move plan past p d).answer
-reply_known plan past live p d s lt =
+pub reply_known : (plan : Plan) (past : List Move) (live : LiveData) (p : ℕ) (d : Due) → Stands plan past live → live.account.budget ≡ force plan d.time → p < count plan → reply_at live p d ≡ (next_move plan past p d).answer
+reply_known plan past live p d s budget_is lt =
     ap (λ (x : PortData). option_map (answer_of live.account p) (ask x.settings x.«record» d)) (s.ports_are p lt)
-    ∙ ap (λ (l : Account). option_map (answer_of l p) (ask (settings_of plan p) (standing plan past p).state d)) s.account_is
+    ∙ ap (λ (l : Account). option_map (answer_of l p) (ask (settings_of plan p) (standing plan past p).state d)) (account_known plan past live d.time s budget_is)
 
 -- the port as its move leaves it, by the moves
-pub moved_known : (plan : Plan) (past : List Move) (live : LiveData) (p : ℕ) (d : Due) → Stands plan past live → p < count plan → moved_port live p d ≡ port_after plan (past ++ next_move plan past p d ∷ []) p
-moved_known plan past live p d s lt =
+pub moved_known : (plan : Plan) (past : List Move) (live : LiveData) (p : ℕ) (d : Due) → Stands plan past live → live.account.budget ≡ force plan d.time → p < count plan → moved_port live p d ≡ port_after plan (past ++ next_move plan past p d ∷ []) p
+moved_known plan past live p d s budget_is lt =
     ap (λ (x : PortData). record { settings = x.settings; «record» = record_after x.settings x.«record» d (reply_at live p d) }) (s.ports_are p lt)
-    ∙ ap (λ (a : Option Answer). record { settings = settings_of plan p; «record» = record_after (settings_of plan p) (standing plan past p).state d a }) (reply_known plan past live p d s lt)
+    ∙ ap (λ (a : Option Answer). record { settings = settings_of plan p; «record» = record_after (settings_of plan p) (standing plan past p).state d a }) (reply_known plan past live p d s budget_is lt)
     ∙ ap (λ (x : Standing). record { settings = settings_of plan p; «record» = x.state }) (sym (standing-same plan past (next_move plan past p d) p refl))
 
 -- its hold
@@ -156,7 +175,7 @@ pub next_of_first : (plan : Plan) (live : LiveData) (p : ℕ) (d : Due) → IsFi
 next_of_first plan live p d h = record { from_one = omega arith; first = subst (λ k. IsFirst plan live k d) (omega arith) h }
 
 -- the entry that a port leaves, by the moves
-pub entry_known : (plan : Plan) (past : List Move) (live : LiveData) (p : ℕ) (d : Due) (x : PortData) (a : Option Answer) → Stands plan past live → p < count plan → x ≡ port_at live p → a ≡ reply_at live p d → entry_of x.settings x.«record» d a ≡ (next_move plan past p d).entry
-entry_known plan past live p d x a s lt x_is a_is =
+pub entry_known : (plan : Plan) (past : List Move) (live : LiveData) (p : ℕ) (d : Due) (x : PortData) (a : Option Answer) → Stands plan past live → live.account.budget ≡ force plan d.time → p < count plan → x ≡ port_at live p → a ≡ reply_at live p d → entry_of x.settings x.«record» d a ≡ (next_move plan past p d).entry
+entry_known plan past live p d x a s budget_is lt x_is a_is =
     ap (λ (z : PortData). entry_of z.settings z.«record» d a) (x_is ∙ s.ports_are p lt)
-    ∙ ap (entry_of (settings_of plan p) (standing plan past p).state d) (a_is ∙ reply_known plan past live p d s lt)
+    ∙ ap (entry_of (settings_of plan p) (standing plan past p).state d) (a_is ∙ reply_known plan past live p d s budget_is lt)

@@ -1,61 +1,455 @@
--- The holds of a run fit the budget.
-use Rattle.std.proofs.Common.{◌≡◌, ℕ, ◌<◌, ◌≤◌, List, [], ◌∷◌, ◌++◌, length, map, sum, Option, refl, ap, sym, subst, arith, slice_index, slice_set, replicate}
+-- The holds of a run fit the budget at the end of each instant.
+use Rattle.std.proofs.Common.{◌≡◌, ◌≢◌, ⊎_elim, ◌⊎◌, ℕ, zero, suc, ◌+◌, ◌-◌, ◌<◌, ◌≤◌, Bool, true, false, nat_le, max, List, [], ◌∷◌, ◌++◌, length, map, sum, take, drop, Option, Some, None, option_map, refl, ap, sym, ◌∙◌, subst, inl, inr, arith, append_assoc, slice_get, slice_index, slice_index_or, slice_set, if◌then◌else◌}
+use Rattle.std.specs.Prelude.{All, Contains}
+use Rattle.std.specs.List.{range_with_len}
+use Rattle.std.proofs.lemmas.List.{append-nil, get_or-set_same, get_or-set_other, length-set}
+use Rattle.std.proofs.lemmas.Bool.{cases_lt, cases_eq, cases_Bool}
+use Rattle.std.proofs.lemmas.Bool.Decides.{nat_tests}
+use Rattle.std.proofs.lemmas.Option.{same_Some}
 use Rattle.pd_objects.specs.Answers.{IsAllowed}
 use Rattle.pd_objects.specs.declared.query.Answer.{Answer}
+use Rattle.pd_objects.specs.declared.query.Answer.TheVariants as answers
+use Rattle.pd_objects.specs.declared.query.Query.{Query}
+use Rattle.pd_objects.specs.declared.query.Query.TheVariants as query
 use Rattle.pd_plan.specs.Settings.{floor_of}
-use Rattle.pd_port.specs.Port.{ask, hold}
-use Rattle.pd_port.proofs.PortLaws.{hold_fits, hold_floor}
-use Rattle.pd_ledger.specs.Account.{Account, free_of}
+use Rattle.pd_plan.specs.Events.{EventData}
+use Rattle.pd_port.specs.declared.due.Due.{Due}
+use Rattle.pd_port.specs.declared.due.What.{What}
+use Rattle.pd_port.specs.declared.due.What.TheVariants as what
+use Rattle.pd_port.specs.Budget.{RestsEmpty}
+use Rattle.pd_port.specs.Happens.{is_budget, changes_budget}
+use Rattle.pd_port.specs.Laws.{NotBefore}
+use Rattle.pd_port.specs.Port.{PortRecord, is_event, due, ask, hold}
+use Rattle.pd_port.proofs.PortLaws.{due_event, due_first, hold_fits, hold_floor, hold_detached}
+use Rattle.pd_port.proofs.BudgetLaws.{empty_detached, empty_after, ask_budget, keeps_or_sheds, due_some, event_first}
+use Rattle.pd_ledger.specs.Account.{Account, free_of, total_with}
+use Rattle.pd_ledger.specs.Offer.{answer_of}
 use Rattle.pd_ledger.proofs.Offers.{answer-allowed}
-use Rattle.pd_ledger.proofs.Sums.{hold-free, sum-set-within}
-use Rattle.pd_scenario.specs.Plan.{Plan, IsPlan, count, settings_of}
-use Rattle.pd_run.specs.Order.{EachAfter}
-use Rattle.pd_run.specs.Run.{Move, Run, Standing, standing, after, account_after, holds_after, GoesOn, IsAnswered}
-use Rattle.pd_run.specs.Start.{start_of}
-use Rattle.pd_run.specs.Laws.{HoldsFit, IsWithin}
-use Rattle.pd_run.proofs.Moves.{standing-same, standing-other}
-use Rattle.pd_run.proofs.Steps.{table-set, hold_known, length-holds_after, Stands-start}
+use Rattle.pd_ledger.proofs.Sums.{sum-set}
+use Rattle.pd_scenario.specs.declared.budget.BudgetChange.{BudgetChange}
+use Rattle.pd_scenario.specs.Plan.{Plan, IsPlan, count, settings_of, script_of, floors_of, told_at, force}
+use Rattle.pd_run.specs.Order.{EachAfter, IsNoLater}
+use Rattle.pd_run.specs.Run.{Move, Run, Standing, standing, moved, after, taken_after, due_after, account_after, holds_after, reply_after, GoesOn, IsInOrder, NoneLater, IsAnswered}
+use Rattle.pd_run.specs.Laws.{AreFloored, HoldsFit, EndsBetween, IsWithin}
+use Rattle.pd_run.proofs.Moves.{standing-same, standing-other, none_later-raise}
+use Rattle.pd_run.proofs.OneRun.{Rest, tail, whole, first_first}
+use Rattle.pd_run.proofs.Forces.{ChangeIn, NoneIn, change_or_none, same_force, ChangeAt, change_at, changes_there}
+use Rattle.pd_run.proofs.Scripts.{next_tells}
+use Rattle.pd_run.proofs.Steps.{table-set, hold_known, length-holds_after, some_event}
+use Rattle.pd_run.proofs.Awaited.{tells, counted, all_counted, counted_at, length-all_counted, Told, told_of, tells_of, counted_floor, counted_hold, counted_less, counted_falls, floor_at, length-floors, sum-below, sum-parts}
 
-holds_floored : (plan : Plan) (past : List Move) (p : ℕ) → p < count plan → floor_of (settings_of plan p) ≤ slice_index (holds_after plan past) p
-holds_floored plan past p lt = omega (arith, hold_known plan past p lt, hold_floor (settings_of plan p) (standing plan past p).state)
+-- no hold is below its floor
+floored : (plan : Plan) (past : List Move) → AreFloored plan past
+floored plan past p lt = omega (arith, hold_known plan past p lt, hold_floor (settings_of plan p) (standing plan past p).state)
 
--- one more move keeps the holds within the budget
-fits_step : (plan : Plan) (past : List Move) (m : Move) → HoldsFit plan past → GoesOn plan past m → IsAnswered plan past m → HoldsFit plan (past ++ m ∷ [])
-fits_step plan past m fit goes answered =
+floored_from : (plan : Plan) (past rest : List Move) → EachAfter (λ before m. AreFloored plan (before ++ m ∷ [])) past rest
+floored_from plan past [] = tt
+floored_from plan past (m ∷ ms) = (floored plan (past ++ m ∷ []), floored_from plan (past ++ m ∷ []) ms)
+
+-- The events that the ports have had are no later than these moves.
+abbrev HaveHad : Plan → List Move → Type 0
+HaveHad plan past = (t p q i : ℕ) (e : EventData) → NoneLater t p past → i < (standing plan past q).taken → slice_get (script_of plan q) i ≡ Some e → IsNoLater e.at q t p
+
+-- none of the earlier moves, and not the last one
+split : (t p : ℕ) (past : List Move) (m : Move) → NoneLater t p (past ++ m ∷ []) → NoneLater t p past × IsNoLater m.due.time m.port t p
+split t p [] m h = (tt, h.0)
+split t p (x ∷ xs) m h = let k = split t p xs m h.1 in ((h.0, k.0), k.1)
+
+below_next : (i n : ℕ) → i < n + 1 → (i < n) ⊎ (i ≡ n)
+below_next i n h = elim (cases_lt i n) [ inl lt ↦ inl lt | inr le ↦ inr (omega arith) ]
+
+by_event : (b : Bool) (i n : ℕ) → i < (if b then n + 1 else n) → (i < n) ⊎ ((b ≡ true) × (i ≡ n))
+by_event true i n h = elim (below_next i n h) [ inl lt ↦ inl lt | inr e ↦ inr (refl, e) ]
+by_event false i n h = inl h
+
+-- an event that a move uses up is at the move's time
+had_now : (plan : Plan) (past : List Move) (m : Move) (t p i : ℕ) (e : EventData) → GoesOn plan past m → IsNoLater m.due.time m.port t p → is_event m.due.what ≡ true → i ≡ (standing plan past m.port).taken →
+    slice_get (script_of plan m.port) i ≡ Some e → IsNoLater e.at m.port t p
+had_now plan past m t p i e goes le ev is get =
+    let x = some_event m.due.what ev in
+    let next = due_event _ _ m.due x.0 goes.due_is x.1 in
+    let one : e ≡ x.0 = same_Some _ _ (sym get ∙ ap (slice_get (script_of plan m.port)) is ∙ next.0) in
+    let time : e.at ≡ m.due.time = ap (λ (y : EventData). y.at) one ∙ sym next.1 in
+    record { by_time = omega (arith, le.by_time, time); by_port = λ same. le.by_port (omega (arith, time)) }
+
+had_step : (plan : Plan) (past : List Move) (m : Move) → HaveHad plan past → GoesOn plan past m → HaveHad plan (past ++ m ∷ [])
+had_step plan past m had goes = λ t p q i e none lt get.
+    let parts = split t p past m none in
+    ⊎_elim
+    (λ (same : m.port ≡ q).
+    let here : (standing plan (past ++ m ∷ []) q).taken ≡ taken_after (standing plan past q).taken m.due = ap (λ (s : Standing). s.taken) (standing-same plan past m q same) in
+    let lt_here : i < taken_after (standing plan past q).taken m.due = omega (arith, here) in
+    elim (by_event (is_event m.due.what) i (standing plan past q).taken lt_here) [
+      | inl before ↦ had t p q i e parts.0 before get
+      | inr now ↦
+          let at_port : i ≡ (standing plan past m.port).taken = now.1 ∙ ap (λ k. (standing plan past k).taken) (sym same) in
+          let got : slice_get (script_of plan m.port) i ≡ Some e = ap (λ k. slice_get (script_of plan k) i) same ∙ get in
+          subst (λ k. IsNoLater e.at k t p) same (had_now plan past m t p i e goes parts.1 now.0 at_port got)
+    ])
+    (λ (other : m.port ≢ q).
+    let there : (standing plan (past ++ m ∷ []) q).taken ≡ (standing plan past q).taken = ap (λ (s : Standing). s.taken) (standing-other plan past m q other) in
+    had t p q i e parts.0 (omega (arith, there)) get)
+    (cases_eq m.port q)
+
+-- nothing is due before a time
+abbrev NothingBefore : Plan → List Move → ℕ → Type 0
+NothingBefore plan past at = (q : ℕ) (d : Due) → q < count plan → due_after plan past q ≡ Some d → at ≤ d.time
+
+-- and so no next event is
+no_event_before : (plan : Plan) (past : List Move) (at q : ℕ) → NothingBefore plan past at → q < count plan → (e : EventData) → slice_get (script_of plan q) (standing plan past q).taken ≡ Some e → at ≤ e.at
+no_event_before plan past at q nothing lt e get =
+    let f = due_some (standing plan past q).state e in
+    let is_due : due_after plan past q ≡ Some f.0 = ap (due (standing plan past q).state) get ∙ f.1 in
+    let k = nothing q f.0 lt is_due in
+    let l = f.2 in
+    omega arith
+
+-- Where the budget changes at t, a port whose events so far are earlier, and whose next event isn't, is told next.
+told_next : (n : ℕ) (plan : Plan) (past : List Move) (q : ℕ) (change : BudgetChange) → IsPlan n plan → q < count plan → Contains plan.forces change →
+    ((i : ℕ) (e : EventData) → i < (standing plan past q).taken → slice_get (script_of plan q) i ≡ Some e → e.at < change.at) →
+    ((e : EventData) → slice_get (script_of plan q) (standing plan past q).taken ≡ Some e → change.at ≤ e.at) →
+    slice_get (script_of plan q) (standing plan past q).taken ≡ Some (told_at change.at)
+told_next n plan past q change is lt there had next =
+    next_tells (script_of plan q) (standing plan past q).taken change.at (is.in_order q) (is.told q (omega (arith, is.settings_count)) change there) had next
+
+-- what counts fits the budget of a time
+abbrev Counts : Plan → List Move → ℕ → Type 0
+Counts plan past at = sum (all_counted plan past at) ≤ force plan at
+
+-- where each port is still to be told, the floors count
+floors_count : (n : ℕ) (plan : Plan) (past : List Move) (at : ℕ) → IsPlan n plan → ((q : ℕ) → q < count plan → tells plan.forces at (slice_get (script_of plan q) (standing plan past q).taken) ≡ true) → Counts plan past at
+floors_count n plan past at is all =
+    let below = sum-below (all_counted plan past at) (floors_of plan) (length-all_counted plan past at ∙ sym (length-floors plan))
+    (λ k lt.
+    let kn : k < count plan = omega (arith, length-all_counted plan past at) in
+    omega (arith, counted_at plan past at k kn, counted_floor plan at k (standing plan past k) (all k kn), floor_at plan k)) in
+    let funded = is.always_funded at in
+    omega arith
+
+-- time passes while nothing is due: where the budget changes all are to be told of it, and else no more counts than before
+passes : (n : ℕ) (plan : Plan) (past : List Move) (from to : ℕ) → IsPlan n plan → HaveHad plan past → NoneLater from (count plan) past → from ≤ to → NothingBefore plan past to → Counts plan past from → Counts plan past to
+passes n plan past from to is had none le nothing counts =
+    elim (change_or_none plan.forces from to) [
+      | inl c ↦
+          let since_then = c.by_then in
+          let since = c.after in
+          floors_count n plan past to is (λ q lt.
+          let next = told_next n plan past q c.change is lt c.one
+          (λ i e before get. let k = (had from (count plan) q i e none before get).by_time in omega arith)
+          (λ e get. let k = no_event_before plan past to q nothing lt e get in omega arith) in
+          tells_of plan.forces c.change.at to _ next (changes_there plan.forces c.change c.one) since_then)
+      | inr still ↦
+          let same = same_force plan from to le still in
+          let below = sum-below (all_counted plan past to) (all_counted plan past from) (length-all_counted plan past to ∙ sym (length-all_counted plan past from))
+          (λ k lt.
+          let kn : k < count plan = omega (arith, length-all_counted plan past to) in
+          omega (arith, counted_at plan past to k kn, counted_at plan past from k kn, counted_falls plan from to k (standing plan past k) le)) in
+          omega arith
+    ]
+
+-- once nothing is due up to a time, what is held counts
+all_held : (plan : Plan) (past : List Move) (at : ℕ) → ((q : ℕ) (d : Due) → q < count plan → due_after plan past q ≡ Some d → at < d.time) → Counts plan past at → sum (holds_after plan past) ≤ force plan at
+all_held plan past at later counts =
+    let below = sum-below (holds_after plan past) (all_counted plan past at) (length-holds_after plan past ∙ sym (length-all_counted plan past at))
+    (λ k lt.
+    let kn : k < count plan = omega (arith, length-holds_after plan past) in
+    let next = slice_get (script_of plan k) (standing plan past k).taken in
+    let not_told : tells plan.forces at next ≡ false =
+    elim (cases_Bool (tells plan.forces at next)) [
+      | inl is_told ↦
+          let told = told_of plan.forces at next is_told in
+          let e = no_event_before plan past (at + 1) k (λ q d qn is. let l = later q d qn is in omega arith) kn told.event told.is_next in
+          let since_then = told.by_then in
+          absurd (omega arith)
+      | inr is_not ↦ is_not
+    ] in
+    omega (arith, hold_known plan past k kn, counted_at plan past at k kn, counted_hold plan at k (standing plan past k) not_told)) in
+    omega arith
+
+-- One more move at a time.
+record Step (plan : Plan) (past : List Move) (m : Move) : Type 0 where
+  goes : GoesOn plan past m
+  answered : IsAnswered plan past m
+  ordered : IsInOrder past m
+  timely : m.due.time ≤ plan.end
+  first : (q : ℕ) (d : Due) → q < count plan → due_after plan past q ≡ Some d → IsNoLater m.due.time m.port d.time q
+
+-- what a move changes of what counts
+counted_after : (plan : Plan) (past : List Move) (m : Move) (at : ℕ) → m.port < count plan →
+    slice_set (all_counted plan past at) m.port (counted plan at m.port (moved plan (standing plan past m.port) m)) ≡ all_counted plan (past ++ m ∷ []) at
+counted_after plan past m at lt =
+    table-set _ _ (count plan) m.port _ lt
+    (λ k ne. ap (counted plan at k) (standing-other plan past m k (λ e. ne (sym e))))
+    (ap (counted plan at m.port) (standing-same plan past m m.port refl))
+
+-- what the sums come to
+record Sums (plan : Plan) (past : List Move) (m : Move) (at : ℕ) : Type 0 where
+  moves : sum (all_counted plan (past ++ m ∷ []) at) + counted plan at m.port (standing plan past m.port) ≡ sum (all_counted plan past at) + counted plan at m.port (moved plan (standing plan past m.port) m)
+  beside : sum (all_counted plan (past ++ m ∷ []) at) ≤ sum (slice_set (holds_after plan past) m.port 0) + counted plan at m.port (moved plan (standing plan past m.port) m)
+
+sums : (plan : Plan) (past : List Move) (m : Move) (at : ℕ) → m.port < count plan → Sums plan past m at
+sums plan past m at lt =
     let p = m.port in
-    let inside : p < length (holds_after plan past) = omega (arith, length-holds_after plan past, goes.known) in
-    let free = free_of (account_after plan past) p in
-    let held : hold (settings_of plan p) m.before ≤ free =
-    omega (arith, hold-free (account_after plan past) p inside fit.within, hold_known plan past p goes.known, ap (hold (settings_of plan p)) goes.before_is) in
-    let allowed : IsAllowed free (ask (settings_of plan p) m.before m.due) m.answer = subst (λ (a : Option Answer). IsAllowed free (ask (settings_of plan p) m.before m.due) a) (sym answered) (answer-allowed (account_after plan past) p (ask (settings_of plan p) m.before m.due)) in
-    let fits = hold_fits (settings_of plan p) m.before m.due m.answer free held allowed in
-    let table : slice_set (holds_after plan past) p (hold (settings_of plan p) (after plan m)) ≡ holds_after plan (past ++ m ∷ []) =
-    table-set _ _ (count plan) p _ goes.known
-    (λ k ne. ap (λ (s : Standing). hold (settings_of plan k) s.state) (standing-other plan past m k (λ e. ne (sym e))))
-    (ap (λ (s : Standing). hold (settings_of plan p) s.state) (standing-same plan past m p refl)) in
-    record {
-      within = subst (λ (l : List ℕ). sum l ≤ plan.budget) table (sum-set-within (account_after plan past) p _ inside fits fit.within);
-      floored = λ k lt. holds_floored plan (past ++ m ∷ []) k lt;
-    }
+    let new = counted plan at p (moved plan (standing plan past p) m) in
+    let table = counted_after plan past m at lt in
+    let cs = all_counted plan past at in
+    let hs = holds_after plan past in
+    let inside : p < length cs = omega (arith, length-all_counted plan past at) in
+    let held : p < length hs = omega (arith, length-holds_after plan past) in
+    let set = sum-set cs p new inside in
+    let own = counted_at plan past at p lt in
+    let whole = ap sum table in
+    let to_new = sum-set hs p new held in
+    let to_zero = sum-set hs p 0 held in
+    let below = sum-below (slice_set cs p new) (slice_set hs p new) (length-set cs p new ∙ length-all_counted plan past at ∙ sym (length-set hs p new ∙ length-holds_after plan past))
+    (λ k less.
+    ⊎_elim
+    (λ (same : k ≡ p).
+    let a = get_or-set_same cs p new 0 inside in
+    let b = get_or-set_same hs p new 0 held in
+    let i = ap (λ j. slice_index (slice_set cs p new) j) same in
+    let j = ap (λ j. slice_index (slice_set hs p new) j) same in
+    omega arith)
+    (λ (other : k ≢ p).
+    let kn : k < count plan = omega (arith, length-set cs p new, length-all_counted plan past at) in
+    omega (arith, get_or-set_other cs p k new 0 other, get_or-set_other hs p k new 0 other, counted_at plan past at k kn, hold_known plan past k kn, counted_less plan at k (standing plan past k)))
+    (cases_eq k p)) in
+    record { moves = omega arith; beside = omega arith }
 
-fits_from : (plan : Plan) (past rest : List Move) → HoldsFit plan past → EachAfter (GoesOn plan) past rest → EachAfter (IsAnswered plan) past rest → EachAfter (λ before m. HoldsFit plan (before ++ m ∷ [])) past rest
-fits_from plan past [] fit goes answered = tt
-fits_from plan past (m ∷ ms) fit goes answered =
-    let next = fits_step plan past m fit goes.0 answered.0 in
-    (next, fits_from plan (past ++ m ∷ []) ms next goes.1 answered.1)
+-- a port that isn't told of a change comes to hold no more than it held, or than is free
+untold : (plan : Plan) (past : List Move) (m : Move) → Step plan past m → tells plan.forces m.due.time (slice_get (script_of plan m.port) (standing plan past m.port).taken) ≡ false → Counts plan past m.due.time → Counts plan (past ++ m ∷ []) m.due.time
+untold plan past m step is_not counts =
+    let p = m.port in
+    let t = m.due.time in
+    let account = account_after plan past t in
+    let before : hold (settings_of plan p) m.before ≡ hold (settings_of plan p) (standing plan past p).state = ap (hold (settings_of plan p)) step.goes.before_is in
+    let allowed : IsAllowed (free_of account p) (ask (settings_of plan p) m.before m.due) m.answer = subst (λ (a : Option Answer). IsAllowed (free_of account p) (ask (settings_of plan p) m.before m.due) a) (sym step.answered) (answer-allowed account p (ask (settings_of plan p) m.before m.due)) in
+    let fits = hold_fits (settings_of plan p) m.before m.due m.answer (free_of account p) allowed in
+    let floor = hold_floor (settings_of plan p) m.before in
+    let own = floor_at plan p in
+    let less = counted_less plan t p (moved plan (standing plan past p) m) in
+    let was = counted_hold plan t p (standing plan past p) is_not in
+    let s = sums plan past m t step.goes.known in
+    let a = s.moves in
+    let b = s.beside in
+    omega arith
+
+-- Before a port is told of a change, all with higher numbers are still to be told.
+others_told : (n : ℕ) (plan : Plan) (past : List Move) (m : Move) (change : BudgetChange) → IsPlan n plan → HaveHad plan past → Step plan past m → Contains plan.forces change → change.at ≡ m.due.time →
+    (q : ℕ) → m.port < q → q < count plan → tells plan.forces m.due.time (slice_get (script_of plan q) (standing plan past q).taken) ≡ true
+others_told n plan past m change is had step there since_then q above lt =
+    let next = told_next n plan past q change is lt there
+    (λ i e before get.
+    let k = had m.due.time m.port q i e step.ordered before get in
+    elim (cases_lt e.at change.at) [
+      | inl less ↦ less
+      | inr more ↦ let l = k.by_time in let o = k.by_port (omega arith) in absurd (omega arith)
+    ])
+    (λ e get. let k = no_event_before plan past m.due.time q (λ r d rn is_due. (step.first r d rn is_due).by_time) lt e get in omega arith) in
+    tells_of plan.forces change.at m.due.time _ next (changes_there plan.forces change there) (omega arith)
+
+-- a port that may keep its hold beside the lower ports' holds and the higher ports' floors
+kept : (n : ℕ) (plan : Plan) (past : List Move) (m : Move) (change : BudgetChange) → IsPlan n plan → HaveHad plan past → Step plan past m → Contains plan.forces change → change.at ≡ m.due.time →
+    hold (settings_of plan m.port) (after plan m) ≡ hold (settings_of plan m.port) m.before → total_with (account_after plan past m.due.time) m.port (hold (settings_of plan m.port) m.before) ≤ force plan m.due.time → Counts plan (past ++ m ∷ []) m.due.time
+kept n plan past m change is had step there since_then same fits =
+    let p = m.port in
+    let t = m.due.time in
+    let h = hold (settings_of plan p) m.before in
+    let new : List Move = past ++ m ∷ [] in
+    let cs = all_counted plan new t in
+    let len = length-all_counted plan new t in
+    let below = sum-parts p h cs (holds_after plan past) (floors_of plan) (len ∙ sym (length-holds_after plan past)) (len ∙ sym (length-floors plan)) (let k = step.goes.known in omega arith)
+    (λ k low.
+    let kn : k < count plan = let l = step.goes.known in omega arith in
+    let at_k : standing plan new k ≡ standing plan past k = standing-other plan past m k (λ e. absurd (omega arith)) in
+    let there_k = ap (counted plan t k) at_k in
+    omega (arith, counted_at plan new t k kn, counted_less plan t k (standing plan past k), hold_known plan past k kn))
+    (let at_p = ap (counted plan t p) (standing-same plan past m p refl) in
+    omega (arith, counted_at plan new t p step.goes.known, counted_less plan t p (moved plan (standing plan past p) m)))
+    (λ k high less.
+    let kn : k < count plan = omega arith in
+    let at_k : standing plan new k ≡ standing plan past k = standing-other plan past m k (λ e. absurd (omega arith)) in
+    let there_k = ap (counted plan t k) at_k in
+    omega (arith, counted_at plan new t k kn, counted_floor plan t k (standing plan past k) (others_told n plan past m change is had step there since_then k high kn), floor_at plan k)) in
+    omega arith
+
+-- a port that may not, sheds to its floor
+shed : (plan : Plan) (past : List Move) (m : Move) → Step plan past m → tells plan.forces m.due.time (slice_get (script_of plan m.port) (standing plan past m.port).taken) ≡ true → hold (settings_of plan m.port) (after plan m) ≡ floor_of (settings_of plan m.port)
+    → Counts plan past m.due.time → Counts plan (past ++ m ∷ []) m.due.time
+shed plan past m step is_told falls counts =
+    let p = m.port in
+    let t = m.due.time in
+    let was = counted_floor plan t p (standing plan past p) is_told in
+    let less = counted_less plan t p (moved plan (standing plan past p) m) in
+    let s = sums plan past m t step.goes.known in
+    let a = s.moves in
+    omega arith
+
+-- a port is told of a change
+told : (n : ℕ) (plan : Plan) (past : List Move) (m : Move) → IsPlan n plan → HaveHad plan past → ((q : ℕ) → RestsEmpty (standing plan past q).state) → Step plan past m →
+    tells plan.forces m.due.time (slice_get (script_of plan m.port) (standing plan past m.port).taken) ≡ true → Counts plan past m.due.time → Counts plan (past ++ m ∷ []) m.due.time
+told n plan past m is had empty step is_told counts =
+    let p = m.port in
+    let t = m.due.time in
+    let s = settings_of plan p in
+    let next = slice_get (script_of plan p) (standing plan past p).taken in
+    let of = told_of plan.forces t next is_told in
+    let e = of.event in
+    let by_then = of.by_then in
+    let not_before : t ≤ e.at = no_event_before plan past t p (λ r d rn is_due. (step.first r d rn is_due).by_time) step.goes.known e of.is_next in
+    let now : t ≡ e.at = omega arith in
+    let is_due : due (standing plan past p).state (Some e) ≡ Some m.due = ap (due (standing plan past p).state) (sym of.is_next) ∙ step.goes.due_is in
+    let what_is : m.due.what ≡ what.Event e = event_first (standing plan past p).state e m.due is_due now in
+    let changes : is_budget m.due.what ≡ true = ap is_budget what_is ∙ of.is_change in
+    let change = change_at plan.forces e.at of.changes_then in
+    let rests : RestsEmpty m.before = subst RestsEmpty (sym step.goes.before_is) (empty p) in
+    let either = keeps_or_sheds s m.before m.due changes rests in
+    let account = account_after plan past t in
+    let power = total_with account p (hold s m.before) in
+    let asked : m.answer ≡ Some (answers.Fits (nat_le power (force plan t))) = step.answered ∙ ap (option_map (answer_of account p)) (ask_budget s m.before m.due changes) in
+    let since_then : change.change.at ≡ t = change.is_then ∙ sym now in
+    elim (cases_Bool (nat_le power (force plan t))) [
+      | inl fits ↦
+          let answer : m.answer ≡ Some (answers.Fits true) = asked ∙ ap (λ (b : Bool). Some (answers.Fits b)) fits in
+          let same : hold s (after plan m) ≡ hold s m.before = subst (λ (a : Option Answer). hold s (after plan (record m { answer = a })) ≡ hold s m.before) (sym answer) either.keeps in
+          let within : power ≤ force plan t = grind (arith, nat_tests) in
+          kept n plan past m change.change is had step change.one since_then same within
+      | inr over ↦
+          let answer : m.answer ≡ Some (answers.Fits false) = asked ∙ ap (λ (b : Bool). Some (answers.Fits b)) over in
+          let falls : hold s (after plan m) ≡ floor_of s = subst (λ (a : Option Answer). hold s (after plan (record m { answer = a })) ≡ floor_of s) (sym answer) either.sheds in
+          shed plan past m step is_told falls counts
+    ]
+
+-- a move at a time keeps what counts within the budget of then
+counts_step : (n : ℕ) (plan : Plan) (past : List Move) (m : Move) → IsPlan n plan → HaveHad plan past → ((q : ℕ) → RestsEmpty (standing plan past q).state) → Step plan past m → Counts plan past m.due.time → Counts plan (past ++ m ∷ []) m.due.time
+counts_step n plan past m is had empty step counts =
+    elim (cases_Bool (tells plan.forces m.due.time (slice_get (script_of plan m.port) (standing plan past m.port).taken))) [
+      | inl is_told ↦ told n plan past m is had empty step is_told counts
+      | inr is_not ↦ untold plan past m step is_not counts
+    ]
+
+-- What is kept along a run: the events that ports have had, that ports at rest hold nothing, and that at each time up to
+-- which all is moved, what counts fits the budget.
+record Keeps (plan : Plan) (past : List Move) : Type 0 where
+  had : HaveHad plan past
+  empty : (q : ℕ) → RestsEmpty (standing plan past q).state
+  counts : (at : ℕ) → NoneLater at (count plan) past → NothingBefore plan past at → Counts plan past at
+
+empty_step : (plan : Plan) (past : List Move) (m : Move) → GoesOn plan past m → ((q : ℕ) → RestsEmpty (standing plan past q).state) → (q : ℕ) → RestsEmpty (standing plan (past ++ m ∷ []) q).state
+empty_step plan past m goes empty q =
+    ⊎_elim
+    (λ (same : m.port ≡ q).
+    let rests : RestsEmpty m.before = subst RestsEmpty (sym goes.before_is) (empty m.port) in
+    let next : RestsEmpty (after plan m) = empty_after (settings_of plan m.port) m.before m.due m.answer rests in
+    subst (λ (s : Standing). RestsEmpty s.state) (sym (standing-same plan past m q same)) next)
+    (λ (other : m.port ≢ q). subst (λ (s : Standing). RestsEmpty s.state) (sym (standing-other plan past m q other)) (empty q))
+    (cases_eq m.port q)
+
+keeps_step : (n : ℕ) (plan : Plan) (past : List Move) (m : Move) → IsPlan n plan → Keeps plan past → Step plan past m → Keeps plan (past ++ m ∷ [])
+keeps_step n plan past m is keeps step =
+    let t = m.due.time in
+    let known = step.goes.known in
+    let had = had_step plan past m keeps.had step.goes in
+    let up : NoneLater t (count plan) past = none_later-raise t m.port t (count plan) past (record { by_time = omega arith; by_port = λ e. omega arith }) step.ordered in
+    let before = keeps.counts t up (λ q d qn is_due. (step.first q d qn is_due).by_time) in
+    let now = counts_step n plan past m is keeps.had keeps.empty step before in
+    record {
+      had = had;
+      empty = empty_step plan past m step.goes keeps.empty;
+      counts = λ at none nothing.
+          let parts = split at (count plan) past m none in
+          let le : t ≤ at = parts.1.by_time in
+          let since_then : NoneLater t (count plan) (past ++ m ∷ []) = joined t (count plan) past m up (record { by_time = omega arith; by_port = λ e. omega arith }) in
+          passes n plan (past ++ m ∷ []) t at is had since_then le nothing now;
+    } where
+      joined : (t p : ℕ) (past : List Move) (m : Move) → NoneLater t p past → IsNoLater m.due.time m.port t p → NoneLater t p (past ++ m ∷ [])
+      joined t p [] m h k = (k, tt)
+      joined t p (x ∷ xs) m h k = (h.0, joined t p xs m h.1 k)
 
 -- at the start each port holds its floor
-fits_start : (n : ℕ) (plan : Plan) → IsPlan n plan → HoldsFit plan []
-fits_start n plan is = record {
-  within =
-      let start = Stands-start n plan (map start_of plan.settings) (replicate n 0) is refl refl in
-      subst (λ (l : Account). sum l.holds ≤ l.budget) start.account_is start.funded;
-  floored = λ k lt. holds_floored plan [] k lt;
+keeps_start : (n : ℕ) (plan : Plan) → IsPlan n plan → Keeps plan []
+keeps_start n plan is = record {
+  had = λ t p q i e none lt get. absurd (omega arith);
+  empty = λ q. empty_detached (settings_of plan q);
+  counts = λ at none nothing.
+      let below = sum-below (all_counted plan [] at) (floors_of plan) (length-all_counted plan [] at ∙ sym (length-floors plan))
+      (λ k lt.
+      let kn : k < count plan = omega (arith, length-all_counted plan [] at) in
+      omega (arith, counted_at plan [] at k kn, counted_less plan at k (standing plan [] k), hold_detached (settings_of plan k), floor_at plan k)) in
+      let funded = is.always_funded at in
+      omega arith;
 }
 
--- the holds of a run stay within the budget
+-- the first move of what is left isn't later than anything that is due
+first_of_rest : (plan : Plan) (past : List Move) (x : Move) (xs : List Move) → Rest plan past (x ∷ xs) → (q : ℕ) (d : Due) → q < count plan → due_after plan past q ≡ Some d → IsNoLater x.due.time x.port d.time q
+first_of_rest plan past x xs run q d lt is_due =
+    ⊎_elim
+    (λ (same : x.port ≡ q).
+    let one : x.due ≡ d = same_Some _ _ (sym run.chained.0.due_is ∙ ap (due_after plan past) same ∙ is_due) in
+    let time = ap (λ (y : Due). y.time) one in
+    record { by_time = omega arith; by_port = λ e. omega arith })
+    (λ (other : x.port ≢ q).
+    elim (cases_lt plan.end d.time) [
+      | inl late ↦ let soon = run.timely.0 in record { by_time = omega arith; by_port = λ e. absurd (omega arith) }
+      | inr in_time ↦ first_first plan past x xs q d run lt other is_due in_time
+    ])
+    (cases_eq x.port q)
+
+step_of_rest : (plan : Plan) (past : List Move) (x : Move) (xs : List Move) → Rest plan past (x ∷ xs) → Step plan past x
+step_of_rest plan past x xs run = record {
+  goes = run.chained.0;
+  answered = run.answered.0;
+  ordered = run.ordered.0;
+  timely = run.timely.0;
+  first = first_of_rest plan past x xs run;
+}
+
+-- after some of the moves of a run
+record Halfway (plan : Plan) (past rest : List Move) : Type 0 where
+  keeps : Keeps plan past
+  left : Rest plan past rest
+
+halfway : (n : ℕ) (plan : Plan) (past more rest : List Move) → IsPlan n plan → Rest plan past (more ++ rest) → Keeps plan past → Halfway plan (past ++ more) rest
+halfway n plan past [] rest is run keeps =
+    subst (λ (l : List Move). Halfway plan l rest) (sym (append-nil past)) (record { keeps = keeps; left = run })
+halfway n plan past (m ∷ ms) rest is run keeps =
+    let next = keeps_step n plan past m is keeps (step_of_rest plan past m (ms ++ rest) run) in
+    subst (λ (l : List Move). Halfway plan l rest) (append_assoc past (m ∷ []) ms)
+    (halfway n plan (past ++ m ∷ []) ms rest is (tail plan past m (ms ++ rest) run) next)
+
+-- the moves of a run are of its ports
+none_later : (plan : Plan) (past done : List Move) (at : ℕ) → EachAfter (GoesOn plan) past done → All (λ m. m.due.time ≤ at) done → NoneLater at (count plan) done
+none_later plan past [] at goes h = tt
+none_later plan past (m ∷ ms) at goes h =
+    let head : m.due.time ≤ at = h 0 m (omega arith) in
+    let known = goes.0.known in
+    (record { by_time = head; by_port = λ e. omega arith }, none_later plan (past ++ m ∷ []) ms at goes.1 (λ k d lt. h (suc k) d (omega arith)))
+
+some_first : (plan : Plan) (past done rest : List Move) → EachAfter (GoesOn plan) past (done ++ rest) → EachAfter (GoesOn plan) past done
+some_first plan past [] rest goes = tt
+some_first plan past (m ∷ ms) rest goes = (goes.0, some_first plan (past ++ m ∷ []) ms rest goes.1)
+
+-- all that is left is later, and so all that is due
+later_due : (plan : Plan) (done rest : List Move) (at : ℕ) → Rest plan done rest → All (λ m. at < m.due.time) rest → at ≤ plan.end → (q : ℕ) (d : Due) → q < count plan → due_after plan done q ≡ Some d → at < d.time
+later_due plan done [] at run later soon q d lt is_due =
+    let end : plan.end < d.time = subst (λ (l : List Move). (e : Due) → due_after plan l q ≡ Some e → plan.end < e.time) (append-nil done) (run.complete q lt) d is_due in
+    omega arith
+later_due plan done (x ∷ xs) at run later soon q d lt is_due =
+    let head : at < x.due.time = later 0 x (omega arith) in
+    let first = (first_of_rest plan done x xs run q d lt is_due).by_time in
+    omega arith
+
+fits_at : (n : ℕ) (plan : Plan) (done rest : List Move) (at : ℕ) → IsPlan n plan → Run plan (done ++ rest) → EndsBetween at done rest → at ≤ plan.end → HoldsFit plan done at
+fits_at n plan done rest at is run ends soon =
+    let half = halfway n plan [] done rest is (whole plan (done ++ rest) run) (keeps_start n plan is) in
+    let later = later_due plan done rest at half.left ends.later soon in
+    let none = none_later plan [] done at (some_first plan [] done rest run.chained) ends.up_to in
+    let counts = half.keeps.counts at none (λ q d lt is_due. let l = later q d lt is_due in omega arith) in
+    record { within = all_held plan done at later counts; floored = floored plan done }
+
+-- the holds of a run fit at the end of each instant
 pub fits_run : (n : ℕ) (plan : Plan) (moves : List Move) → IsPlan n plan → Run plan moves → IsWithin plan moves
 fits_run n plan moves is run = record {
-  at_start = fits_start n plan is;
-  after_each = fits_from plan [] moves (fits_start n plan is) run.chained run.answered;
+  at_ends = λ done rest at e ends soon. fits_at n plan done rest at is (subst (Run plan) e run) ends soon;
+  after_each = floored_from plan [] moves;
 }

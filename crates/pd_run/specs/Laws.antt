@@ -1,7 +1,7 @@
 -- What holds of runs.
-use Rattle.std.specs.Prelude.{◌≡◌, ℕ, ◌<◌, ◌≤◌, List, [], ◌∷◌, ◌++◌, sum, slice_index}
+use Rattle.std.specs.Prelude.{◌≡◌, ℕ, ◌<◌, ◌≤◌, List, [], ◌∷◌, ◌++◌, All, sum, slice_index}
 use Rattle.pd_plan.specs.Settings.{floor_of}
-use Rattle.pd_scenario.specs.Plan.{Plan, count, IsPlan, settings_of}
+use Rattle.pd_scenario.specs.Plan.{Plan, count, IsPlan, settings_of, force}
 use Rattle.pd_run.specs.Order.{EachAfter}
 use Rattle.pd_run.specs.Run.{Move, Run, holds_after}
 
@@ -9,16 +9,26 @@ use Rattle.pd_run.specs.Run.{Move, Run, holds_after}
 abbrev pub OneRun : Type 0
 OneRun = (plan : Plan) (a b : List Move) → Run plan a → Run plan b → a ≡ b
 
--- after these moves the holds add to at most the budget, and none is below its floor
-pub record HoldsFit (plan : Plan) (moves : List Move) : Type 0 where
-  pub within : sum (holds_after plan moves) ≤ plan.budget
-  pub floored : (p : ℕ) → p < count plan → floor_of (settings_of plan p) ≤ slice_index (holds_after plan moves) p
+-- after these moves no hold is below its port's floor
+abbrev pub AreFloored : Plan → List Move → Type 0
+AreFloored plan moves = (p : ℕ) → p < count plan → floor_of (settings_of plan p) ≤ slice_index (holds_after plan moves) p
 
--- the holds fit at the start and after each move
+-- after these moves the holds add to at most the budget of a time, and none is below its floor
+pub record HoldsFit (plan : Plan) (moves : List Move) (at : ℕ) : Type 0 where
+  pub within : sum (holds_after plan moves) ≤ force plan at
+  pub floored : AreFloored plan moves
+
+-- a time ends between these moves and the others: these are up to it, and the others later
+pub record EndsBetween (at : ℕ) (done rest : List Move) : Type 0 where
+  pub up_to : All (λ m. m.due.time ≤ at) done
+  pub later : All (λ m. at < m.due.time) rest
+
+-- At the end of each instant up to the plan's end, once all moves up to it are made, the holds fit the budget of then. In
+-- the middle of an instant they may not; but after each move none is below its floor.
 pub record IsWithin (plan : Plan) (moves : List Move) : Type 0 where
-  pub at_start : HoldsFit plan []
-  pub after_each : EachAfter (λ before m. HoldsFit plan (before ++ m ∷ [])) [] moves
+  pub at_ends : (done rest : List Move) (at : ℕ) → moves ≡ done ++ rest → EndsBetween at done rest → at ≤ plan.end → HoldsFit plan done at
+  pub after_each : EachAfter (λ before m. AreFloored plan (before ++ m ∷ [])) [] moves
 
--- the holds of a run always fit
+-- the holds of a run fit at the end of each instant
 abbrev pub AlwaysFit : Type 0
 AlwaysFit = (n : ℕ) (plan : Plan) (moves : List Move) → IsPlan n plan → Run plan moves → IsWithin plan moves

@@ -1,13 +1,13 @@
 -- Ports that move.
-use Rattle.std.specs.Prelude.{◌≡◌, ℕ, ◌-◌, ◌<◌, ◌≤◌, List, length, sum, slice_index, slice_index_or, slice_get, Option, None, Some, option_map}
+use Rattle.std.specs.Prelude.{◌≡◌, ℕ, ◌-◌, ◌<◌, ◌≤◌, List, length, slice_index, slice_index_or, slice_get, Option, None, Some, option_map}
 use Rattle.pd_objects.specs.declared.query.Answer.{Answer}
 use Rattle.pd_port.specs.declared.due.Due.{Due}
 use Rattle.pd_port.specs.Port.{PortData, due, ask, entry_of, record_after}
 use Rattle.pd_ledger.specs.Account.{Account}
 use Rattle.pd_ledger.specs.Offer.{answer_of}
-use Rattle.pd_scenario.specs.Plan.{Plan, count, settings_of, script_of}
+use Rattle.pd_scenario.specs.Plan.{Plan, count, settings_of, script_of, floors_of}
 use Rattle.pd_run.specs.Order.{IsNoLater}
-use Rattle.pd_run.specs.Run.{Move, standing, account_after, reply_after}
+use Rattle.pd_run.specs.Run.{Move, standing, holds_after, reply_after}
 use Rattle.pd_run.specs.Start.{no_port}
 
 -- the ports, how many events each has had, and the shared budget
@@ -28,14 +28,18 @@ due_at plan live p = due (port_at live p).«record» (slice_get (script_of plan 
 abbrev pub port_after : Plan → List Move → ℕ → PortData
 port_after plan past p = record { settings = settings_of plan p; «record» = (standing plan past p).state }
 
--- the ports, the events that they have had and the shared budget are as these moves leave them
+-- the ports, the events that they have had and what they hold are as these moves leave them
 pub record Stands (plan : Plan) (past : List Move) (live : LiveData) : Type 0 where
   pub ports_count : length live.ports ≡ count plan
   pub taken_count : length live.taken ≡ count plan
   pub ports_are : (p : ℕ) → p < count plan → port_at live p ≡ port_after plan past p
   pub taken_are : (p : ℕ) → p < count plan → slice_index live.taken p ≡ (standing plan past p).taken
-  pub account_is : live.account ≡ account_after plan past
-  pub funded : sum live.account.holds ≤ live.account.budget
+  pub floors_are : live.account.floors ≡ floors_of plan
+  pub holds_are : live.account.holds ≡ holds_after plan past
+
+-- the same with another shared budget
+abbrev pub at_budget : LiveData → ℕ → LiveData
+at_budget live budget = record live { account = record live.account { budget = budget } }
 
 -- the move that a due on a port makes after these moves
 abbrev pub next_move : Plan → List Move → ℕ → Due → Move
@@ -43,8 +47,8 @@ next_move plan past p d = record {
   port = p;
   before = (standing plan past p).state;
   due = d;
-  answer = reply_after plan past p (ask (settings_of plan p) (standing plan past p).state d);
-  entry = entry_of (settings_of plan p) (standing plan past p).state d (reply_after plan past p (ask (settings_of plan p) (standing plan past p).state d));
+  answer = reply_after plan past d.time p (ask (settings_of plan p) (standing plan past p).state d);
+  entry = entry_of (settings_of plan p) (standing plan past p).state d (reply_after plan past d.time p (ask (settings_of plan p) (standing plan past p).state d));
 }
 
 -- among the ports below n, the due of this port is the first one, and not after the end

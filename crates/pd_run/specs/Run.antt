@@ -8,7 +8,7 @@ use Rattle.pd_port.specs.declared.entry.Entry.{Entry}
 use Rattle.pd_port.specs.Port.{PortRecord, is_event, detached, due, ask, record_after, entry_of, hold}
 use Rattle.pd_ledger.specs.Account.{Account}
 use Rattle.pd_ledger.specs.Offer.{answer_of}
-use Rattle.pd_scenario.specs.Plan.{Plan, count, settings_of, script_of, floors_of}
+use Rattle.pd_scenario.specs.Plan.{Plan, count, settings_of, script_of, floors_of, force}
 use Rattle.pd_run.specs.Order.{EachAfter, IsNoLater}
 
 -- one move of one port, the ports being numbered from 0 here: its record before, what fell due, the answer to what it
@@ -62,9 +62,9 @@ due_after plan moves p = due_from plan (standing plan moves p) p
 abbrev pub holds_after : Plan → List Move → List ℕ
 holds_after plan moves = map (λ p. hold (settings_of plan p) (standing plan moves p).state) (range_with_len 0 (count plan))
 
--- the shared budget after these moves
-abbrev pub account_after : Plan → List Move → Account
-account_after plan moves = record { budget = plan.budget; floors = floors_of plan; holds = holds_after plan moves }
+-- the shared budget at a time, after these moves
+abbrev pub account_after : Plan → List Move → ℕ → Account
+account_after plan moves at = record { budget = force plan at; floors = floors_of plan; holds = holds_after plan moves }
 
 -- the move goes on from where the moves before it have left its port
 pub record GoesOn (plan : Plan) (past : List Move) (m : Move) : Type 0 where
@@ -82,13 +82,13 @@ NoneLater time port (m ∷ ms) = IsNoLater m.due.time m.port time port × NoneLa
 abbrev pub IsInOrder : List Move → Move → Type 0
 IsInOrder past m = NoneLater m.due.time m.port past
 
--- the answer to a port's query, by the holds that the moves before have left
-abbrev pub reply_after : Plan → List Move → ℕ → Option Query → Option Answer
-reply_after plan past p query = option_map (answer_of (account_after plan past) p) query
+-- the answer to a port's query at a time, by the budget of then and by the holds that the moves before have left
+abbrev pub reply_after : Plan → List Move → ℕ → ℕ → Option Query → Option Answer
+reply_after plan past at p query = option_map (answer_of (account_after plan past at) p) query
 
 -- the move has the answer to its query, and none where it asks nothing
 abbrev pub IsAnswered : Plan → List Move → Move → Type 0
-IsAnswered plan past m = m.answer ≡ reply_after plan past m.port (ask (settings_of plan m.port) m.before m.due)
+IsAnswered plan past m = m.answer ≡ reply_after plan past m.due.time m.port (ask (settings_of plan m.port) m.before m.due)
 
 -- nothing is due on the port up to the end
 abbrev pub IsDone : Plan → List Move → ℕ → Type 0
@@ -100,7 +100,7 @@ pub record Run (plan : Plan) (moves : List Move) : Type 0 where
   pub chained : EachAfter (GoesOn plan) [] moves
   -- in order by time and port
   pub ordered : EachAfter IsInOrder [] moves
-  -- each query has its answer, by the holds that the moves before have left
+  -- each query has its answer, by the budget of its time and the holds that the moves before have left
   pub answered : EachAfter (IsAnswered plan) [] moves
   -- none is after the end, and none is left out
   pub timely : EachAfter (λ _ m. m.due.time ≤ plan.end) [] moves

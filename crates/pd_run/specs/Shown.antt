@@ -5,7 +5,7 @@ use Rattle.pd_scenario.specs.Plan.{Plan, IsPlan}
 use Rattle.pd_run.specs.Run.{Move, Run, shown}
 use Rattle.pd_run.specs.Laws.{IsWithin}
 
--- these are the entries of the plan's run, in which all that the ports hold is always within the budget
+-- these are the entries of the plan's run, in which what the ports hold is within the budget at the end of each instant
 pub record Shows (plan : Plan) (entries : List (ℕ × Entry)) : Type 0 where
   pub moves : List Move
   pub run : Run plan moves

@@ -7,7 +7,7 @@ pub fn one_run()
     ensures { OneRun }
 {}
 
-/// The ports' holds fit the budget at the start of a run and after each of its moves.
+/// The ports' holds fit the budget of the time at the end of each instant of a run.
 pub fn always_fit()
     ensures { AlwaysFit }
 {}

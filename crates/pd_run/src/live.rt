@@ -3,9 +3,9 @@
 ghost use Rattle.std.specs.Prelude.{◌≡◌, ℕ, ◌+◌, ◌-◌, ◌<◌, ◌≤◌, ◌∷◌, ◌++◌, ◌↔◌, List, [], IfOk, MatchOption, IsTrue, ⊤, option_map};
 ghost use Rattle.pd_port.specs.Port.{is_event};
 ghost use Rattle.pd_ledger.specs.Offer.{answer_of};
-ghost use Rattle.pd_scenario.specs.Plan.{Plan, IsPlan, count};
+ghost use Rattle.pd_scenario.specs.Plan.{Plan, IsPlan, count, force};
 ghost use Rattle.pd_run.specs.Run.{Move};
-ghost use Rattle.pd_run.specs.Live.{LiveData, Stands, IsSoFar, IsNext, IsOver, due_at, next_move, port_at, reply_at, moved_port};
+ghost use Rattle.pd_run.specs.Live.{LiveData, Stands, IsSoFar, IsNext, IsOver, at_budget, due_at, next_move, port_at, reply_at, moved_port};
 
 use crate::Timetable;
 use pd_ledger::Ledger;
@@ -66,12 +66,16 @@ impl<const N: usize> Live<N> {
         &self.ports[port - 1]
     }
 
-    /// The answer to what a port asks at a due.
-    pub fn reply(&self, port: usize, due: &Due) -> Option<Answer>
+    /// The answer to what a port asks at a due. From now on the shared budget is that of the due's time.
+    pub fn reply(&mut self, plan: &Timetable<N>, port: usize, due: &Due) -> Option<Answer>
         requires first { 1 ≤ port }
         requires last { port ≤ N }
-        ensures { result ≡ reply_at self.now (port - 1) due.now }
+        requires stands { (past : List Move) × Stands plan.now past self.old }
+        ensures answer { result ≡ reply_at self.new (port - 1) due.now }
+        ensures budget { self.new ≡ at_budget self.old (force plan.now due.now.time) }
     {
+        let budget = plan.force(due.time);
+        self.ledger.set_budget(budget);
         let query = self.ports[port - 1].ask(due);
         reply(&self.ledger, port, query)
     }
@@ -81,6 +85,7 @@ impl<const N: usize> Live<N> {
         requires plan { IsPlan N plan.now }
         requires stands { (past : List Move) × Stands plan.now past self.old }
         requires next { IsNext plan.now self.old port due.now }
+        requires budget { self.old.account.budget ≡ force plan.now due.now.time }
         requires after { after ≡ moved_port self.old (port - 1) due.now }
         ensures { (past : List Move) → Stands plan.now past self.old
             → Stands plan.now (past ++ next_move plan.now past (port - 1) due.now ∷ []) self.new }

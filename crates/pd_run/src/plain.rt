@@ -86,7 +86,7 @@ fn run<const N: usize>(
     let mut live = Live::new(alloc, plan)?;
     let mut entries = Vec::new(alloc);
     while let Some((port, due)) = live.next(plan) {
-        let answer = live.reply(port, &due);
+        let answer = live.reply(plan, port, &due);
         let mut after = live.port(port).copy();
         let entry = after.step(&due, answer, meter);
         live.settle(plan, port, &due, after);

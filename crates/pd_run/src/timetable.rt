@@ -2,13 +2,13 @@
 
 ghost use Rattle.std.specs.Prelude.{◌≡◌, ℕ, ◌+◌, ◌-◌, ◌<◌, ◌≤◌, slice_get, map, All, IfOk};
 ghost use Rattle.std.specs.Option.{option_copied};
-ghost use Rattle.pd_scenario.specs.Plan.{Plan, IsPlan, settings_of, script_of, floors_of};
+ghost use Rattle.pd_scenario.specs.Plan.{Plan, IsPlan, settings_of, script_of, floors_of, force};
 ghost use Rattle.pd_scenario.specs.Plans.{plan_of};
 ghost use Rattle.pd_run.specs.Start.{start_of};
 
 use pd_plan::{Event, Settings};
 use pd_port::Port;
-use pd_scenario::{BudgetChange, Scenario};
+use pd_scenario::{BudgetChange, Scenario, last_change_by};
 use std::alloc::{AllocError, Global};
 use std::marker::Model;
 
@@ -73,12 +73,24 @@ impl<const N: usize> Timetable<N> {
         self.scripts[port - 1].get(place)
     }
 
-    /// The shared budget in microwatts.
+    /// The shared budget at the start, in microwatts.
     pub fn budget(&self) -> u64
         ensures budget { result ≡ self.now.budget }
         ensures is_plan { IsPlan N self.now }
     {
         self.budget
+    }
+
+    /// The shared budget at a time, in microwatts: that of the last change at or before it, else that of the start.
+    #[tactic(auto, unfolding(pd_scenario::specs::Plan::force))]
+    pub fn force(&self, at: u64) -> u64
+        ensures force { result ≡ force self.now at }
+        ensures is_plan { IsPlan N self.now }
+    {
+        match last_change_by(&self.forces, at) {
+            Some(change) => change.budget,
+            None => self.budget,
+        }
     }
 
     /// The end in microseconds.

@@ -11,7 +11,7 @@ mod parts;
 mod samples;
 mod scenario;
 
-pub use budget::BudgetChange;
+pub use budget::{BudgetChange, last_change_by};
 pub use contents::{NamedCable, NamedSink, ScenarioEvent, ScenarioEventKind, ScenarioHappening};
 pub use limits::Quantity;
 pub use name::{Name, is_name};

@@ -1,8 +1,11 @@
 -- What a port holds while its source steps.
 use Rattle.std.proofs.Common.{◌≡◌, ℕ, ◌≤◌, Bool, true, false, not, nat_le, if◌then◌else◌, List, [], ◌∷◌, Option, Some, None, option_map, fold, max, refl, sym, subst, ap, ◌∙◌, arith}
 use Rattle.std.proofs.lemmas.Bool.Decides.{nat_tests}
-use Rattle.pd_objects.specs.Answers.{IsAllowed}
+use Rattle.pd_objects.specs.Supply.{SupplyData}
+use Rattle.pd_objects.specs.Answers.{IsAllowed, AreWithin}
 use Rattle.pd_objects.specs.declared.query.Answer.{Answer}
+use Rattle.pd_objects.specs.declared.query.Answer.TheVariants as answer
+use Rattle.pd_objects.specs.declared.query.Query.{Query}
 use Rattle.pd_objects.specs.declared.query.Query.TheVariants as query
 use Rattle.pd_source.specs.declared.kinds.Stimulus.{Stimulus}
 use Rattle.pd_source.specs.declared.kinds.Stimulus.TheVariants as stimulus
@@ -205,3 +208,41 @@ hold_of-stepped s floor free now x a r h q =
 -- and so does a step without an answer
 pub hold_of-None : (s : SourceSettings) (floor free now : ℕ) (x : Stimulus) (r : SourceRecord) → hold_of s floor r ≤ free → hold_of s floor (stepped s now x None r) ≤ free
 hold_of-None s floor free now x r h = hold_of-safe s floor free now x None r h (safe-None s floor free r)
+
+-- what is within a power is within more
+within-more : (a b : ℕ) (supplies : List SupplyData) (currents : List ℕ) → a ≤ b → AreWithin a supplies currents → AreWithin b supplies currents
+within-more a b [] [] le h = tt
+within-more a b (s ∷ ss) (c ∷ cs) le h = (let k = h.0 in omega arith, within-more a b ss cs le h.1)
+within-more a b [] (c ∷ cs) le h = absurd h
+within-more a b (s ∷ ss) [] le h = absurd h
+
+-- a power that fits, fits into more
+fits-more : (power a b : ℕ) → a ≤ b → nat_le power a ≡ true → nat_le power b ≡ true
+fits-more power a b le h = grind (arith, nat_tests)
+
+-- the answer that a request doesn't fit is safe, whatever is free
+safe-no : (s : SourceSettings) (floor free : ℕ) (a : Option Answer) (r : SourceRecord) → a ≡ Some (answer.Fits false) → IsSafe s floor free a r
+safe-no s floor free a r e =
+    subst (λ (a : Option Answer). IsSafe s floor free a r) (sym e) (record { drafts = λ offer h. h; fits = λ h. absurd (cc) })
+
+-- A hold that is no more than this, and neither is what is free, stays so where the answer is allowed by what is free.
+capped-fits : (s : SourceSettings) (floor free cap now power : ℕ) (x : Stimulus) (a : Option Answer) (r : SourceRecord) (b : Bool) → hold_of s floor r ≤ cap → free ≤ cap →
+    query_of s x r ≡ Some (query.Fits power) → nat_le power free ≡ b → a ≡ Some (answer.Fits b) → hold_of s floor (stepped s now x a r) ≤ cap
+capped-fits s floor free cap now power x a r true h le e f q =
+    let more : true ≡ nat_le power cap = sym (fits-more power free cap le f) in
+    hold_of-stepped s floor cap now x a r h (subst (λ (o : Option Query). IsAllowed cap o a) (sym e) (q ∙ ap (λ (b : Bool). Some (answer.Fits b)) more))
+capped-fits s floor free cap now power x a r false h le e f q = hold_of-safe s floor cap now x a r h (safe-no s floor cap a r q)
+
+capped : (s : SourceSettings) (floor free cap now : ℕ) (x : Stimulus) (a : Option Answer) (r : SourceRecord) (o : Option Query) → hold_of s floor r ≤ cap → free ≤ cap →
+    query_of s x r ≡ o → IsAllowed free o a → hold_of s floor (stepped s now x a r) ≤ cap
+capped s floor free cap now x a r None h le e q = hold_of-stepped s floor cap now x a r h (subst (λ (o : Option Query). IsAllowed cap o a) (sym e) q)
+capped s floor free cap now x a r (Some (query.Offer supplies limit)) h le e q =
+    hold_of-stepped s floor cap now x a r h
+    (subst (λ (o : Option Query). IsAllowed cap o a) (sym e) (q.0, within-more free cap supplies.items q.0 le q.1, q.2))
+capped s floor free cap now x a r (Some (query.Fits power)) h le e q = capped-fits s floor free cap now power x a r (nat_le power free) h le e refl q
+capped s floor free cap now x a r (Some (query.Keep power)) h le e q = hold_of-stepped s floor cap now x a r h (subst (λ (o : Option Query). IsAllowed cap o a) (sym e) q)
+
+-- with an allowed answer a hold is no more than is free, or than it was
+pub hold_of-allowed : (s : SourceSettings) (floor free now : ℕ) (x : Stimulus) (a : Option Answer) (r : SourceRecord) → IsAllowed free (query_of s x r) a → hold_of s floor (stepped s now x a r) ≤ max free (hold_of s floor r)
+hold_of-allowed s floor free now x a r q =
+    capped s floor free (max free (hold_of s floor r)) now x a r (query_of s x r) (omega arith) (omega arith) refl q

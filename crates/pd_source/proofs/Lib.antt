@@ -11,3 +11,4 @@ pub mod SoundRows
 pub mod Limits
 pub mod SoundSteps
 pub mod Agreed
+pub mod Rests

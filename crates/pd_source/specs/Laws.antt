@@ -1,5 +1,5 @@
 -- Laws of the source's policy engine.
-use Rattle.std.specs.Prelude.{◌≡◌, ℕ, ◌≤◌, ◌*◌, ◌%◌, Bool, if◌then◌else◌, Option, Some, None, ◌⊎◌}
+use Rattle.std.specs.Prelude.{◌≡◌, ℕ, ◌≤◌, ◌*◌, ◌%◌, max, Bool, if◌then◌else◌, Option, Some, None, ◌⊎◌}
 use Rattle.arrayvec.specs.ArrayVec.{ArrayVec}
 use Rattle.pd_symbols.specs.Words.{field}
 use Rattle.pd_timers.specs.Deadlines.{SetsLater}
@@ -34,11 +34,11 @@ HoldsKeepTheFloor = (s : SourceSettings) (floor : ℕ) (r : SourceRecord) → fl
 abbrev pub HoldsOfDetachedAreFloors : Type 0
 HoldsOfDetachedAreFloors = (s : SourceSettings) (floor : ℕ) → hold_of s floor (off s) ≡ floor
 
--- a hold within the free power is still within it after a step with an answer that this power allows
+-- after a step with an answer that so much free power allows, a hold is no more than is free, or than it was
 abbrev pub HoldsStayAllowed : Type 0
 HoldsStayAllowed =
     (s : SourceSettings) (floor free now : ℕ) (x : Stimulus) (a : Option Answer) (r : SourceRecord) →
-    hold_of s floor r ≤ free → IsAllowed free (query_of s x r) a → hold_of s floor (stepped s now x a r) ≤ free
+    IsAllowed free (query_of s x r) a → hold_of s floor (stepped s now x a r) ≤ max free (hold_of s floor r)
 
 -- an offer is asked for under the limit that the step leaves
 abbrev pub OffersAskUnderTheLimit : Type 0

@@ -5,4 +5,5 @@ pub mod Facts
 pub mod Acts
 pub mod Step
 pub mod Sound
+pub mod Rest
 pub mod Laws

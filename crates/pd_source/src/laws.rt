@@ -1,6 +1,7 @@
 //! Laws of the engine's steps.
 
 ghost use Rattle.pd_source.specs.Laws.{StepsSetLater, StepsReadOnlyTheirAnswer, HoldsKeepTheFloor, HoldsOfDetachedAreFloors, HoldsStayAllowed, OffersAskUnderTheLimit, LimitsAreOfAnswers, TheStartIsSound, StepsStaySound, ContractsAreMade, RequestsAreTaken, OffersAreSettled, ObjectsOfferTheirSupplies};
+ghost use Rattle.pd_source.specs.Rest.{TheStartIsEmptyAtRest, StepsStayEmptyAtRest, ShedsFallToTheFloor};
 
 /// Each deadline that a step sets is later than the step, and the timer that fell due no longer runs.
 pub fn later()
@@ -12,11 +13,19 @@ pub fn answered()
     ensures { StepsReadOnlyTheirAnswer }
 {}
 
-/// What the port holds is at least its floor, is the floor while it is detached, and stays within the free power.
+/// What the port holds is at least its floor, is the floor while it is detached, and grows to no more than is free.
 pub fn holds()
     ensures floor { HoldsKeepTheFloor }
     ensures detached { HoldsOfDetachedAreFloors }
     ensures allowed { HoldsStayAllowed }
+{}
+
+/// While the engine is off, waits for a sink that answers no offer, or is disabled, nothing is offered anew, accepted or
+/// agreed on; and once it has shed, the port holds its floor alone.
+pub fn rests()
+    ensures start { TheStartIsEmptyAtRest }
+    ensures stepped { StepsStayEmptyAtRest }
+    ensures sheds { ShedsFallToTheFloor }
 {}
 
 /// An offer is asked for under the limit that the step leaves, and each limit has its cause.

@@ -52,7 +52,7 @@ fn run_ports<R: Files + Print + Eprint + Alloc<A = Global>>(
     }
 }
 
-/// Runs a session for the scenario of a text. Budgets that change in time can be checked, and not run yet.
+/// Runs a session for the scenario of a text.
 fn run_text<const N: usize, R: Files + Print + Eprint + Alloc<A = Global>>(
     rt: &R,
     scenario: &[u8],
@@ -61,14 +61,9 @@ fn run_text<const N: usize, R: Files + Print + Eprint + Alloc<A = Global>>(
     requires from_one { 1 ≤ N }
     requires to_eight { N ≤ 8 }
 {
-    let scenario = match scenario_from_text::<N>(rt.alloc(), scenario) {
-        Ok(scenario) => scenario,
-        Err(fault) => return tell_refused(rt, fault),
-    };
-    match scenario.forces(rt.alloc()) {
-        Ok(changes) if changes.is_empty() => run_session(rt, scenario, edits),
-        Ok(_) => tell_refused(rt, ScenarioFault::Range),
-        Err(_) => tell(rt, BenchFault::Memory),
+    match scenario_from_text::<N>(rt.alloc(), scenario) {
+        Ok(scenario) => run_session(rt, scenario, edits),
+        Err(fault) => tell_refused(rt, fault),
     }
 }
 

@@ -2,7 +2,7 @@ use Rattle.std.proofs.Common.{◌≡◌, ◌+◌, ◌-◌, ◌<◌, slice_index,
 use Rattle.std.proofs.lemmas.List.{get_or-set_same, get_or-set_other, length-set}
 use Rattle.pd_port.specs.Port.{hold, is_event}
 use Rattle.pd_port.proofs.PortLaws.{hold_floor}
-use Rattle.pd_scenario.specs.Plan.{count, settings_of}
+use Rattle.pd_scenario.specs.Plan.{count, settings_of, force}
 use Rattle.pd_run.specs.Run.{after, taken_after}
 use Rattle.pd_run.specs.Live.{LiveData, Stands, IsFirst, next_move}
 use Rattle.pd_run.proofs.Steps.{moved_known, moved_hold, floor_known, hold_after-fits, Stands-step, taken_few, taken_read}
@@ -17,9 +17,10 @@ set_hold-requires g c =
     let past = c.requires.stands.0 in
     let known : p < count plan = c.requires.next.first.known in
     let s = subst (λ (l : LiveData). Stands plan past l) (sym c.self.view_is) c.requires.stands.1 in
-    let port = c.requires.after ∙ moved_known plan past c.args.self.now p d c.requires.stands.1 known in
+    let port = c.requires.after ∙ moved_known plan past c.args.self.now p d c.requires.stands.1 c.requires.budget known in
     let held : c.hold-hold.result ≡ hold (settings_of plan p) (after plan (next_move plan past p d)) = c.hold-hold.ensures ∙ moved_hold plan past p d c.args.after port in
-    let fits = hold_after-fits plan past live p d s known in
+    let budget = subst (λ (l : LiveData). l.account.budget ≡ force plan d.time) (sym c.self.view_is) c.requires.budget in
+    let fits = hold_after-fits plan past live p d s budget known in
     let floor = floor_known plan past live p s in
     let least = hold_floor (settings_of plan p) (after plan (next_move plan past p d)) in
     (omega arith, (c.requires.next.from_one, (omega (arith, c.requires.plan.settings_count), (omega arith, omega arith))))
@@ -44,7 +45,7 @@ returns-then-is_event g c = λ past stands.
     let t = c.index_mut-then-is_event.result.now in
     let known : p < count plan = c.requires.next.first.known in
     let s = subst (λ (l : LiveData). Stands plan past l) (sym c.self.view_is) stands in
-    let port = c.requires.after ∙ moved_known plan past c.args.self.now p d stands known in
+    let port = c.requires.after ∙ moved_known plan past c.args.self.now p d stands c.requires.budget known in
     let held : c.hold-hold.result ≡ hold (settings_of plan p) (after plan (next_move plan past p d)) = c.hold-hold.ensures ∙ moved_hold plan past p d c.args.after port in
     let inside : p < length live.taken = omega (arith, s.taken_count) in
     let at : slice_index live.taken p ≡ t = taken_read live.taken p t inside c.index_mut-then-is_event.ensures.value in
@@ -63,7 +64,7 @@ returns-else-is_event g c = λ past stands.
     let d = c.args.due.now in
     let known : p < count plan = c.requires.next.first.known in
     let s = subst (λ (l : LiveData). Stands plan past l) (sym c.self.view_is) stands in
-    let port = c.requires.after ∙ moved_known plan past c.args.self.now p d stands known in
+    let port = c.requires.after ∙ moved_known plan past c.args.self.now p d stands c.requires.budget known in
     let held : c.hold-hold.result ≡ hold (settings_of plan p) (after plan (next_move plan past p d)) = c.hold-hold.ensures ∙ moved_hold plan past p d c.args.after port in
     let kept : is_event d.what ≡ false = sym c.is_event.ensures ∙ c.if-is_event.false in
     rw c.set_hold.ensures
