@@ -1,3 +1,4 @@
+pub mod Changes
 pub mod Happens
 pub mod Laws
 pub mod Meter
