@@ -1,12 +1,16 @@
 //! What a run shows: texts, and where they go.
 #![tactic(auto)]
 
+mod contract_lines;
 mod device;
 mod fault;
+mod fault_lines;
 mod report;
 mod text;
 
+pub use contract_lines::contracts;
 pub use device::{DeviceFault, TextOut, write_all};
 pub use fault::BenchFault;
+pub use fault_lines::faults;
 pub use report::transcript;
 pub use text::{Text, write_text};
