@@ -70,6 +70,16 @@ impl<const CAP: usize> Text<CAP> {
         self.push_all(buffer.format(number).as_bytes());
     }
 
+    /// A number of up to 128 bits in decimal digits.
+    pub(crate) fn push_wide(&mut self, wide: u128)
+        requires { length self.old + 39 ≤ CAP }
+        ensures bytes { self.new ≡ self.old ++ decimal wide }
+        ensures grows { length self.new ≤ length self.old + 39 }
+    {
+        let mut buffer = Buffer::new();
+        self.push_all(buffer.format(wide).as_bytes());
+    }
+
     /// A number right in nine places.
     pub fn push_right(&mut self, number: u64)
         requires { length self.old + 29 ≤ CAP }
