@@ -50,6 +50,7 @@ use Rattle.pd_port.specs.declared.entry.Entry.{Entry}
 use Rattle.pd_port.specs.Laws.{source_after_told, source_after}
 use Rattle.pd_port.specs.Happens.{detaches, disturbs, gets_source, gets_sink, happens_attached, happens_detached, shed, budget_changes}
 use Rattle.pd_port.specs.Told.{source_layer, told_if_sent, told_if_up, told_if_failed, told_of_good_crc, told_at_good_crc, told_at_time_out, told_of_reset, told_by_line, told_attached, told_detached, source_told, told_if_shed}
+use Rattle.pd_port.specs.Changes.{contract_change}
 use Rattle.pd_port.specs.Port.{PortRecord, happens, begun, portstep, whole, source_settings, record_after, entry_of, ask, asks}
 
 -- What was done to w makes the source this, and is v now. Where nothing is asked, the answer doesn't matter: done to w
@@ -432,5 +433,13 @@ record_after-blind s r d a b h = ap (λ (w : Work). without_settings w.port) (po
 pub entry_of-blind : (s : SettingsData) (r : PortRecord) (d : Due) (a b : Option Answer) → ask s r d ≡ None → entry_of s r d a ≡ entry_of s r d b
 unfolding entry_of
 entry_of-blind s r d a b h =
-    let entry : Work → Entry = λ w. record { at = d.time; due = d; query = ask s r d; faults = w.faults; start = w.start } in
+    let entry : Work → Entry = λ w.
+    record {
+      at = d.time;
+      due = d;
+      query = ask s r d;
+      faults = w.faults;
+      contract = contract_change r.source.contract w.port.source.record.contract;
+      start = w.start;
+    } in
     ap entry (portstep-blind s r d a b h)

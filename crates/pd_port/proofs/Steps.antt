@@ -2,6 +2,7 @@
 use Rattle.std.proofs.Common.{◌≡◌, List, [], Option, Some, None, refl, ap, sym, subst, ◌∙◌}
 use Rattle.pd_objects.specs.declared.query.Answer.{Answer}
 use Rattle.pd_objects.specs.declared.query.Query.{Query}
+use Rattle.pd_objects.specs.declared.contract.Contract.{Contract}
 use Rattle.pd_source.specs.Record.{SourceSettings}
 use Rattle.arrayvec.specs.ArrayVec.{ArrayVec}
 use Rattle.pd_line.specs.declared.notes.Fault.{Fault}
@@ -11,9 +12,11 @@ use Rattle.pd_line.specs.declared.work.Work.{Work}
 use Rattle.pd_line.specs.Record.{PortRecord, with_settings, without_settings}
 use Rattle.pd_line.specs.Lines.{line_starts}
 use Rattle.pd_port.specs.declared.due.Due.{Due}
+use Rattle.pd_port.specs.declared.entry.ContractChange.{ContractChange}
 use Rattle.pd_port.specs.declared.entry.Entry.{Entry}
 use Rattle.pd_plan.specs.Settings.{SettingsData}
 use Rattle.pd_port.proofs.Later.{portstep-settings}
+use Rattle.pd_port.specs.Changes.{contract_change}
 use Rattle.pd_port.specs.Port.{PortData, earlier, begun, happens, portstep, whole, source_settings, ask, record_after, entry_of}
 
 -- the later of nothing
@@ -73,8 +76,14 @@ settings_are p settings w u d given view e =
     ap (λ (x : Work). x.port.source.settings) e ∙ portstep-settings (whole p.settings p.record) d given ∙ ap source_settings same
 
 -- what is left to be read
-pub entry_is : (p : PortData) (u : Work) (d : Due) (given : Option Answer) (query : Option Query) (faults : ArrayVec Fault) (start : Option Start) →
-    u ≡ portstep (whole p.settings p.record) d given → query ≡ ask p.settings p.record d → faults ≡ u.faults → start ≡ u.start →
-    ◌≡◌ {A = Entry} (record { at = d.time; due = d; query = query; faults = faults; start = start }) (entry_of p.settings p.record d given)
+pub entry_is : (p : PortData) (u : Work) (d : Due) (given : Option Answer) (query : Option Query) (faults : ArrayVec Fault) (change : Option ContractChange) (start : Option Start) →
+    u ≡ portstep (whole p.settings p.record) d given → query ≡ ask p.settings p.record d → faults ≡ u.faults →
+    change ≡ contract_change p.record.source.contract u.port.source.record.contract → start ≡ u.start →
+    ◌≡◌ {A = Entry} (record { at = d.time; due = d; query = query; faults = faults; contract = change; start = start }) (entry_of p.settings p.record d given)
 unfolding entry_of
-entry_is p u d given query faults start e q f g = rw (q, f, g, e) refl
+entry_is p u d given query faults change start e q f h g = rw (q, f, h, g, e) refl
+
+-- the change, from the contracts before and after
+pub change_is : (p : PortData) (u : Work) (before after : Option Contract) (change : Option ContractChange) → before ≡ p.record.source.contract →
+    after ≡ u.port.source.record.contract → change ≡ contract_change before after → change ≡ contract_change p.record.source.contract u.port.source.record.contract
+change_is p u before after change b a e = e ∙ ap (λ x. contract_change x after) b ∙ ap (contract_change p.record.source.contract) a

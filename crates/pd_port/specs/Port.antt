@@ -24,6 +24,7 @@ use Rattle.pd_port.specs.declared.due.Due.{Due}
 use Rattle.pd_port.specs.declared.due.What.{What}
 use Rattle.pd_port.specs.declared.due.What.TheVariants as what
 use Rattle.pd_port.specs.declared.entry.Entry.{Entry}
+use Rattle.pd_port.specs.Changes.{contract_change}
 use Rattle.pd_port.specs.Happens.{event_happens, is_budget}
 use Rattle.pd_port.specs.Told.{source_told}
 
@@ -129,4 +130,11 @@ ask s r d = if is_budget d.what then Some (query.Keep (hold s r)) else asks (who
 unfoldable pub entry_of : SettingsData → PortRecord → Due → Option Answer → Entry
 entry_of s r d given =
     let w = portstep (whole s r) d given in
-    record { at = d.time; due = d; query = ask s r d; faults = w.faults; start = w.start }
+    record {
+      at = d.time;
+      due = d;
+      query = ask s r d;
+      faults = w.faults;
+      contract = contract_change r.source.contract w.port.source.record.contract;
+      start = w.start;
+    }

@@ -1,20 +1,31 @@
 //! What a port's step leaves to be read.
 
 ghost use Rattle.std.specs.Prelude.{◌≡◌};
+ghost use Rattle.pd_port.specs.Changes.{contract_change};
 
 use crate::Due;
 use arrayvec::ArrayVec;
 use pd_line::{Fault, Start};
-use pd_objects::Query;
+use pd_objects::{Contract, Query};
+
+/// What becomes of a port's contract in a step.
+#[derive(Clone, Copy, Debug, PartialEq, Eq)]
+pub enum ContractChange {
+    /// This contract is in force from now on.
+    Made(Contract),
+    /// No contract is in force any more.
+    Lost,
+}
 
 /// One step of a port: when, for what, what it asked of the shared budget, and its notes: the faults in the order in
-/// which they came, and then what starts on the line.
+/// which they came, the change of the contract, and what starts on the line.
 #[derive(Drop)]
 pub struct Entry {
     pub at: u64,
     pub due: Due,
     pub query: Option<Query>,
     pub faults: ArrayVec<Fault, 8>,
+    pub contract: Option<ContractChange>,
     pub start: Option<Start>,
 }
 
@@ -30,6 +41,7 @@ impl Entry {
             due: self.due,
             query: copy_query(&self.query),
             faults,
+            contract: self.contract,
             start: copy_start(&self.start),
         }
     }
@@ -50,5 +62,24 @@ fn copy_start(start: &Option<Start>) -> Option<Start>
     match start {
         None => None,
         Some(start) => Some(start.copy()),
+    }
+}
+
+/// How a step changes the contract, from the one before it and the one after it.
+#[tactic(auto, unfolding(crate::specs::Changes::contract_change))]
+pub(crate) fn change_of(before: Option<Contract>, after: Option<Contract>) -> Option<ContractChange>
+    ensures { result ≡ contract_change before after }
+{
+    match (before, after) {
+        (None, None) => None,
+        (Some(_), None) => Some(ContractChange::Lost),
+        (None, Some(new)) => Some(ContractChange::Made(new)),
+        (Some(old), Some(new)) => {
+            if old.position == new.position && old.mv == new.mv && old.ma == new.ma {
+                None
+            } else {
+                Some(ContractChange::Made(new))
+            }
+        }
     }
 }

@@ -11,7 +11,7 @@ mod meter;
 mod port;
 
 pub use due::{Due, What};
-pub use entry::Entry;
+pub use entry::{ContractChange, Entry};
 pub use meter::Meter;
 pub use pd_line::{Fault, Start};
 pub use pd_plan::{Event, EventKind, Happening, Settings};

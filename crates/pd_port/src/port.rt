@@ -7,6 +7,7 @@ ghost use Rattle.pd_port.specs.Port.{due as the_due, happens, source_settings};
 
 use crate::asks::{is_budget, source_told};
 use crate::dues::{due_of_event, due_of_line, due_of_timer, earlier_of};
+use crate::entry::change_of;
 use crate::happens::event_happens;
 use crate::{Due, Entry, Event, Meter, Settings, What};
 use arrayvec::ArrayVec;
@@ -113,16 +114,19 @@ impl Port {
         ensures meter { meter.new ≡ raised meter.old 1 }
     {
         let query = self.ask(due);
+        let before = self.contract();
         meter.rise();
         self.work.answer = answer;
         happens(&mut self.work, &self.settings, &due.what, due.time);
         self.work.line_starts(due.time);
         self.work.answer = None;
+        let after = self.work.port.source.contract();
         Entry {
             at: due.time,
             due: *due,
             query,
             faults: mem::replace(&mut self.work.faults, ArrayVec::new()),
+            contract: change_of(before, after),
             start: self.work.start.take(),
         }
     }

@@ -3,20 +3,23 @@
 ghost use Rattle.std.specs.Prelude.{◌≡◌, ℕ, ◌≤◌};
 
 use super::*;
+use crate::entry::change_of;
 use arrayvec::ArrayVec;
 use pd_header::{Kind, Side, header_kind};
 use pd_identity::{Cable, CablePlug, Rating};
-use pd_objects::{Answer, Query, Supply};
+use pd_objects::{Answer, Contract, Query, Supply};
 use pd_sink::{SinkMode, SinkRevision, SinkSettings};
 
 /// What was seen of a run: the times at which messages started, GoodCRCs apart, and how many did; the times of Hard
-/// Resets; the first contract's time; the faults; and the number of steps.
+/// Resets; the first contract's time; the last change of the contract that was told, and when; the faults; and the
+/// number of steps.
 #[derive(Drop)]
 struct Seen {
     starts: ArrayVec<u64, 32>,
     started: u64,
     resets: ArrayVec<u64, 8>,
     contract: Option<u64>,
+    change: Option<(u64, ContractChange)>,
     faults: ArrayVec<Fault, 8>,
     last_fault: Option<Fault>,
     steps: u64,
@@ -46,6 +49,7 @@ impl Seen {
             started: 0,
             resets: ArrayVec::new(),
             contract: None,
+            change: None,
             faults: ArrayVec::new(),
             last_fault: None,
             steps: 0,
@@ -78,6 +82,9 @@ impl Seen {
             if !self.faults.is_full() {
                 self.faults.push(*fault);
             }
+        }
+        if let Some(change) = entry.contract {
+            self.change = Some((entry.at, change));
         }
         if let Some(start) = &entry.start {
             self.see_start(entry.at, start);
@@ -176,6 +183,13 @@ fn a_contract_after_a_cable_that_does_not_answer(rt: HostRuntime) {
     let starts = [50_000, 51_630, 53_260, 54_890, 58_117, 61_344, 192_438];
     assert!(rt; seen.starts.as_slice() == starts.as_slice());
     assert!(rt; seen.contract == Some(193_532));
+    let contract = Contract {
+        position: 1,
+        mv: 5_000,
+        offered_ma: 3_000,
+        ma: 3_000,
+    };
+    assert!(rt; seen.change == Some((193_532, ContractChange::Made(contract))));
     let faults = [
         Fault::NoGoodCrc {
             side: Side::Source,
@@ -278,9 +292,49 @@ fn a_budget_that_falls_ends_a_contract(rt: HostRuntime) {
     let mut port = port(1);
     let seen = run(&mut port, &events, 1_000_000);
     assert!(rt; seen.resets.as_slice() == [500_000].as_slice());
+    assert!(rt; seen.change == Some((500_000, ContractChange::Lost)));
     assert!(rt; port.contract().is_none() && port.hold() == 2_500_000);
     let seen = run(&mut port, &[], 1_400_000);
     assert!(rt; seen.starts.as_slice().first() == Some(&1_380_280));
+}
+
+#[test]
+fn a_ninth_disturbance_is_ignored(rt: HostRuntime) {
+    let events = [
+        phone(1, 0),
+        event(2, 10_000, EventKind::Lose),
+        event(3, 10_000, EventKind::Lose),
+        event(4, 10_000, EventKind::Lose),
+        event(5, 10_000, EventKind::Lose),
+        event(6, 10_000, EventKind::Lose),
+        event(7, 10_000, EventKind::Lose),
+        event(8, 10_000, EventKind::Lose),
+        event(9, 10_000, EventKind::Lose),
+        event(10, 10_000, EventKind::Lose),
+    ];
+    let seen = run(&mut port(0), &events, 20_000);
+    assert!(rt; seen.faults.as_slice() == [Fault::Ignored { id: 10 }].as_slice());
+}
+
+#[test]
+fn another_offered_current_is_no_change(rt: HostRuntime) {
+    let contract = Contract {
+        position: 1,
+        mv: 5_000,
+        offered_ma: 3_000,
+        ma: 1_000,
+    };
+    let offered_less = Contract {
+        offered_ma: 1_000,
+        ..contract
+    };
+    let drawn_less = Contract {
+        ma: 500,
+        ..contract
+    };
+    assert!(rt; change_of(Some(contract), Some(offered_less)).is_none());
+    let made = ContractChange::Made(drawn_less);
+    assert!(rt; change_of(Some(contract), Some(drawn_less)) == Some(made));
 }
 
 #[test]

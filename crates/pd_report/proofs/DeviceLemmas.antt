@@ -1,13 +1,15 @@
 -- Facts on what was written so far.
-use Rattle.std.proofs.Common.{◌≡◌, ℕ, ◌+◌, ◌<◌, ◌≤◌, List, [], ◌∷◌, ◌++◌, length, take, drop, Option, refl, sym, ap, ◌∙◌, append_assoc}
+use Rattle.std.proofs.Common.{◌≡◌, ℕ, ◌+◌, ◌<◌, ◌≤◌, List, [], ◌∷◌, ◌++◌, length, take, drop, get_or, Option, refl, sym, ap, ◌∙◌, append_assoc}
 use Rattle.std.specs.Prelude.{MatchOption, slice_get, Some, None}
 use Rattle.std.specs.List.{flat_map}
 use Rattle.std.proofs.lemmas.List.{append-nil, take-append-drop, drop_more, take_more, take_all}
 use Rattle.std.proofs.lemmas.List.Concat.{flat_map-append}
-use Rattle.std.proofs.lemmas.Option.{get_or_from_slice_get, slice_get_within}
+use Rattle.std.proofs.lemmas.Option.{get_or_from_slice_get, slice_get-get_or, slice_get_within}
 use Rattle.std.specs.Io.KnownBytes.{Appends, Keeps}
 use Rattle.std.proofs.KnownBytes.{Appends-trans, Appends-kept, Appends-nil}
 use Rattle.pd_report.specs.Device.{WrotePart}
+use Rattle.pd_report.specs.declared.fault.BenchFault.{BenchFault}
+use Rattle.pd_report.specs.declared.fault.BenchFault.TheVariants.{WriteFailed}
 
 -- all is what was written and what is left to write
 pub record Wrote (all rest : List ℕ) (old new : Option (List ℕ)) : Type 0 where
@@ -89,6 +91,27 @@ module _ {X : Type 0} (f : X → List ℕ) (head : List ℕ) (xs : List X) where
           ap (λ v. head ++ v) (text_at i x e ∙ ap (λ v. flat_map f (take i xs) ++ (v ++ flat_map f (drop (i + 1) xs))) (sym k))
           ∙ sym (append_assoc head (flat_map f (take i xs)) (t ++ flat_map f (drop (i + 1) xs))) in
           rw all (WrotePart-after a b c (head ++ flat_map f (take i xs)) (t ++ flat_map f (drop (i + 1) xs)) w.appends (WrotePart-longer b c t (flat_map f (drop (i + 1) xs)) part))
+
+  -- the text of the element at an index
+  pub Walked-at : (i : ℕ) (d : X) (t : List ℕ) → i < length xs → t ≡ f (get_or xs i d) → MatchOption (slice_get xs i) ⊥ (λ x. t ≡ f x)
+  Walked-at i d t h e = rw (slice_get-get_or xs i d h) e
+
+  -- one more element, where what is said of a write is said of the element there
+  pub Walked-wrote : (i : ℕ) (a b c : Option (List ℕ)) → Walked f head xs i a b → MatchOption (slice_get xs i) ⊥ (λ x. Appends b c (f x)) → Walked f head xs (i + 1) a c
+  Walked-wrote i a b c w h = by_case (slice_get xs i) refl h
+    where
+      by_case : (o : Option X) → slice_get xs i ≡ o → MatchOption o ⊥ (λ x. Appends b c (f x)) → Walked f head xs (i + 1) a c
+      by_case None e k = absurd k
+      by_case (Some x) e k = Walked-more i a b c (f x) w (rw e refl) k
+
+  -- the same of a write that failed
+  pub Walked-cut : (i : ℕ) (a b c : Option (List ℕ)) (fault : BenchFault) → Walked f head xs i a b →
+      MatchOption (slice_get xs i) ⊥ (λ x. (fault ≡ WriteFailed) × WrotePart b c (f x)) → (fault ≡ WriteFailed) × WrotePart a c (head ++ flat_map f xs)
+  Walked-cut i a b c fault w h = by_case (slice_get xs i) refl h
+    where
+      by_case : (o : Option X) → slice_get xs i ≡ o → MatchOption o ⊥ (λ x. (fault ≡ WriteFailed) × WrotePart b c (f x)) → (fault ≡ WriteFailed) × WrotePart a c (head ++ flat_map f xs)
+      by_case None e k = absurd k
+      by_case (Some x) e k = (k.0, Walked-part i a b c (f x) w (rw e refl) k.1)
 
   pub Walked-all : (i : ℕ) (a b : Option (List ℕ)) → Walked f head xs i a b → length xs ≤ i → Appends a b (head ++ flat_map f xs)
   Walked-all i a b w h = let e : take i xs ≡ xs = take_all i xs h in rw e at w.appends

@@ -1,2 +1,4 @@
 pub mod DeviceLemmas
+pub mod MarginLemmas
 pub mod TextLemmas
+pub mod WalkLemmas

@@ -100,7 +100,7 @@ fn hard_reset_line(at: u64, side: Side) -> Text<WIDTH>
     text
 }
 
-fn side_text(side: Side) -> &'static [u8]
+pub(crate) fn side_text(side: Side) -> &'static [u8]
     ensures text { result.now ≡ side_text side }
     ensures short { length result.now ≤ 3 }
 {

@@ -3,7 +3,7 @@
 ghost use Rattle.std.specs.Prelude.{◌≡◌, ◌+◌, ◌-◌, ◌*◌, ◌≤◌, ◌<◌, ◌^◌, ◌++◌, ◌∷◌, [], List, ℕ, length, decimal};
 ghost use Rattle.std.specs.List.{flat_map};
 ghost use Rattle.pd_report.specs.Device.{CountsFailure, Writes};
-ghost use Rattle.pd_report.specs.Text.{code_text, right};
+ghost use Rattle.pd_report.specs.Text.{at_port, code_text, right};
 
 use crate::{BenchFault, TextOut, write_all};
 use arrayvec::ArrayVec;
@@ -70,6 +70,16 @@ impl<const CAP: usize> Text<CAP> {
         self.push_all(buffer.format(number).as_bytes());
     }
 
+    /// A number of up to 128 bits in decimal digits.
+    pub(crate) fn push_wide(&mut self, wide: u128)
+        requires { length self.old + 39 ≤ CAP }
+        ensures bytes { self.new ≡ self.old ++ decimal wide }
+        ensures grows { length self.new ≤ length self.old + 39 }
+    {
+        let mut buffer = Buffer::new();
+        self.push_all(buffer.format(wide).as_bytes());
+    }
+
     /// A number right in nine places.
     pub fn push_right(&mut self, number: u64)
         requires { length self.old + 29 ≤ CAP }
@@ -104,6 +114,21 @@ impl<const CAP: usize> Text<CAP> {
             self.push_code(*code);
         }
     }
+}
+
+/// The head of a line: a time right in nine places, and a port.
+#[tactic(auto, unfolding(crate::specs::Text::at_port))]
+pub(crate) fn start_of_line<const CAP: usize>(at: u64, port: usize) -> Text<CAP>
+    requires { 60 ≤ CAP }
+    ensures text { result ≡ at_port at port }
+    ensures short { length result ≤ 60 }
+{
+    let mut text = Text::new();
+    text.push_right(at);
+    text.push_all(b" port ");
+    text.push_number(port as u64);
+    text.push_all(b" ");
+    text
 }
 
 /// Writes a text.

@@ -1,6 +1,6 @@
 use Rattle.std.proofs.Common.{◌≡◌}
 use Rattle.pd_port.specs.Port.{portstep, whole}
-use Rattle.pd_port.proofs.Steps.{worked, after_is, settings_are, entry_is}
+use Rattle.pd_port.proofs.Steps.{worked, after_is, settings_are, entry_is, change_is}
 use Rattle.pd_port.proofs.port.Port.step.Goals as goal
 
 done : (c : goal.After-take) → c.line_starts.new.self ≡ portstep (whole c.args.self.now.settings c.args.self.now.record) c.args.due.now c.args.answer
@@ -19,4 +19,7 @@ returns-clause-after c =
 
 pub returns-clause-entry : goal.returns-clause-entry
 returns-clause-entry c =
-    entry_is c.args.self.now c.line_starts.new.self c.args.due.now c.args.answer c.ask-query.result c.replace.result c.take.result (done c) c.ask-query.ensures c.replace.ensures.value c.take.ensures.value
+    entry_is c.args.self.now c.line_starts.new.self c.args.due.now c.args.answer c.ask-query.result c.replace.result c.change_of.result c.take.result
+    (done c) c.ask-query.ensures c.replace.ensures.value
+    (change_is c.args.self.now c.line_starts.new.self c.contract-before.result c.contract-after.result c.change_of.result c.contract-before.ensures c.contract-after.ensures c.change_of.ensures)
+    c.take.ensures.value

@@ -1,0 +1,279 @@
+-- What a walk over the entries of a run knows of each instant.
+use Rattle.std.proofs.Common.{◌≡◌, ◌≢◌, ℕ, zero, suc, ◌+◌, ◌-◌, ◌<◌, ◌≤◌, Bool, true, false, cond, eqb, leb, ⊎_elim, List, [], ◌∷◌, ◌++◌, length, map, take, drop, get_or, set, replicate, Option, Some, None, refl, sym, ap, subst, ◌∙◌, arith, append_assoc}
+use Rattle.std.specs.Prelude.{filter, slice_get, ◌||◌}
+use Rattle.std.specs.List.{AllByRecursion, cons_option, flat_map, filter_map, last_or, list_any, range_with_len}
+use Rattle.std.specs.Option.{option_map_or}
+use Rattle.std.proofs.lemmas.Bool.{cases_eq, le-leb, lt-leb, eq-eqb, ne_eqb}
+use Rattle.std.proofs.lemmas.List.{append-nil, take-append-drop, drop_more, take_more, length-set, get_or-set_same, get_or-set_other, same_lists}
+use Rattle.std.proofs.lemmas.List.Concat.{flat_map-append}
+use Rattle.std.proofs.lemmas.List.Elements.{filter-append, filter_map-append}
+use Rattle.std.proofs.lemmas.List.Folds.{list_any-append}
+use Rattle.std.proofs.lemmas.List.FromFn.{get_or-map-range_with_len, length-map-range_with_len}
+use Rattle.std.proofs.lemmas.Option.{get_or_from_slice_get, slice_get_within}
+use Rattle.pd_port.specs.declared.entry.ContractChange.{ContractChange}
+use Rattle.pd_port.specs.declared.entry.Entry.{Entry}
+use Rattle.pd_port.specs.Port.{entry_of}
+use Rattle.pd_scenario.specs.Plan.{Plan, count}
+use Rattle.pd_run.specs.Order.{EachAfter}
+use Rattle.pd_run.specs.Run.{Move, GoesOn, IsInOrder, shown}
+use Rattle.pd_run.specs.Shown.{Shows}
+use Rattle.pd_run.proofs.Moves.{in_order-member}
+use Rattle.pd_report.specs.Margins.{power_left, change_on, power_on, up_to, happens_at}
+use Rattle.pd_report.specs.Walk.{noted, NoneLater, NoneBefore}
+
+-- ---- lists
+
+abbrev pub Moves : Type 0
+Moves = List (ℕ × Entry)
+
+pub all-append : {X : Type 0} (P : X → Type 0) (xs ys : List X) → AllByRecursion P xs → AllByRecursion P ys → AllByRecursion P (xs ++ ys)
+all-append P [] ys h k = k
+all-append P (x ∷ xs) ys h k = (h.0, all-append P xs ys h.1 k)
+
+pub all-mono : {X : Type 0} (P Q : X → Type 0) → ((x : X) → P x → Q x) → (xs : List X) → AllByRecursion P xs → AllByRecursion Q xs
+all-mono P Q imp [] h = tt
+all-mono P Q imp (x ∷ xs) h = (imp x h.0, all-mono P Q imp xs h.1)
+
+pub all-drop : {X : Type 0} (P : X → Type 0) (xs : List X) (i : ℕ) → AllByRecursion P xs → AllByRecursion P (drop i xs)
+all-drop P xs zero h = h
+all-drop P [] (suc i) h = tt
+all-drop P (x ∷ xs) (suc i) h = all-drop P xs i h.1
+
+module _ {X : Type 0} (xs : List X) (i : ℕ) (x : X) (e : slice_get xs i ≡ Some x) where
+  pub take-next : take (i + 1) xs ≡ take i xs ++ x ∷ []
+  take-next =
+      let within : i < length xs = slice_get_within xs i x e in
+      take_more xs i x within ∙ ap (λ y. take i xs ++ y ∷ []) (get_or_from_slice_get xs i x x e)
+
+  pub drop-next : drop i xs ≡ x ∷ drop (i + 1) xs
+  drop-next =
+      let within : i < length xs = slice_get_within xs i x e in
+      drop_more xs i x within ∙ ap (λ y. y ∷ drop (i + 1) xs) (get_or_from_slice_get xs i x x e)
+
+filter-all : {X : Type 0} (p : X → Bool) (xs : List X) → AllByRecursion (λ x. p x ≡ true) xs → filter p xs ≡ xs
+filter-all p [] h = refl
+filter-all p (x ∷ xs) h = ap (λ b. cond b (x ∷ filter p xs) (filter p xs)) h.0 ∙ ap (λ v. x ∷ v) (filter-all p xs h.1)
+
+filter-none : {X : Type 0} (p : X → Bool) (xs : List X) → AllByRecursion (λ x. p x ≡ false) xs → filter p xs ≡ []
+filter-none p [] h = refl
+filter-none p (x ∷ xs) h = ap (λ b. cond b (x ∷ filter p xs) (filter p xs)) h.0 ∙ filter-none p xs h.1
+
+any-none : {X : Type 0} (p : X → Bool) (xs : List X) → AllByRecursion (λ x. p x ≡ false) xs → list_any p xs ≡ false
+any-none p [] h = refl
+any-none p (x ∷ xs) h = ap (λ b. b || list_any p xs) h.0 ∙ any-none p xs h.1
+
+last_or-append : {X : Type 0} (o : Option X) (xs : List X) (x : X) → last_or o (xs ++ x ∷ []) ≡ Some x
+last_or-append o [] x = refl
+last_or-append o (y ∷ ys) x = last_or-append (Some y) ys x
+
+-- ---- the entries up to a time
+
+not_up : (t a : ℕ) → t < a → leb a t ≡ false
+not_up t a h = lt-leb a t h
+
+pub up_to-is : (moves : Moves) (i t : ℕ) → NoneLater t (take i moves) → AllByRecursion (λ m. t < m.1.at) (drop i moves) → up_to t moves ≡ take i moves
+up_to-is moves i t past ahead =
+    let p : ℕ × Entry → Bool = λ m. leb m.1.at t in
+    ap (filter p) (sym (take-append-drop i moves)) ∙ filter-append p (take i moves) (drop i moves)
+    ∙ ap (λ v. v ++ filter p (drop i moves)) (filter-all p (take i moves) (all-mono (λ m. m.1.at ≤ t) (λ m. p m ≡ true) (λ m h. le-leb m.1.at t h) (take i moves) past))
+    ∙ ap (λ v. take i moves ++ v) (filter-none p (drop i moves) (all-mono (λ m. t < m.1.at) (λ m. p m ≡ false) (λ m h. not_up t m.1.at h) (drop i moves) ahead))
+    ∙ append-nil (take i moves)
+
+-- between two times at which entries stand, nothing happens
+pub nothing_between : (moves : Moves) (i t : ℕ) → AllByRecursion (λ m. m.1.at < t) (take i moves) → AllByRecursion (λ m. t < m.1.at) (drop i moves) → happens_at moves t ≡ false
+nothing_between moves i t past ahead =
+    let p : ℕ × Entry → Bool = λ m. eqb m.1.at t in
+    ap (list_any p) (sym (take-append-drop i moves)) ∙ list_any-append p (take i moves) (drop i moves)
+    ∙ ap (λ b. b || list_any p (drop i moves)) (any-none p (take i moves) (all-mono (λ m. m.1.at < t) (λ m. p m ≡ false) (λ m h. ne_eqb m.1.at t (λ e. omega arith)) (take i moves) past))
+    ∙ any-none p (drop i moves) (all-mono (λ m. t < m.1.at) (λ m. p m ≡ false) (λ m h. ne_eqb m.1.at t (λ e. omega arith)) (drop i moves) ahead)
+
+pub happens-there : (moves : Moves) (i : ℕ) (m : ℕ × Entry) → slice_get moves i ≡ Some m → happens_at moves m.1.at ≡ true
+happens-there [] i m e = absurd (cc)
+happens-there (x ∷ xs) zero m e =
+    let same : x ≡ m = cc in
+    ap (λ b. b || happens_at xs m.1.at) (eq-eqb x.1.at m.1.at (ap (λ (y : ℕ × Entry). y.1.at) same))
+happens-there (x ∷ xs) (suc i) m e = ap (λ b. eqb x.1.at m.1.at || b) (happens-there xs i m e) ∙ or-true (eqb x.1.at m.1.at)
+  where
+    or-true : (b : Bool) → (b || true) ≡ true
+    or-true true = refl
+    or-true false = refl
+
+-- ---- the powers
+
+power_then : Option ContractChange → ℕ → ℕ
+power_then None k = k
+power_then (Some c) k = power_left c
+
+change-then : (p : ℕ) (moves : Moves) (m : ℕ × Entry) (o : Option ContractChange) → change_on p m ≡ o → power_on (moves ++ m ∷ []) p ≡ power_then o (power_on moves p)
+unfolding power_on power_then
+change-then p moves m None e =
+    ap (λ l. option_map_or power_left (last_or None l) 0)
+    (filter_map-append (change_on p) moves (m ∷ []) ∙ ap (λ (o : Option ContractChange). filter_map (change_on p) moves ++ cons_option o []) e ∙ append-nil (filter_map (change_on p) moves))
+change-then p moves m (Some c) e =
+    ap (λ l. option_map_or power_left (last_or None l) 0)
+    (filter_map-append (change_on p) moves (m ∷ []) ∙ ap (λ (o : Option ContractChange). filter_map (change_on p) moves ++ cons_option o []) e)
+    ∙ ap (λ o. option_map_or power_left o 0) (last_or-append None (filter_map (change_on p) moves) c)
+
+change_here : (p : ℕ) (m : ℕ × Entry) → m.0 ≡ p → change_on p m ≡ m.1.contract
+change_here p m e = ap (λ b. cond b m.1.contract None) (eq-eqb m.0 p e)
+
+change_other : (p : ℕ) (m : ℕ × Entry) → m.0 ≢ p → change_on p m ≡ None
+change_other p m e = ap (λ b. cond b m.1.contract None) (ne_eqb m.0 p e)
+
+no_change : (p : ℕ) (m : ℕ × Entry) → m.1.contract ≡ None → change_on p m ≡ None
+no_change p m e = ⊎_elim (λ (same : m.0 ≡ p). change_here p m same ∙ e) (λ (other : m.0 ≢ p). change_other p m other) (cases_eq m.0 p)
+
+-- a table over the ports with one entry changed
+set-table : (f g : ℕ → ℕ) (n p v : ℕ) → 1 ≤ p → p ≤ n → ((k : ℕ) → k ≢ p → g k ≡ f k) → g p ≡ v →
+    set (map f (range_with_len 1 n)) (p - 1) v ≡ map g (range_with_len 1 n)
+set-table f g n p v one lt others here =
+    let fs = length-map-range_with_len f 1 n in
+    let gs = length-map-range_with_len g 1 n in
+    let xs : List ℕ = map f (range_with_len 1 n) in
+    same_lists (set xs (p - 1) v) (map g (range_with_len 1 n)) (length-set xs (p - 1) v ∙ fs ∙ sym gs)
+    (λ k d h.
+    let kn : k < n = omega (arith, length-set xs (p - 1) v) in
+    let at_g : get_or (map g (range_with_len 1 n)) k d ≡ g (k + 1) = get_or-map-range_with_len g 1 n k (k + 1) d kn (omega arith) in
+    ⊎_elim
+    (λ (same : k + 1 ≡ p).
+    let place : k ≡ p - 1 = omega arith in
+    let inside : p - 1 < length xs = omega arith in
+    ap (λ i. get_or (set xs (p - 1) v) i d) place ∙ get_or-set_same xs (p - 1) v d inside ∙ sym here ∙ sym (at_g ∙ ap g same))
+    (λ (other : k + 1 ≢ p).
+    let place : k ≢ p - 1 = λ e. other (omega arith) in
+    get_or-set_other xs (p - 1) k v d place ∙ get_or-map-range_with_len f 1 n k (k + 1) d kn (omega arith) ∙ sym (others (k + 1) other) ∙ sym at_g)
+    (cases_eq (k + 1) p))
+
+-- a table that is the same at each port
+same-table : (f g : ℕ → ℕ) (a n : ℕ) → ((k : ℕ) → f k ≡ g k) → map f (range_with_len a n) ≡ map g (range_with_len a n)
+same-table f g a zero h = refl
+same-table f g a (suc n) h = ap (λ y. y ∷ map f (range_with_len (a + 1) n)) (h a) ∙ ap (λ v. g a ∷ v) (same-table f g (a + 1) n h)
+
+pub powers-start : (a n : ℕ) → replicate n 0 ≡ map (power_on []) (range_with_len a n)
+unfolding power_on
+powers-start a zero = refl
+powers-start a (suc n) = ap (λ v. 0 ∷ v) (powers-start (a + 1) n)
+
+-- an entry changes the power of its own port alone
+pub powers-more : (moves : Moves) (m : ℕ × Entry) (n : ℕ) (o : Option ContractChange) → m.1.contract ≡ o → 1 ≤ m.0 → m.0 ≤ n →
+    noted (map (power_on moves) (range_with_len 1 n)) m.0 o ≡ map (power_on (moves ++ m ∷ [])) (range_with_len 1 n)
+unfolding power_then
+powers-more moves m n None e one lt =
+    same-table (power_on moves) (power_on (moves ++ m ∷ [])) 1 n (λ k. sym (change-then k moves m None (no_change k m e)))
+powers-more moves m n (Some c) e one lt =
+    set-table (power_on moves) (power_on (moves ++ m ∷ [])) n m.0 (power_left c) one lt
+    (λ k other. change-then k moves m None (change_other k m (λ x. other (sym x))))
+    (change-then m.0 moves m (Some c) (change_here m.0 m refl ∙ e))
+
+-- ---- the instants
+
+range-more : (a n : ℕ) → range_with_len a (suc n) ≡ range_with_len a n ++ (a + n) ∷ []
+range-more a zero = ap (λ v. v ∷ []) (omega arith)
+range-more a (suc n) =
+    let e : (a + 1) + n ≡ a + suc n = omega arith in
+    ap (λ v. a ∷ v) (range-more (a + 1) n ∙ ap (λ k. range_with_len (a + 1) n ++ k ∷ []) e)
+
+module _ (f : ℕ → List ℕ) where
+  pub text-next : (n : ℕ) → flat_map f (range_with_len 0 (suc n)) ≡ flat_map f (range_with_len 0 n) ++ f n
+  text-next n =
+      let e : 0 + n ≡ n = omega arith in
+      ap (flat_map f) (range-more 0 n ∙ ap (λ k. range_with_len 0 n ++ k ∷ []) e) ∙ flat_map-append f (range_with_len 0 n) (n ∷ [])
+      ∙ ap (λ v. flat_map f (range_with_len 0 n) ++ v) (append-nil (f n))
+
+  gap : (a k : ℕ) → ((v : ℕ) → a < v → v < suc a + k → f v ≡ []) → flat_map f (range_with_len 0 (suc a + k)) ≡ flat_map f (range_with_len 0 a) ++ f a
+  gap a zero silent =
+      let e : suc a + 0 ≡ suc a = omega arith in
+      ap (λ n. flat_map f (range_with_len 0 n)) e ∙ text-next a
+  gap a (suc k) silent =
+      let e : suc a + suc k ≡ suc (suc a + k) = omega arith in
+      ap (λ n. flat_map f (range_with_len 0 n)) e ∙ text-next (suc a + k)
+      ∙ ap (λ v. flat_map f (range_with_len 0 (suc a + k)) ++ v) (silent (suc a + k) (omega arith) (omega arith))
+      ∙ append-nil (flat_map f (range_with_len 0 (suc a + k))) ∙ gap a k (λ v h l. silent v h (omega arith))
+
+  -- the instants up to a later one, of which those between add nothing
+  pub text-to : (a b : ℕ) → a < b → ((v : ℕ) → a < v → v < b → f v ≡ []) → flat_map f (range_with_len 0 b) ≡ flat_map f (range_with_len 0 a) ++ f a
+  text-to a b lt silent =
+      let e : b ≡ suc a + (b - suc a) = omega arith in
+      ap (λ n. flat_map f (range_with_len 0 n)) e ∙ gap a (b - suc a) (λ v h l. silent v h (omega arith))
+
+-- ---- the entries of a run
+
+-- each entry is no later than those after it
+pub Rising : Moves → Type 0
+Rising [] = Unit {0}
+Rising (m ∷ ms) = NoneBefore m.1.at ms × Rising ms
+
+-- an entry is on a port that is there, and not after the end
+abbrev pub Known : Plan → ℕ × Entry → Type 0
+Known plan m = (1 ≤ m.0) × (m.0 ≤ count plan) × (m.1.at ≤ plan.end)
+
+pub record InTime (plan : Plan) (moves : Moves) : Type 0 where
+  pub rising : Rising moves
+  pub known : AllByRecursion (Known plan) moves
+
+at-due : (plan : Plan) (past : List Move) (m : Move) → GoesOn plan past m → m.entry.at ≡ m.due.time
+unfolding entry_of
+at-due plan past m h = ap (λ (e : Entry). e.at) h.entry_is
+
+shifted : {X : Type 0} (P : List X → X → Type 0) (a b : List X) (x : X) (rest : List X) → EachAfter P ((a ++ b) ++ x ∷ []) rest → EachAfter P (a ++ (b ++ x ∷ [])) rest
+shifted {X} P a b x rest h = subst (λ (l : List X). EachAfter P l rest) (append_assoc a b (x ∷ [])) h
+
+none-before : (plan : Plan) (past more : List Move) (x : Move) (ms : List Move) → EachAfter (GoesOn plan) ((past ++ x ∷ []) ++ more) ms → EachAfter IsInOrder ((past ++ x ∷ []) ++ more) ms →
+    NoneBefore x.due.time (map shown ms)
+none-before plan past more x [] chained ordered = tt
+none-before plan past more x (m ∷ ms) chained ordered =
+    let later = in_order-member past more x m ordered.0 in
+    let e = at-due plan ((past ++ x ∷ []) ++ more) m chained.0 in (
+      omega (arith, later.by_time, e),
+      none-before plan past (more ++ m ∷ []) x ms (shifted (GoesOn plan) (past ++ x ∷ []) more m ms chained.1) (shifted IsInOrder (past ++ x ∷ []) more m ms ordered.1),
+    )
+
+rises : (plan : Plan) (past ms : List Move) → EachAfter (GoesOn plan) past ms → EachAfter IsInOrder past ms → Rising (map shown ms)
+unfolding Rising
+rises plan past [] chained ordered = tt
+rises plan past (m ∷ ms) chained ordered =
+    let e = at-due plan past m chained.0 in
+    let none : List Move → Type 0 = λ l. EachAfter (GoesOn plan) l ms in
+    let order : List Move → Type 0 = λ l. EachAfter IsInOrder l ms in (
+      subst (λ t. NoneBefore t (map shown ms)) (sym e)
+          (none-before plan past [] m ms (subst none (sym (append-nil (past ++ m ∷ []))) chained.1) (subst order (sym (append-nil (past ++ m ∷ []))) ordered.1)),
+      rises plan (past ++ m ∷ []) ms chained.1 ordered.1,
+    )
+
+all-known : (plan : Plan) (past ms : List Move) → EachAfter (GoesOn plan) past ms → EachAfter (λ _ m. m.due.time ≤ plan.end) past ms → AllByRecursion (Known plan) (map shown ms)
+all-known plan past [] chained timely = tt
+all-known plan past (m ∷ ms) chained timely =
+    let e = at-due plan past m chained.0 in
+    let k = chained.0.known in
+    ((omega arith, omega arith, omega (arith, e, timely.0)), all-known plan (past ++ m ∷ []) ms chained.1 timely.1)
+
+pub in-time : (plan : Plan) (moves : Moves) → Shows plan moves → InTime plan moves
+in-time plan moves s = subst (InTime plan) (sym s.entries_are) (record {
+  rising = rises plan [] s.moves s.run.chained s.run.ordered;
+  known = all-known plan [] s.moves s.run.chained s.run.timely;
+})
+
+rising-drop : (moves : Moves) (i : ℕ) → Rising moves → Rising (drop i moves)
+unfolding Rising
+rising-drop moves zero h = h
+rising-drop [] (suc i) h = tt
+rising-drop (m ∷ ms) (suc i) h = rising-drop ms i h.1
+
+module _ (plan : Plan) (moves : Moves) (i : ℕ) (m : ℕ × Entry) (e : slice_get moves i ≡ Some m) where
+  pub known-at : InTime plan moves → Known plan m
+  known-at h = (subst (AllByRecursion (Known plan)) (drop-next moves i m e) (all-drop (Known plan) moves i h.known)).0
+
+  pub none-before-next : InTime plan moves → NoneBefore m.1.at (drop (i + 1) moves)
+  unfolding Rising
+  none-before-next h = (subst Rising (drop-next moves i m e) (rising-drop moves i h.rising)).0
+
+  pub not-before : (t : ℕ) → NoneBefore t (drop i moves) → t ≤ m.1.at
+  not-before t h = (subst (NoneBefore t) (drop-next moves i m e) h).0
+
+  pub none-before-here : InTime plan moves → NoneBefore m.1.at (drop i moves)
+  none-before-here h = subst (NoneBefore m.1.at) (sym (drop-next moves i m e)) (omega arith, none-before-next h)
+
+  pub none-later-next : (t : ℕ) → t ≤ m.1.at → NoneLater t (take i moves) → NoneLater m.1.at (take (i + 1) moves)
+  none-later-next t le h =
+      subst (NoneLater m.1.at) (sym (take-next moves i m e))
+      (all-append (λ x. x.1.at ≤ m.1.at) (take i moves) (m ∷ []) (all-mono (λ x. x.1.at ≤ t) (λ x. x.1.at ≤ m.1.at) (λ x k. omega arith) (take i moves) h) (omega arith, tt))

@@ -1,0 +1,67 @@
+//! The contracts of a run as text.
+
+ghost use Rattle.std.specs.Prelude.{◌≡◌, ◌+◌, ◌<◌, ◌≤◌, ◌++◌, List, ℕ, [], length, decimal, codes, MatchOption, slice_get};
+ghost use Rattle.pd_report.specs.Device.{CountsFailure, Writes};
+ghost use Rattle.pd_report.specs.ContractLines.{change_text, contract_line, contracts_text};
+
+use crate::text::start_of_line;
+use crate::{BenchFault, Text, TextOut, write_all, write_text};
+use pd_port::ContractChange;
+use pd_run::Runner;
+
+/// The most bytes of a line.
+const WIDTH: usize = 160;
+
+/// Writes the changes of the contracts of all ports, a line for each.
+///
+/// # Errors
+/// `WriteFailed` where the writer failed or took no byte; the first few bytes of the text have gone out.
+pub fn contracts<const N: usize, T: Runner<N>, W: TextOut>(
+    run: &T,
+    writer: &mut W,
+) -> Result<(), BenchFault>
+    ensures text { Writes (W.taken writer.old) (W.taken writer.new) result
+        (contracts_text (T.entries run.now)) }
+    ensures counts { CountsFailure (W.failures writer.old) (W.failures writer.new) result }
+{
+    write_all(writer, b"= contracts\n")?;
+    for index in 0..run.len() {
+        write_text(writer, &line_at(run, index))?;
+    }
+    Ok(())
+}
+
+/// What the entry at the index adds.
+fn line_at<const N: usize, T: Runner<N>>(run: &T, index: usize) -> Text<WIDTH>
+    requires { index < length (T.entries run.now) }
+    ensures { MatchOption (slice_get (T.entries run.now) index) ⊥ (λ move. result ≡ contract_line move) }
+{
+    match run.entry(index) {
+        Some((port, entry)) => change_line(entry.at, port, entry.contract),
+        None => Text::new(),
+    }
+}
+
+#[tactic(auto, unfolding(crate::specs::ContractLines::change_text))]
+fn change_line(at: u64, port: usize, change: Option<ContractChange>) -> Text<WIDTH>
+    ensures { result ≡ change_text at port change }
+{
+    let Some(change) = change else {
+        return Text::new();
+    };
+    let mut text = start_of_line(at, port);
+    match change {
+        ContractChange::Made(contract) => {
+            text.push_all(b"contract ");
+            text.push_number(u64::from(contract.position));
+            text.push_all(b" ");
+            text.push_number(u64::from(contract.mv));
+            text.push_all(b" mV ");
+            text.push_number(u64::from(contract.ma));
+            text.push_all(b" mA");
+        }
+        ContractChange::Lost => text.push_all(b"none"),
+    }
+    text.push_all(b"\n");
+    text
+}
