@@ -1,19 +1,18 @@
 -- A refused line changes nothing.
 use Rattle.std.proofs.Common.{◌≡◌, ℕ, Bool, true, false, List, ◌∷◌, ◌++◌, Result, Ok, Err, inl, inr, sym, ap, ◌∙◌}
 use Rattle.pd_scenario.specs.Contents.{Contents}
-use Rattle.pd_scenario.specs.Limits.{is_port}
+use Rattle.pd_edit.specs.Refusals.{edited}
 use Rattle.pd_edit_lines.specs.Grammar.{line_of}
 use Rattle.pd_edit_lines.specs.Numbers.{number_of}
 use Rattle.pd_edit_lines.specs.declared.line.Line.{Line}
 use Rattle.pd_edit_lines.specs.declared.line.Line.TheVariants as lines_read
 use Rattle.pd_edit_lines.specs.declared.line.Show.{Show}
-use Rattle.pd_edit_lines.specs.declared.line.Show.TheVariants.{Transcript, Contracts, Faults, Margins}
 use Rattle.pd_edit_lines.specs.declared.fault.EditFault.{EditFault}
 use Rattle.pd_edit_lines.specs.declared.fault.EditFault.TheVariants as edit_faults
 use Rattle.pd_bench.specs.declared.tally.Outcome.{Outcome}
 use Rattle.pd_bench.specs.declared.tally.Outcome.TheVariants.{Refused}
-use Rattle.pd_bench.specs.Session.{Reply, EditReply, PortReply, ShowReply, IsRefused, edited_today, refused_text}
-use Rattle.pd_bench.specs.Laws.{RefusedChangesNothing, RefusedAs, ShowRefusedAs, RefusalsAreShown}
+use Rattle.pd_bench.specs.Session.{Reply, EditReply, ShowReply, IsRefused, can_show, refused_text}
+use Rattle.pd_bench.specs.Laws.{RefusedChangesNothing, RefusedAs, RefusalsAreShown}
 
 -- the reply is a refusal's, and the scenario is as before
 pub record Stays (s : Contents) (reply : List ℕ) (s' : Contents) : Type 0 where
@@ -26,23 +25,14 @@ refused_edit s (Err fault) reply s' outcome is h = record { number = number_of f
 refused_edit s (Ok after) reply s' outcome is (inl h) = let both = sym h.2 ∙ is in absurd (cc)
 refused_edit s (Ok after) reply s' outcome is (inr h) = record { number = number_of edit_faults.Memory; reply_is = h.0; same = h.1 }
 
-refused_port : (known : Bool) (port : ℕ) (s : Contents) (reply : List ℕ) (s' : Contents) (outcome : Outcome) → outcome ≡ Refused → PortReply known port s reply s' outcome → Stays s reply s'
-refused_port true port s reply s' outcome is h = let both = sym h.4 ∙ is in absurd (cc)
-refused_port false port s reply s' outcome is h = record { number = number_of edit_faults.NoSuchPort; reply_is = h.0; same = h.1 }
-
-refused_today : (s : Contents) (reply : List ℕ) (s' : Contents) (outcome : Outcome) → IsRefused (number_of edit_faults.Syntax) s reply s' outcome → Stays s reply s'
-refused_today s reply s' outcome h = record { number = number_of edit_faults.Syntax; reply_is = h.0; same = h.1 }
-
-refused_show : (n : ℕ) (show : Show) (s : Contents) (reply : List ℕ) (s' : Contents) (outcome : Outcome) → outcome ≡ Refused → ShowReply n show s reply s' outcome → Stays s reply s'
-refused_show n (Transcript port) s reply s' outcome is h = refused_port (is_port n port) port s reply s' outcome is h
-refused_show n Contracts s reply s' outcome is h = refused_today s reply s' outcome h
-refused_show n Faults s reply s' outcome is h = refused_today s reply s' outcome h
-refused_show n Margins s reply s' outcome is h = refused_today s reply s' outcome h
+refused_show : (can : Bool) (show : Show) (s : Contents) (reply : List ℕ) (s' : Contents) (outcome : Outcome) → outcome ≡ Refused → ShowReply can show s reply s' outcome → Stays s reply s'
+refused_show true show s reply s' outcome is h = let both = sym h.4 ∙ is in absurd (cc)
+refused_show false show s reply s' outcome is h = record { number = number_of edit_faults.NoSuchPort; reply_is = h.0; same = h.1 }
 
 refused_stays : (n : ℕ) (s : Contents) (r : Result Line EditFault) (reply : List ℕ) (s' : Contents) (outcome : Outcome) → outcome ≡ Refused → Reply n s r reply s' outcome → Stays s reply s'
 refused_stays n s (Ok lines_read.Skip) reply s' outcome is h = let both = sym h.2 ∙ is in absurd (cc)
-refused_stays n s (Ok (lines_read.Edit edit)) reply s' outcome is h = refused_edit s (edited_today n s edit) reply s' outcome is h
-refused_stays n s (Ok (lines_read.Show show)) reply s' outcome is h = refused_show n show s reply s' outcome is h
+refused_stays n s (Ok (lines_read.Edit edit)) reply s' outcome is h = refused_edit s (edited n s edit) reply s' outcome is h
+refused_stays n s (Ok (lines_read.Show show)) reply s' outcome is h = refused_show (can_show n show) show s reply s' outcome is h
 refused_stays n s (Err fault) reply s' outcome is h = record { number = number_of fault; reply_is = h.0; same = h.1 }
 
 pub refused_changes_nothing : RefusedChangesNothing
@@ -52,18 +42,11 @@ refused_changes_nothing n s line more text others (reply, rest, s', outcome, res
     let stays = refused_stays n s (line_of line) reply s' outcome outcome_is is_reply in
     (stays.number, rest, text_is ∙ ap (λ v. v ++ rest) stays.reply_is, rw (← rests_are, ← stays.same) replies)
 
--- a refusal of a show for its own sake
-own_show : (n : ℕ) (show : Show) (s : Contents) (number : ℕ) (reply : List ℕ) (s' : Contents) (outcome : Outcome) → ShowRefusedAs n show number → ShowReply n show s reply s' outcome → IsRefused number s reply s' outcome
-own_show n (Transcript port) s number reply s' outcome (none, number_is) k = rw number_is (rw none at k)
-own_show n Contracts s number reply s' outcome h k = rw h k
-own_show n Faults s number reply s' outcome h k = rw h k
-own_show n Margins s number reply s' outcome h k = rw h k
-
 -- a refusal for its own sake
 own_refusal : (n : ℕ) (s : Contents) (r : Result Line EditFault) (number : ℕ) (reply : List ℕ) (s' : Contents) (outcome : Outcome) → RefusedAs n s r number → Reply n s r reply s' outcome → IsRefused number s reply s' outcome
 own_refusal n s (Ok lines_read.Skip) number reply s' outcome h k = absurd h
 own_refusal n s (Ok (lines_read.Edit edit)) number reply s' outcome (fault, is, number_is) k = rw number_is (rw is at k)
-own_refusal n s (Ok (lines_read.Show show)) number reply s' outcome h k = own_show n show s number reply s' outcome h k
+own_refusal n s (Ok (lines_read.Show show)) number reply s' outcome (none, number_is) k = rw number_is (rw none at k)
 own_refusal n s (Err fault) number reply s' outcome h k = rw h k
 
 pub refusals_are_shown : RefusalsAreShown

@@ -9,25 +9,24 @@ use Rattle.std.specs.Io.KnownBytes.{Appends, Consumes, Keeps, IsAtEnd}
 use Rattle.std.proofs.KnownBytes.{Appends-nil, Appends-trans, Consumes-nil, Consumes-trans, Consumes-kept}
 use Rattle.pd_port.specs.declared.entry.Entry.{Entry}
 use Rattle.pd_scenario.specs.Contents.{Contents}
-use Rattle.pd_scenario.specs.Limits.{is_port}
+use Rattle.pd_scenario.specs.Plans.{plan_of}
 use Rattle.pd_scenario.specs.Plan.{Plan}
+use Rattle.pd_edit.specs.Refusals.{edited}
 use Rattle.pd_edit_lines.specs.Grammar.{line_of}
 use Rattle.pd_edit_lines.specs.Numbers.{number_of}
 use Rattle.pd_edit_lines.specs.declared.line.Line.{Line}
 use Rattle.pd_edit_lines.specs.declared.line.Line.TheVariants as lines_read
 use Rattle.pd_edit_lines.specs.declared.line.Show.{Show}
-use Rattle.pd_edit_lines.specs.declared.line.Show.TheVariants.{Transcript, Contracts, Faults, Margins}
 use Rattle.pd_edit_lines.specs.declared.fault.EditFault.{EditFault}
 use Rattle.pd_edit_lines.specs.declared.fault.EditFault.TheVariants as edit_faults
 use Rattle.pd_report.specs.Device.{Begins, Writes, WrotePart}
-use Rattle.pd_report.specs.Report.{transcript_text}
 use Rattle.pd_report.specs.declared.fault.BenchFault.{BenchFault}
 use Rattle.pd_report.specs.declared.fault.BenchFault.TheVariants.{ReadFailed, WriteFailed, Memory, ReaderTooLong}
 use Rattle.pd_bench.specs.declared.tally.Tally.{Tally}
 use Rattle.pd_bench.specs.declared.tally.Outcome.{Outcome}
 use Rattle.pd_bench.specs.declared.tally.Outcome.TheVariants.{Skipped, Refused, Shown}
 use Rattle.pd_bench.specs.Pending.{IsPending, kept_after}
-use Rattle.pd_bench.specs.Session.{Reply, EditReply, PortReply, ShowReply, IsRefused, edited_today, Replies, Session, BeginsSession, SessionDone, SessionStopped, SessionCut, SessionEnds, WritesSession, counted, no_lines, done_text, refused_text}
+use Rattle.pd_bench.specs.Session.{Reply, EditReply, ShowReply, can_show, show_text, Replies, Session, BeginsSession, SessionDone, SessionStopped, SessionCut, SessionEnds, WritesSession, counted, no_lines, done_text, refused_text}
 use Rattle.pd_bench.specs.Stream.{Replied, Answers, HasRun, IsRunning, Leads, LeadsPart, Ends, EndsPart, Fed, FedPart, Finished, FinishedPart, TookIn, TookPart, Taking}
 use Rattle.pd_bench.proofs.PendingLemmas.{IsPending-push, IsPending-empty, reading-kept, reading-kept_cut, lines-cut, lines-last, empty-kept}
 
@@ -38,23 +37,14 @@ module _ (n : ℕ) where
   some_edit s (Err fault) = (refused_text (number_of fault), Refused, (refl, refl, refl))
   some_edit s (Ok after) = (refused_text (number_of edit_faults.Memory), Refused, inr (refl, refl, refl))
 
-  some_port : (known : Bool) (port : ℕ) (s : Contents) → HasRun s → (reply : List ℕ) × (outcome : Outcome) × PortReply known port s reply s outcome
-  some_port true port s run = (transcript_text port run.0, Shown, (run.0, run.1, refl, refl, refl))
-  some_port false port s run = (refused_text (number_of edit_faults.NoSuchPort), Refused, (refl, refl, refl))
-
-  not_today : (s : Contents) → (reply : List ℕ) × (outcome : Outcome) × IsRefused (number_of edit_faults.Syntax) s reply s outcome
-  not_today s = (refused_text (number_of edit_faults.Syntax), Refused, (refl, refl, refl))
-
-  some_show : (show : Show) (s : Contents) → HasRun s → (reply : List ℕ) × (outcome : Outcome) × ShowReply n show s reply s outcome
-  some_show (Transcript port) s run = some_port (is_port n port) port s run
-  some_show Contracts s run = not_today s
-  some_show Faults s run = not_today s
-  some_show Margins s run = not_today s
+  some_show : (can : Bool) (show : Show) (s : Contents) → HasRun s → (reply : List ℕ) × (outcome : Outcome) × ShowReply can show s reply s outcome
+  some_show true show s run = (show_text show (plan_of s) run.0, Shown, (run.0, run.1, refl, refl, refl))
+  some_show false show s run = (refused_text (number_of edit_faults.NoSuchPort), Refused, (refl, refl, refl))
 
   some_outcome : (s : Contents) → HasRun s → (r : Result Line EditFault) → (reply : List ℕ) × (outcome : Outcome) × Reply n s r reply s outcome
   some_outcome s run (Ok lines_read.Skip) = ([], Skipped, (refl, refl, refl))
-  some_outcome s run (Ok (lines_read.Edit edit)) = some_edit s (edited_today n s edit)
-  some_outcome s run (Ok (lines_read.Show show)) = some_show show s run
+  some_outcome s run (Ok (lines_read.Edit edit)) = some_edit s (edited n s edit)
+  some_outcome s run (Ok (lines_read.Show show)) = some_show (can_show n show) show s run
   some_outcome s run (Err fault) = (refused_text (number_of fault), Refused, (refl, refl, refl))
 
   some_reply : (s : Contents) → HasRun s → (t : Tally) (r : Result Line EditFault) → (reply : List ℕ) × (t' : Tally) × Replied n s t r reply s t'

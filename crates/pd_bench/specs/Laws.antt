@@ -1,34 +1,27 @@
 -- What is proved of the definitions alone.
 use Rattle.std.specs.Prelude.{◌≡◌, ℕ, false, List, ◌∷◌, ◌++◌, Result, Ok, Err}
 use Rattle.pd_scenario.specs.Contents.{Contents}
-use Rattle.pd_scenario.specs.Limits.{is_port}
+use Rattle.pd_edit.specs.Refusals.{edited}
 use Rattle.pd_edit_lines.specs.Grammar.{line_of}
 use Rattle.pd_edit_lines.specs.Numbers.{number_of}
 use Rattle.pd_edit_lines.specs.declared.line.Line.{Line}
 use Rattle.pd_edit_lines.specs.declared.line.Line.TheVariants as lines_read
-use Rattle.pd_edit_lines.specs.declared.line.Show.{Show}
-use Rattle.pd_edit_lines.specs.declared.line.Show.TheVariants.{Transcript}
 use Rattle.pd_edit_lines.specs.declared.fault.EditFault.{EditFault}
 use Rattle.pd_edit_lines.specs.declared.fault.EditFault.TheVariants as edit_faults
 use Rattle.pd_bench.specs.declared.tally.Outcome.{Outcome}
 use Rattle.pd_bench.specs.declared.tally.Outcome.TheVariants.{Refused}
-use Rattle.pd_bench.specs.Session.{Replies, edited_today, refused_text}
+use Rattle.pd_bench.specs.Session.{Replies, can_show, refused_text}
 
 -- A refused line changes nothing: after its own reply, the replies and the outcomes are those of the other lines alone.
 abbrev pub RefusedChangesNothing : Type 0
 RefusedChangesNothing = (n : ℕ) (s : Contents) (line : List ℕ) (more : List (List ℕ)) (text : List ℕ) (others : List Outcome)
     → Replies n s (line ∷ more) text (Refused ∷ others) → (number : ℕ) × (rest : List ℕ) × (text ≡ refused_text number ++ rest) × Replies n s more rest others
 
--- a show that is refused, by a number: it is of no port, or none of this version
-abbrev pub ShowRefusedAs : ℕ → Show → ℕ → Type 0
-ShowRefusedAs n (Transcript port) number = (is_port n port ≡ false) × (number ≡ number_of edit_faults.NoSuchPort)
-ShowRefusedAs n _ number = number ≡ number_of edit_faults.Syntax
-
--- a line that is refused for its own sake, by a number: it can't be read, or its edit or its show is refused
+-- a line that is refused for its own sake, by a number: it can't be read, its edit is refused, or it shows a port that isn't there
 abbrev pub RefusedAs : ℕ → Contents → Result Line EditFault → ℕ → Type 0
 RefusedAs n s (Ok lines_read.Skip) number = ⊥
-RefusedAs n s (Ok (lines_read.Edit edit)) number = (fault : EditFault) × (edited_today n s edit ≡ Err fault) × (number ≡ number_of fault)
-RefusedAs n s (Ok (lines_read.Show show)) number = ShowRefusedAs n show number
+RefusedAs n s (Ok (lines_read.Edit edit)) number = (fault : EditFault) × (edited n s edit ≡ Err fault) × (number ≡ number_of fault)
+RefusedAs n s (Ok (lines_read.Show show)) number = (can_show n show ≡ false) × (number ≡ number_of edit_faults.NoSuchPort)
 RefusedAs n s (Err fault) number = number ≡ number_of fault
 
 -- such a line is always refused, by its number

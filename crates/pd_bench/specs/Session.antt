@@ -5,6 +5,7 @@ use Rattle.std.specs.Io.KnownBytes.{Appends, Consumes, IsAtEnd}
 use Rattle.pd_port.specs.declared.entry.Entry.{Entry}
 use Rattle.pd_scenario.specs.Contents.{Contents}
 use Rattle.pd_scenario.specs.Limits.{is_port}
+use Rattle.pd_scenario.specs.Plan.{Plan}
 use Rattle.pd_scenario.specs.Plans.{plan_of}
 use Rattle.pd_edit_lines.specs.Grammar.{line_of}
 use Rattle.pd_edit.specs.Refusals.{edited}
@@ -12,15 +13,15 @@ use Rattle.pd_edit_lines.specs.Numbers as edit_numbers
 use Rattle.pd_edit_lines.specs.declared.line.Line.{Line}
 use Rattle.pd_edit_lines.specs.declared.line.Line.TheVariants as lines_read
 use Rattle.pd_edit_lines.specs.declared.line.Show.{Show}
-use Rattle.pd_edit_lines.specs.declared.line.Show.TheVariants.{Transcript}
-use Rattle.pd_edit_lines.specs.declared.edit.Edit.{Edit}
-use Rattle.pd_edit_lines.specs.declared.edit.Edit.TheVariants.{Insert}
-use Rattle.pd_edit_lines.specs.declared.edit.EditHappening.TheVariants.{Budget}
+use Rattle.pd_edit_lines.specs.declared.line.Show.TheVariants.{Transcript, Contracts, Faults, Margins}
 use Rattle.pd_edit_lines.specs.declared.fault.EditFault.{EditFault}
 use Rattle.pd_edit_lines.specs.declared.fault.EditFault.TheVariants as edit_faults
 use Rattle.pd_run.specs.Shown.{Shows}
 use Rattle.pd_report.specs.Device.{Begins, one_more}
 use Rattle.pd_report.specs.Report.{transcript_text}
+use Rattle.pd_report.specs.ContractLines.{contracts_text}
+use Rattle.pd_report.specs.FaultLines.{faults_text}
+use Rattle.pd_report.specs.Margins.{margins_text}
 use Rattle.pd_report.specs.declared.fault.BenchFault.{BenchFault}
 use Rattle.pd_report.specs.declared.fault.BenchFault.TheVariants.{ReadFailed, WriteFailed, Memory, ReaderTooLong}
 use Rattle.pd_bench.specs.declared.tally.Tally.{Tally}
@@ -66,30 +67,28 @@ EditReply s (Err fault) reply s' outcome = IsRefused (edit_numbers.number_of fau
 EditReply s (Ok after) reply s' outcome =
     ((reply ≡ ok_text) × (s' ≡ after) × (outcome ≡ Accepted)) ⊎ IsRefused (edit_numbers.number_of edit_faults.Memory) s reply s' outcome
 
--- A budget that changes in time is no edit of this version, for the run doesn't follow it yet.
-abbrev pub as_today : Edit → Result Contents EditFault → Result Contents EditFault
-as_today (Insert id at (Budget mw)) result = Err edit_faults.Syntax
-as_today edit result = result
+-- the text of a show, over the entries of a run of this plan
+abbrev pub show_text : Show → Plan → List (ℕ × Entry) → List ℕ
+show_text (Transcript port) plan entries = transcript_text port entries
+show_text Contracts plan entries = contracts_text entries
+show_text Faults plan entries = faults_text entries
+show_text Margins plan entries = margins_text plan entries
 
--- the scenario of n ports after an edit, or its refusal
-unfoldable pub edited_today : ℕ → Contents → Edit → Result Contents EditFault
-edited_today n s edit = as_today edit (edited n s edit)
+-- a show is of a port that is there, or of all ports
+abbrev pub can_show : ℕ → Show → Bool
+can_show n (Transcript port) = is_port n port
+can_show n _ = true
 
--- a show of a port: the transcript of the scenario's run, where there is such a port
-abbrev pub PortReply : Bool → ℕ → Contents → List ℕ → Contents → Outcome → Type 0
-PortReply true port s reply s' outcome =
-    (entries : List (ℕ × Entry)) × Shows (plan_of s) entries × (reply ≡ transcript_text port entries) × (s' ≡ s) × (outcome ≡ Shown)
-PortReply false port s reply s' outcome = IsRefused (edit_numbers.number_of edit_faults.NoSuchPort) s reply s' outcome
-
--- A show. Those of contracts, faults and margins are none of this version.
-abbrev pub ShowReply : ℕ → Show → Contents → List ℕ → Contents → Outcome → Type 0
-ShowReply n (Transcript port) s reply s' outcome = PortReply (is_port n port) port s reply s' outcome
-ShowReply n _ s reply s' outcome = IsRefused (edit_numbers.number_of edit_faults.Syntax) s reply s' outcome
+-- a show: its text over the scenario's run, where there is such a port
+abbrev pub ShowReply : Bool → Show → Contents → List ℕ → Contents → Outcome → Type 0
+ShowReply true show s reply s' outcome =
+    (entries : List (ℕ × Entry)) × Shows (plan_of s) entries × (reply ≡ show_text show (plan_of s) entries) × (s' ≡ s) × (outcome ≡ Shown)
+ShowReply false show s reply s' outcome = IsRefused (edit_numbers.number_of edit_faults.NoSuchPort) s reply s' outcome
 
 abbrev pub Reply : ℕ → Contents → Result Line EditFault → List ℕ → Contents → Outcome → Type 0
 Reply n s (Ok lines_read.Skip) reply s' outcome = (reply ≡ []) × (s' ≡ s) × (outcome ≡ Skipped)
-Reply n s (Ok (lines_read.Edit edit)) reply s' outcome = EditReply s (edited_today n s edit) reply s' outcome
-Reply n s (Ok (lines_read.Show show)) reply s' outcome = ShowReply n show s reply s' outcome
+Reply n s (Ok (lines_read.Edit edit)) reply s' outcome = EditReply s (edited n s edit) reply s' outcome
+Reply n s (Ok (lines_read.Show show)) reply s' outcome = ShowReply (can_show n show) show s reply s' outcome
 Reply n s (Err fault) reply s' outcome = IsRefused (edit_numbers.number_of fault) s reply s' outcome
 
 -- ---- the whole session

@@ -1,22 +1,25 @@
 //! Answers to the lines of an edit script.
 
-ghost use Rattle.std.specs.Prelude.{◌≡◌, ◌+◌, ◌<◌, ◌≤◌, ◌^◌, List, ℕ};
+ghost use Rattle.std.specs.Prelude.{true, ◌≡◌, ◌+◌, ◌<◌, ◌≤◌, ◌^◌, List, ℕ};
 ghost use Rattle.pd_scenario.specs.Limits.{is_port};
-ghost use Rattle.pd_edit.specs.Refusals.{Applies};
+ghost use Rattle.pd_scenario.specs.Plans.{plan_of};
+ghost use Rattle.pd_edit.specs.Refusals.{edited};
 ghost use Rattle.pd_edit_lines.specs.Grammar.{line_of};
 ghost use Rattle.pd_edit_lines.specs.Numbers.{number_of};
 ghost use Rattle.pd_edit_lines.specs.declared.fault.EditFault.TheVariants as edit_faults;
 ghost use Rattle.pd_report.specs.Device.{CountsFailure, Writes};
 ghost use Rattle.pd_bench.specs.declared.tally.Outcome.{Outcome as OutcomeData};
 ghost use Rattle.pd_bench.specs.declared.tally.Outcome.TheVariants as outcomes;
-ghost use Rattle.pd_bench.specs.Session.{EditReply, PortReply, ShowReply, edited_today, answered, counted, done_text, refused_text};
+ghost use Rattle.pd_bench.specs.Session.{EditReply, ShowReply, show_text, can_show, answered, counted, done_text, refused_text};
 ghost use Rattle.pd_bench.specs.Stream.{IsRunning, Replied};
 
 use crate::{Outcome, Tally};
 use pd_edit::apply;
-use pd_edit_lines::{Edit, EditFault, EditHappening, Line, Show};
+use pd_edit_lines::{Edit, EditFault, Line, Show};
 use pd_port::Meter;
-use pd_report::{BenchFault, Text, TextOut, transcript, write_all, write_text};
+use pd_report::{
+    BenchFault, Text, TextOut, contracts, faults, margins, transcript, write_all, write_text,
+};
 use pd_run::Runner;
 use pd_scenario::Scenario;
 use std::alloc::Global;
@@ -64,13 +67,13 @@ fn change<const N: usize, T: Runner<N>, W: TextOut>(
 ) -> Result<(), BenchFault>
     requires runs { IsRunning (T.plan runner.old) (T.entries runner.old) state.old.scenario }
     requires room { answered state.old.tally + 1 < 2 ^ 32 }
-    ensures reply { (reply : List ℕ) × (outcome : OutcomeData) × EditReply state.old.scenario (edited_today N state.old.scenario edit.now) reply state.new.scenario outcome
+    ensures reply { (reply : List ℕ) × (outcome : OutcomeData) × EditReply state.old.scenario (edited N state.old.scenario edit.now) reply state.new.scenario outcome
         × (state.new.tally ≡ counted state.old.tally outcome) × Writes (W.taken writer.old) (W.taken writer.new) result reply }
     ensures counts { CountsFailure (W.failures writer.old) (W.failures writer.new) result }
     ensures runs { IsRunning (T.plan runner.new) (T.entries runner.new) state.new.scenario }
     ensures room { answered state.new.tally ≤ answered state.old.tally + 1 }
 {
-    let edited = match edited_today(alloc, &state.scenario, edit) {
+    let edited = match apply(alloc, &state.scenario, edit) {
         Ok(edited) => edited,
         Err(fault) => return refuse(fault, state, writer),
     };
@@ -82,66 +85,56 @@ fn change<const N: usize, T: Runner<N>, W: TextOut>(
     write_all(writer, b"ok\n")
 }
 
-/// The scenario after an edit. A budget that changes in time is no edit of this version.
-#[tactic(auto, unfolding(crate::specs::Session::edited_today))]
-fn edited_today<const N: usize>(
-    alloc: Global,
-    scenario: &Scenario<N>,
-    edit: &Edit,
-) -> Result<Scenario<N>, EditFault>
-    ensures { Applies result (edited_today N scenario.now edit.now) }
-{
-    if let Edit::Insert {
-        happening: EditHappening::Budget { .. },
-        ..
-    } = edit
-    {
-        return Err(EditFault::Syntax);
-    }
-    apply(alloc, scenario, edit)
-}
-
-/// Answers a show. Those of contracts, faults and margins are none of this version.
+/// Answers a show.
 fn show<const N: usize, T: Runner<N>, W: TextOut>(
-    show: Show,
+    shown: Show,
     state: &mut State<N>,
     runner: &T,
     writer: &mut W,
 ) -> Result<(), BenchFault>
     requires runs { IsRunning (T.plan runner.now) (T.entries runner.now) state.old.scenario }
     requires room { answered state.old.tally + 1 < 2 ^ 32 }
-    ensures reply { (reply : List ℕ) × (outcome : OutcomeData) × ShowReply N show state.old.scenario reply state.new.scenario outcome
+    ensures reply { (reply : List ℕ) × (outcome : OutcomeData) × ShowReply (can_show N shown) shown state.old.scenario reply state.new.scenario outcome
         × (state.new.tally ≡ counted state.old.tally outcome) × Writes (W.taken writer.old) (W.taken writer.new) result reply }
     ensures counts { CountsFailure (W.failures writer.old) (W.failures writer.new) result }
     ensures same { state.new.scenario ≡ state.old.scenario }
     ensures room { answered state.new.tally ≤ answered state.old.tally + 1 }
 {
-    match show {
-        Show::Transcript { port } => show_port(port, state, runner, writer),
-        Show::Contracts | Show::Faults | Show::Margins => refuse(EditFault::Syntax, state, writer),
-    }
-}
-
-/// Answers a show of a port, the ports being numbered from 1.
-fn show_port<const N: usize, T: Runner<N>, W: TextOut>(
-    port: u64,
-    state: &mut State<N>,
-    runner: &T,
-    writer: &mut W,
-) -> Result<(), BenchFault>
-    requires runs { IsRunning (T.plan runner.now) (T.entries runner.now) state.old.scenario }
-    requires room { answered state.old.tally + 1 < 2 ^ 32 }
-    ensures reply { (reply : List ℕ) × (outcome : OutcomeData) × PortReply (is_port N port) port state.old.scenario reply state.new.scenario outcome
-        × (state.new.tally ≡ counted state.old.tally outcome) × Writes (W.taken writer.old) (W.taken writer.new) result reply }
-    ensures counts { CountsFailure (W.failures writer.old) (W.failures writer.new) result }
-    ensures same { state.new.scenario ≡ state.old.scenario }
-    ensures room { answered state.new.tally ≤ answered state.old.tally + 1 }
-{
-    if port < 1 || port > N as u64 {
+    if !can_show(N, shown) {
         return refuse(EditFault::NoSuchPort, state, writer);
     }
     state.tally.count(Outcome::Shown);
-    transcript(runner, port as usize, writer)
+    write_show(shown, &state.scenario, runner, writer)
+}
+
+/// Whether a show of N ports is of a port that is there, the ports being numbered from 1.
+fn can_show(ports: usize, shown: Show) -> bool
+    ensures { result ≡ can_show ports shown }
+{
+    match shown {
+        Show::Transcript { port } => 1 <= port && port <= ports as u64,
+        Show::Contracts | Show::Faults | Show::Margins => true,
+    }
+}
+
+/// Writes a show.
+fn write_show<const N: usize, T: Runner<N>, W: TextOut>(
+    shown: Show,
+    scenario: &Scenario<N>,
+    runner: &T,
+    writer: &mut W,
+) -> Result<(), BenchFault>
+    requires runs { IsRunning (T.plan runner.now) (T.entries runner.now) scenario.now }
+    requires can { can_show N shown ≡ true }
+    ensures text { Writes (W.taken writer.old) (W.taken writer.new) result (show_text shown (plan_of scenario.now) (T.entries runner.now)) }
+    ensures counts { CountsFailure (W.failures writer.old) (W.failures writer.new) result }
+{
+    match shown {
+        Show::Transcript { port } => transcript(runner, port as usize, writer),
+        Show::Contracts => contracts(runner, writer),
+        Show::Faults => faults(runner, writer),
+        Show::Margins => margins(runner, scenario, writer),
+    }
 }
 
 /// Refuses a line.

@@ -83,4 +83,5 @@ listed n c edit Memory = inl refl
 
 pub least_refusal : (n : ℕ) (c : Contents) (edit : Edit) (fault : EditFault) → edited n c edit ≡ Err fault
     → (refuses fault n c edit ≡ true) × ((other : EditFault) → number_of other < number_of fault → refuses other n c edit ≡ false)
+unfolding edited
 least_refusal n c edit fault h = least (λ f. refuses f n c edit) refusals (outcome c edit) fault rising (listed n c edit) h

@@ -191,7 +191,7 @@ abbrev pub answered : Option EditFault → Contents → Result Contents EditFaul
 answered None c = Ok c
 answered (Some fault) c = Err fault
 
-abbrev pub edited : ℕ → Contents → Edit → Result Contents EditFault
+unfoldable pub edited : ℕ → Contents → Edit → Result Contents EditFault
 edited n c edit = answered (find (λ fault. refuses fault n c edit) refusals) (outcome c edit)
 
 -- What an edit answers: that, and want of memory only where none of the refusals applies.

@@ -258,6 +258,7 @@ fn edited<const N: usize>(
 ///
 /// # Errors
 /// The first of the refusals that applies, or `Memory` where none applies and there is no memory.
+#[tactic(auto, unfolding(crate::specs::Refusals::edited))]
 pub fn apply<const N: usize>(
     alloc: Global,
     scenario: &Scenario<N>,
