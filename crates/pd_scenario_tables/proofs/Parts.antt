@@ -82,11 +82,11 @@ pub sink_numbers : (version : Version) (ports : ℕ) (t : Members) → is_sound 
 sink_numbers version ports t sound =
     (needed version ports key.Max quantity.Voltage t (sink_max version ports t sound), needed version ports key.Demand quantity.Demand t (sink_demand version ports t sound))
 
-pub sink_fits : (version : Version) (ports : ℕ) (t : Members) → is_sound version ports Sink t ≡ true → IsSink ((sink_of version t).sink)
+pub sink_fits : (version : Version) (ports : ℕ) (t : Members) → is_sound version ports Sink t ≡ true → IsSink ((sink_of t).sink)
 sink_fits One ports t sound =
-    is_sink ((sink_of One t).sink) (needed One ports key.Max quantity.Voltage t (sink_max One ports t sound)) (needed One ports key.Demand quantity.Demand t (sink_demand One ports t sound))
+    is_sink ((sink_of t).sink) (needed One ports key.Max quantity.Voltage t (sink_max One ports t sound)) (needed One ports key.Demand quantity.Demand t (sink_demand One ports t sound))
 sink_fits Two ports t sound =
-    is_sink ((sink_of Two t).sink) (needed Two ports key.Max quantity.Voltage t (sink_max Two ports t sound)) (needed Two ports key.Demand quantity.Demand t (sink_demand Two ports t sound))
+    is_sink ((sink_of t).sink) (needed Two ports key.Max quantity.Voltage t (sink_max Two ports t sound)) (needed Two ports key.Demand quantity.Demand t (sink_demand Two ports t sound))
 
 -- ---- ports
 

@@ -13,6 +13,7 @@ use Rattle.pd_scenario.specs.declared.contents.ScenarioHappening.{ScenarioHappen
 use Rattle.pd_scenario.specs.declared.contents.ScenarioHappening.TheVariants.{OnPort, Budget}
 use Rattle.pd_scenario.specs.declared.contents.ScenarioEvent.{ScenarioEvent}
 use Rattle.pd_scenario_tables.specs.declared.schema.Version.{Version}
+use Rattle.pd_scenario_tables.specs.declared.schema.Version.TheVariants.{Two}
 use Rattle.pd_scenario_tables.specs.declared.schema.EventName.{EventName}
 use Rattle.pd_scenario_tables.specs.declared.schema.EventName.TheVariants as event
 use Rattle.pd_scenario_tables.specs.declared.schema.Key.TheVariants as key
@@ -38,15 +39,15 @@ cable_of t = record {
   };
 }
 
--- a sink of a file of the first version is of Revision 3.0
-abbrev pub sink_of : Version → Members → NamedSink
-sink_of version t = record {
+-- a sink of a file of the first version, which has no key for it, is of Revision 3.0
+abbrev pub sink_of : Members → NamedSink
+sink_of t = record {
   name = word_at key.Name t;
   sink = record {
-    max_mv = number_at (sink_rules version) key.Max t;
-    demand_mw = number_at (sink_rules version) key.Demand t;
-    mode = mode_at (sink_rules version) t;
-    revision = unwrap_or (revision_of (whole_at (sink_rules version) key.Revision t)) Revision3;
+    max_mv = number_at (sink_rules Two) key.Max t;
+    demand_mw = number_at (sink_rules Two) key.Demand t;
+    mode = mode_at (sink_rules Two) t;
+    revision = unwrap_or (revision_of (whole_at (sink_rules Two) key.Revision t)) Revision3;
   };
 }
 

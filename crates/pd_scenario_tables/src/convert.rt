@@ -3,9 +3,9 @@
 ghost use Rattle.std.specs.Prelude.{◌≡◌, pos};
 ghost use Rattle.toml.specs.View.{view, table_view};
 ghost use Rattle.pd_objects.specs.Supply.{IsSupply};
-ghost use Rattle.pd_scenario_tables.specs.Schema.{port_rules, sink_rules};
+ghost use Rattle.pd_scenario_tables.specs.Schema.{port_rules};
 ghost use Rattle.pd_scenario_tables.specs.Values.{small, supply_of};
-ghost use Rattle.pd_scenario_tables.specs.Tables.{value_at, need_of, default_whole, whole_in, number_at as number_of_key, word_at, event_at, IsSound, IsSoundPort};
+ghost use Rattle.pd_scenario_tables.specs.Tables.{value_at, whole_in, number_at as number_of_key, word_at, event_at, IsSound, IsSoundPort};
 ghost use Rattle.pd_scenario_tables.specs.Convert.{settings_of, cable_of, sink_of, on, happening_of, event_of};
 
 use crate::schema::{EventName, Key, TableKind, Version};
@@ -83,26 +83,16 @@ pub fn cable_of(table: &Table) -> NamedCable
     }
 }
 
-/// The number that stands for a sink's revision where it is absent.
-fn revision_default(version: Version) -> i64
-    ensures { result ≡ default_whole (need_of (sink_rules version) Key.Revision) }
-{
-    match version {
-        Version::One => 0,
-        Version::Two => 3,
-    }
-}
-
-/// The sink that a sound table says in a file of a version; of the first version it is of Revision 3.0.
-pub fn sink_of(version: Version, table: &Table) -> NamedSink
+/// The sink that a sound table says; of a file of the first version, which has no key for it, it is of Revision 3.0.
+pub fn sink_of(table: &Table) -> NamedSink
     requires { IsSound TableKind.Sink (table_view table.now) }
-    ensures { result ≡ sink_of version (table_view table.now) }
+    ensures { result ≡ sink_of (table_view table.now) }
 {
     let name = word_at(table, Key::Name);
     let max_mv = number_at(table, Key::Max);
     let demand_mw = number_at(table, Key::Demand);
     let mode = mode_of(word_at(table, Key::Mode)).unwrap_or(SinkMode::PowerDelivery);
-    let number = whole_at(table, Key::Revision, revision_default(version));
+    let number = whole_at(table, Key::Revision, 3);
     let revision = revision_of(number).unwrap_or(SinkRevision::Revision3);
     NamedSink {
         name: Name::new(name),

@@ -31,7 +31,7 @@ abbrev pub contents_of : Tables → Contents
 contents_of d = record {
   settings = map settings_of d.ports;
   cables = map cable_of d.cables;
-  sinks = map (sink_of d.version) d.sinks;
+  sinks = map sink_of d.sinks;
   events = map (event_of d.version) d.events;
   budget_mw = number_at top_rules key.Budget d.top;
   end_us = number_at top_rules key.End d.top;

@@ -115,7 +115,7 @@ impl<'a> Document<'a> {
         let Ok(cables) = all_cables(alloc, &self.cables) else {
             return Err(ScenarioFault::Memory);
         };
-        let Ok(sinks) = all_sinks(alloc, self.version, &self.sinks) else {
+        let Ok(sinks) = all_sinks(alloc, &self.sinks) else {
             return Err(ScenarioFault::Memory);
         };
         let Ok(events) = all_events(alloc, self.version, &self.events) else {

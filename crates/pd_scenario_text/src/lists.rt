@@ -74,21 +74,17 @@ pub fn all_cables(alloc: Global, tables: &[&Table]) -> Result<Vec<NamedCable>, A
     Ok(all)
 }
 
-/// The sinks of a file of a version.
+/// The sinks.
 ///
 /// # Errors
 /// There is no memory.
-pub fn all_sinks(
-    alloc: Global,
-    version: Version,
-    tables: &[&Table],
-) -> Result<Vec<NamedSink>, AllocError>
+pub fn all_sinks(alloc: Global, tables: &[&Table]) -> Result<Vec<NamedSink>, AllocError>
     requires { All (λ t. IsSound TableKind.Sink (table_view t.now)) tables.now }
-    ensures { IfOk result (λ v. v.items ≡ map (sink_of version) (views tables.now)) }
+    ensures { IfOk result (λ v. v.items ≡ map sink_of (views tables.now)) }
 {
     let mut all = Vec::new(alloc);
     for table in tables {
-        all.push(sink_of(version, table))?;
+        all.push(sink_of(table))?;
     }
     Ok(all)
 }
