@@ -447,9 +447,20 @@ fits_at n plan done rest at is run ends soon =
     let counts = half.keeps.counts at none (λ q d lt is_due. let l = later q d lt is_due in omega arith) in
     record { within = all_held plan done at later counts; floored = floored plan done }
 
+-- at the start each port holds its floor
+fits_start : (n : ℕ) (plan : Plan) → IsPlan n plan → HoldsFit plan [] 0
+fits_start n plan is =
+    let below = sum-below (holds_after plan []) (floors_of plan) (length-holds_after plan [] ∙ sym (length-floors plan))
+    (λ k lt.
+    let kn : k < count plan = omega (arith, length-holds_after plan []) in
+    omega (arith, hold_known plan [] k kn, hold_detached (settings_of plan k), floor_at plan k)) in
+    let funded = is.always_funded 0 in
+    record { within = omega arith; floored = floored plan [] }
+
 -- the holds of a run fit at the end of each instant
 pub fits_run : (n : ℕ) (plan : Plan) (moves : List Move) → IsPlan n plan → Run plan moves → IsWithin plan moves
 fits_run n plan moves is run = record {
+  at_start = fits_start n plan is;
   at_ends = λ done rest at e ends soon. fits_at n plan done rest at is (subst (Run plan) e run) ends soon;
   after_each = floored_from plan [] moves;
 }
