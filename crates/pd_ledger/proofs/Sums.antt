@@ -2,7 +2,7 @@ use Rattle.std.proofs.Common.{◌≡◌, ◌≢◌, ⊎_elim, ℕ, ◌+◌, ◌-
 use Rattle.std.proofs.lemmas.List.Sums.{sum_by-set, sum_by-le}
 use Rattle.std.proofs.lemmas.List.{get_or_default, get_or-set_same, get_or-set_other, length-set}
 use Rattle.std.proofs.lemmas.Bool.{cases_eq}
-use Rattle.pd_ledger.specs.Account.{IsLedger}
+use Rattle.pd_ledger.specs.Account.{IsLedger, Account, free_of}
 
 -- the sum after a write
 pub sum-set : (xs : List ℕ) (p y : ℕ) → p < length xs → sum (slice_set xs p y) + slice_index xs p ≡ sum xs + y
@@ -38,3 +38,10 @@ IsLedger-set n b p h t u fs hs kept lt low small is =
       totalled = omega (arith, kept.totalled, is);
       small = small-set n p h hs kept.small kept.holds_count lt small;
     }
+
+-- a hold above the floor that is free leaves the holds within the budget
+pub free-fits : (a : Account) (p hold : ℕ) → p < length a.holds → slice_index a.floors p < hold → hold ≤ free_of a p → sum (slice_set a.holds p hold) ≤ a.budget
+free-fits a p hold lt above free =
+    let to_zero = sum-set a.holds p 0 lt in
+    let to_hold = sum-set a.holds p hold lt in
+    omega arith

@@ -1,5 +1,5 @@
 -- What holds of offers and answers.
-use Rattle.std.specs.Prelude.{◌≡◌, ℕ, ◌*◌, ◌%◌, ◌≤◌, Option, option_map}
+use Rattle.std.specs.Prelude.{◌≡◌, ℕ, ◌*◌, ◌%◌, ◌<◌, ◌≤◌, length, sum, slice_index, slice_set, Option, option_map}
 use Rattle.pd_objects.specs.Supply.{SupplyData, IsSupply}
 use Rattle.pd_objects.specs.Answers.{IsAllowed}
 use Rattle.pd_objects.specs.declared.query.Query.{Query}
@@ -27,3 +27,9 @@ OffersAreGreatest = (free limit_ma : ℕ) (s : SupplyData) → IsSupply s → Is
 -- half a watt is enough to offer some current
 abbrev pub OffersAreSome : Type 0
 OffersAreSome = (free limit_ma : ℕ) (s : SupplyData) → IsSupply s → 500000 ≤ free → 10 ≤ limit_ma → 10 ≤ offered free limit_ma s
+
+-- where a port comes to hold more than its floor and no more than is free to it, the holds add to at most the budget
+abbrev pub FreeHoldsFit : Type 0
+FreeHoldsFit =
+    (a : Account) (p hold : ℕ) → p < length a.holds → slice_index a.floors p < hold → hold ≤ free_of a p →
+    sum (slice_set a.holds p hold) ≤ a.budget

@@ -1,12 +1,11 @@
 -- What counts in the middle of an instant: what a port holds, or its floor while it is still to be told of a change of the
 -- budget.
-use Rattle.std.proofs.Common.{◌≡◌, ◌≢◌, ⊎_elim, ℕ, ◌+◌, ◌<◌, ◌≤◌, Bool, true, false, ◌&&◌, nat_le, if◌then◌else◌, List, [], ◌∷◌, ◌++◌, length, map, sum, take, drop, zero, suc, Option, Some, None, refl, sym, ap, ◌∙◌, subst, arith, slice_get, slice_index}
+use Rattle.std.proofs.Common.{◌≡◌, ℕ, ◌+◌, ◌<◌, ◌≤◌, Bool, true, false, ◌&&◌, nat_le, if◌then◌else◌, List, [], ◌∷◌, length, map, sum, take, drop, zero, suc, Option, Some, None, refl, ap, ◌∙◌, arith, slice_get, slice_index}
 use Rattle.std.specs.List.{range_with_len}
 use Rattle.std.proofs.lemmas.List.FromFn.{get_or-map-range_with_len, length-map-range_with_len}
 use Rattle.std.proofs.lemmas.List.{length-map}
 use Rattle.std.proofs.Math.ListN as list_map
 use Rattle.std.proofs.lemmas.List.Sums.{sum_by-cons}
-use Rattle.std.proofs.lemmas.Bool.{cases_eq}
 use Rattle.std.proofs.lemmas.Bool.Decides.{nat_tests}
 use Rattle.pd_plan.specs.Settings.{floor_of}
 use Rattle.pd_plan.specs.Events.{EventData}
@@ -15,9 +14,8 @@ use Rattle.pd_port.specs.Port.{hold}
 use Rattle.pd_port.proofs.PortLaws.{hold_floor}
 use Rattle.pd_scenario.specs.declared.budget.BudgetChange.{BudgetChange}
 use Rattle.pd_scenario.specs.Plan.{Plan, count, settings_of, script_of, floors_of, told_at, no_settings}
-use Rattle.pd_run.specs.Run.{Move, Standing, standing, holds_after}
+use Rattle.pd_run.specs.Run.{Move, Standing, standing}
 use Rattle.pd_run.proofs.Forces.{changes_at}
-use Rattle.pd_run.proofs.Steps.{hold_known, length-holds_after}
 
 -- whether the next event tells of a change up to a time
 abbrev pub tells : List BudgetChange → ℕ → Option EventData → Bool

@@ -1,10 +1,10 @@
 -- Changes of the budget between two times.
-use Rattle.std.proofs.Common.{◌≡◌, ◌⊎◌, ℕ, zero, suc, ◌<◌, ◌≤◌, Bool, true, false, ◌&&◌, ◌||◌, ◌==◌, nat_le, if◌then◌else◌, List, [], ◌∷◌, length, slice_index_or, fold, Option, Some, None, refl, sym, ap, ◌∙◌, inl, inr, arith}
+use Rattle.std.proofs.Common.{◌≡◌, ◌⊎◌, ℕ, zero, suc, ◌<◌, ◌≤◌, Bool, true, false, ◌&&◌, ◌||◌, ◌==◌, nat_le, if◌then◌else◌, List, [], ◌∷◌, length, slice_index_or, fold, Option, Some, None, refl, ap, ◌∙◌, inl, inr, arith}
 use Rattle.std.specs.Prelude.{Contains}
 use Rattle.std.proofs.lemmas.Bool.{cases_lt}
 use Rattle.std.proofs.lemmas.Bool.Decides.{nat_tests}
 use Rattle.pd_scenario.specs.declared.budget.BudgetChange.{BudgetChange}
-use Rattle.pd_scenario.specs.Plan.{Plan, is_later, with_change, last_change, budget_after, force}
+use Rattle.pd_scenario.specs.Plan.{Plan, is_later, with_change, budget_after, force}
 
 there : {X : Type 0} (x y : X) (ys : List X) → Contains ys x → Contains (y ∷ ys) x
 there x y ys h = (suc h.0, (let k = h.1 in omega arith), h.2)

@@ -1,7 +1,6 @@
 -- The holds of a run fit the budget at the end of each instant.
-use Rattle.std.proofs.Common.{◌≡◌, ◌≢◌, ⊎_elim, ◌⊎◌, ℕ, zero, suc, ◌+◌, ◌-◌, ◌<◌, ◌≤◌, Bool, true, false, nat_le, max, List, [], ◌∷◌, ◌++◌, length, map, sum, take, drop, Option, Some, None, option_map, refl, ap, sym, ◌∙◌, subst, inl, inr, arith, append_assoc, slice_get, slice_index, slice_index_or, slice_set, if◌then◌else◌}
+use Rattle.std.proofs.Common.{◌≡◌, ◌≢◌, ⊎_elim, ◌⊎◌, ℕ, suc, ◌+◌, ◌<◌, ◌≤◌, Bool, true, false, nat_le, List, [], ◌∷◌, ◌++◌, length, sum, Option, Some, option_map, refl, ap, sym, ◌∙◌, subst, inl, inr, arith, append_assoc, slice_get, slice_index, slice_set, if◌then◌else◌}
 use Rattle.std.specs.Prelude.{All, Contains}
-use Rattle.std.specs.List.{range_with_len}
 use Rattle.std.proofs.lemmas.List.{append-nil, get_or-set_same, get_or-set_other, length-set}
 use Rattle.std.proofs.lemmas.Bool.{cases_lt, cases_eq, cases_Bool}
 use Rattle.std.proofs.lemmas.Bool.Decides.{nat_tests}
@@ -9,34 +8,30 @@ use Rattle.std.proofs.lemmas.Option.{same_Some}
 use Rattle.pd_objects.specs.Answers.{IsAllowed}
 use Rattle.pd_objects.specs.declared.query.Answer.{Answer}
 use Rattle.pd_objects.specs.declared.query.Answer.TheVariants as answers
-use Rattle.pd_objects.specs.declared.query.Query.{Query}
-use Rattle.pd_objects.specs.declared.query.Query.TheVariants as query
 use Rattle.pd_plan.specs.Settings.{floor_of}
 use Rattle.pd_plan.specs.Events.{EventData}
 use Rattle.pd_port.specs.declared.due.Due.{Due}
-use Rattle.pd_port.specs.declared.due.What.{What}
 use Rattle.pd_port.specs.declared.due.What.TheVariants as what
 use Rattle.pd_port.specs.Budget.{RestsEmpty}
-use Rattle.pd_port.specs.Happens.{is_budget, changes_budget}
-use Rattle.pd_port.specs.Laws.{NotBefore}
-use Rattle.pd_port.specs.Port.{PortRecord, is_event, due, ask, hold}
-use Rattle.pd_port.proofs.PortLaws.{due_event, due_first, hold_fits, hold_floor, hold_detached}
+use Rattle.pd_port.specs.Happens.{is_budget}
+use Rattle.pd_port.specs.Port.{is_event, due, ask, hold}
+use Rattle.pd_port.proofs.PortLaws.{due_event, hold_fits, hold_floor, hold_detached}
 use Rattle.pd_port.proofs.BudgetLaws.{empty_detached, empty_after, ask_budget, keeps_or_sheds, due_some, event_first}
-use Rattle.pd_ledger.specs.Account.{Account, free_of, total_with}
+use Rattle.pd_ledger.specs.Account.{free_of, total_with}
 use Rattle.pd_ledger.specs.Offer.{answer_of}
 use Rattle.pd_ledger.proofs.Offers.{answer-allowed}
 use Rattle.pd_ledger.proofs.Sums.{sum-set}
 use Rattle.pd_scenario.specs.declared.budget.BudgetChange.{BudgetChange}
 use Rattle.pd_scenario.specs.Plan.{Plan, IsPlan, count, settings_of, script_of, floors_of, told_at, force}
 use Rattle.pd_run.specs.Order.{EachAfter, IsNoLater}
-use Rattle.pd_run.specs.Run.{Move, Run, Standing, standing, moved, after, taken_after, due_after, account_after, holds_after, reply_after, GoesOn, IsInOrder, NoneLater, IsAnswered}
+use Rattle.pd_run.specs.Run.{Move, Run, Standing, standing, moved, after, taken_after, due_after, account_after, holds_after, GoesOn, IsInOrder, NoneLater, IsAnswered}
 use Rattle.pd_run.specs.Laws.{AreFloored, HoldsFit, EndsBetween, IsWithin}
 use Rattle.pd_run.proofs.Moves.{standing-same, standing-other, none_later-raise}
 use Rattle.pd_run.proofs.OneRun.{Rest, tail, whole, first_first}
-use Rattle.pd_run.proofs.Forces.{ChangeIn, NoneIn, change_or_none, same_force, ChangeAt, change_at, changes_there}
+use Rattle.pd_run.proofs.Forces.{change_or_none, same_force, change_at, changes_there}
 use Rattle.pd_run.proofs.Scripts.{next_tells}
 use Rattle.pd_run.proofs.Steps.{table-set, hold_known, length-holds_after, some_event}
-use Rattle.pd_run.proofs.Awaited.{tells, counted, all_counted, counted_at, length-all_counted, Told, told_of, tells_of, counted_floor, counted_hold, counted_less, counted_falls, floor_at, length-floors, sum-below, sum-parts}
+use Rattle.pd_run.proofs.Awaited.{tells, counted, all_counted, counted_at, length-all_counted, told_of, tells_of, counted_floor, counted_hold, counted_less, counted_falls, floor_at, length-floors, sum-below, sum-parts}
 
 -- no hold is below its floor
 floored : (plan : Plan) (past : List Move) → AreFloored plan past
@@ -447,9 +442,20 @@ fits_at n plan done rest at is run ends soon =
     let counts = half.keeps.counts at none (λ q d lt is_due. let l = later q d lt is_due in omega arith) in
     record { within = all_held plan done at later counts; floored = floored plan done }
 
+-- at the start each port holds its floor
+fits_start : (n : ℕ) (plan : Plan) → IsPlan n plan → HoldsFit plan [] 0
+fits_start n plan is =
+    let below = sum-below (holds_after plan []) (floors_of plan) (length-holds_after plan [] ∙ sym (length-floors plan))
+    (λ k lt.
+    let kn : k < count plan = omega (arith, length-holds_after plan []) in
+    omega (arith, hold_known plan [] k kn, hold_detached (settings_of plan k), floor_at plan k)) in
+    let funded = is.always_funded 0 in
+    record { within = omega arith; floored = floored plan [] }
+
 -- the holds of a run fit at the end of each instant
 pub fits_run : (n : ℕ) (plan : Plan) (moves : List Move) → IsPlan n plan → Run plan moves → IsWithin plan moves
 fits_run n plan moves is run = record {
+  at_start = fits_start n plan is;
   at_ends = λ done rest at e ends soon. fits_at n plan done rest at is (subst (Run plan) e run) ends soon;
   after_each = floored_from plan [] moves;
 }

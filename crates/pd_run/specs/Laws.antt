@@ -23,9 +23,10 @@ pub record EndsBetween (at : ℕ) (done rest : List Move) : Type 0 where
   pub up_to : All (λ m. m.due.time ≤ at) done
   pub later : All (λ m. at < m.due.time) rest
 
--- At the end of each instant up to the plan's end, once all moves up to it are made, the holds fit the budget of then. In
--- the middle of an instant they may not; but after each move none is below its floor.
+-- The holds fit at the start, and at the end of each instant up to the plan's end, once all moves up to it are made, they
+-- fit the budget of then. In the middle of an instant they may not; but after each move none is below its floor.
 pub record IsWithin (plan : Plan) (moves : List Move) : Type 0 where
+  pub at_start : HoldsFit plan [] 0
   pub at_ends : (done rest : List Move) (at : ℕ) → moves ≡ done ++ rest → EndsBetween at done rest → at ≤ plan.end → HoldsFit plan done at
   pub after_each : EachAfter (λ before m. AreFloored plan (before ++ m ∷ [])) [] moves
 
