@@ -106,4 +106,6 @@ impl TextOut for Page {
 }
 
 #[cfg(test)]
+mod shows;
+#[cfg(test)]
 mod tests;

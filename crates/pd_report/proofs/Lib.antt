@@ -1,4 +1,5 @@
 pub mod DeviceLemmas
 pub mod MarginLemmas
 pub mod TextLemmas
+pub mod ToldLemmas
 pub mod WalkLemmas

@@ -18,7 +18,7 @@ use Rattle.pd_run.specs.Order.{EachAfter}
 use Rattle.pd_run.specs.Run.{Move, GoesOn, IsInOrder, shown}
 use Rattle.pd_run.specs.Shown.{Shows}
 use Rattle.pd_run.proofs.Moves.{in_order-member}
-use Rattle.pd_report.specs.Margins.{power_left, change_on, power_on, up_to, happens_at}
+use Rattle.pd_report.specs.Margins.{power_left, change_on, power_on, up_to}
 use Rattle.pd_report.specs.Walk.{noted, NoneLater, NoneBefore}
 
 -- ---- lists
@@ -68,6 +68,10 @@ last_or-append o (y ∷ ys) x = last_or-append (Some y) ys x
 
 -- ---- the entries up to a time
 
+-- whether an entry stands at an instant
+abbrev pub happens_at : Moves → ℕ → Bool
+happens_at moves t = list_any (λ move. eqb move.1.at t) moves
+
 not_up : (t a : ℕ) → t < a → leb a t ≡ false
 not_up t a h = lt-leb a t h
 
@@ -86,17 +90,6 @@ nothing_between moves i t past ahead =
     ap (list_any p) (sym (take-append-drop i moves)) ∙ list_any-append p (take i moves) (drop i moves)
     ∙ ap (λ b. b || list_any p (drop i moves)) (any-none p (take i moves) (all-mono (λ m. m.1.at < t) (λ m. p m ≡ false) (λ m h. ne_eqb m.1.at t (λ e. omega arith)) (take i moves) past))
     ∙ any-none p (drop i moves) (all-mono (λ m. t < m.1.at) (λ m. p m ≡ false) (λ m h. ne_eqb m.1.at t (λ e. omega arith)) (drop i moves) ahead)
-
-pub happens-there : (moves : Moves) (i : ℕ) (m : ℕ × Entry) → slice_get moves i ≡ Some m → happens_at moves m.1.at ≡ true
-happens-there [] i m e = absurd (cc)
-happens-there (x ∷ xs) zero m e =
-    let same : x ≡ m = cc in
-    ap (λ b. b || happens_at xs m.1.at) (eq-eqb x.1.at m.1.at (ap (λ (y : ℕ × Entry). y.1.at) same))
-happens-there (x ∷ xs) (suc i) m e = ap (λ b. eqb x.1.at m.1.at || b) (happens-there xs i m e) ∙ or-true (eqb x.1.at m.1.at)
-  where
-    or-true : (b : Bool) → (b || true) ≡ true
-    or-true true = refl
-    or-true false = refl
 
 -- ---- the powers
 
@@ -211,7 +204,7 @@ pub record InTime (plan : Plan) (moves : Moves) : Type 0 where
   pub rising : Rising moves
   pub known : AllByRecursion (Known plan) moves
 
-at-due : (plan : Plan) (past : List Move) (m : Move) → GoesOn plan past m → m.entry.at ≡ m.due.time
+pub at-due : (plan : Plan) (past : List Move) (m : Move) → GoesOn plan past m → m.entry.at ≡ m.due.time
 unfolding entry_of
 at-due plan past m h = ap (λ (e : Entry). e.at) h.entry_is
 

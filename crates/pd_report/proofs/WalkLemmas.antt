@@ -1,21 +1,23 @@
 -- A walk over the entries of a run, step by step.
-use Rattle.std.proofs.Common.{◌≡◌, ◌≢◌, ℕ, zero, suc, ◌+◌, ◌-◌, ◌<◌, ◌≤◌, Bool, true, false, cond, eqb, ltb, ⊎_elim, List, [], ◌∷◌, ◌++◌, length, map, take, drop, replicate, Option, Some, None, Result, refl, sym, ap, subst, ◌∙◌, arith, append_assoc}
+use Rattle.std.proofs.Common.{◌≡◌, ℕ, zero, suc, ◌+◌, ◌-◌, ◌<◌, ◌≤◌, Bool, true, false, cond, eqb, ltb, List, [], ◌∷◌, ◌++◌, length, map, take, drop, replicate, Option, Some, None, Result, refl, sym, ap, subst, ◌∙◌, arith, append_assoc}
 use Rattle.std.specs.Prelude.{sum, slice_get, ◌||◌, ◌&&◌, not, Ok, Err}
 use Rattle.std.specs.List.{AllByRecursion, flat_map, range_with_len}
 use Rattle.std.specs.Io.KnownBytes.{Appends}
 use Rattle.std.proofs.KnownBytes.{Appends-trans}
-use Rattle.std.proofs.lemmas.Bool.{cases_eq, eq-eqb, ne_eqb, ltb-true, ltb-false}
+use Rattle.std.proofs.lemmas.Bool.{eq-eqb, ne_eqb, ltb-true, ltb-false}
 use Rattle.std.proofs.lemmas.List.{append-nil, drop_all}
 use Rattle.pd_port.specs.declared.entry.Entry.{Entry}
 use Rattle.pd_scenario.specs.Plan.{Plan, count, force}
+use Rattle.pd_run.specs.Shown.{IsShown}
 use Rattle.pd_report.specs.declared.fault.BenchFault.{BenchFault}
 use Rattle.pd_report.specs.declared.walk.Standing.{Standing}
 use Rattle.pd_report.specs.declared.walk.Walk.{Walk}
 use Rattle.pd_report.specs.Device.{Writes, WrotePart}
-use Rattle.pd_report.specs.Margins.{most_ports, power_on, up_to, contracts_at, happens_at, stays_at, has_line, instant_text, margin_text, margins_head, margins_text}
+use Rattle.pd_report.specs.Margins.{most_ports, power_on, up_to, contracts_at, stays_at, has_line, instant_text, margin_text, margins_head, margins_text}
 use Rattle.pd_report.specs.Walk.{standing_at, standing_before, noted, line_after, later_walk, passed, last_line, passing_line, NoneLater, NoneBefore, IsWalk, text_before}
 use Rattle.pd_report.proofs.DeviceLemmas.{WrotePart-after, WrotePart-longer}
-use Rattle.pd_report.proofs.MarginLemmas.{Moves, all-mono, take-next, up_to-is, nothing_between, happens-there, powers-start, powers-more, text-next, text-to, InTime, known-at, none-before-next, none-before-here, not-before, none-later-next}
+use Rattle.pd_report.proofs.MarginLemmas.{Moves, all-mono, take-next, happens_at, up_to-is, nothing_between, powers-start, powers-more, text-next, text-to, InTime, known-at, none-before-next, none-before-here, not-before, none-later-next}
+use Rattle.pd_report.proofs.ToldLemmas.{force-stays}
 
 standing : ℕ → ℕ → Standing
 standing c b = record { contracts = c; budget = b }
@@ -24,33 +26,28 @@ flipped : (b : Bool) (x : List ℕ) → cond b [] x ≡ cond (not b) x []
 flipped true x = refl
 flipped false x = refl
 
--- where nothing happens no line stands
-silent_at : (plan : Plan) (moves : Moves) (t : ℕ) → 0 < t → happens_at moves t ≡ false → instant_text plan moves t ≡ []
-unfolding instant_text has_line
-silent_at plan moves t some none =
+-- where neither the sum nor the budget changes no line stands
+silent_at : (plan : Plan) (moves : Moves) (t : ℕ) → 0 < t → contracts_at moves (t - 1) ≡ contracts_at moves t → force plan (t - 1) ≡ force plan t → instant_text plan moves t ≡ []
+unfolding instant_text has_line stays_at
+silent_at plan moves t some sums budgets =
     let x = margin_text t (contracts_at moves t) (force plan t) in
-    ap (λ b. cond (b || (happens_at moves t && not (stays_at plan moves t))) x []) (ne_eqb t 0 (λ e. omega arith))
-    ∙ ap (λ b. cond (b && not (stays_at plan moves t)) x []) none
+    let stays : (eqb (contracts_at moves (t - 1)) (contracts_at moves t) && eqb (force plan (t - 1)) (force plan t)) ≡ true =
+    ap (λ b. b && eqb (force plan (t - 1)) (force plan t)) (eq-eqb _ _ sums) ∙ eq-eqb _ _ budgets in
+    ap (λ b. cond (b || not (stays_at plan moves t)) x []) (ne_eqb t 0 (λ e. omega arith)) ∙ ap (λ b. cond (not b) x []) stays
 
 -- the line of an instant, from what stands at its end and before it
-line_by : (plan : Plan) (moves : Moves) (t : ℕ) (b : Bool) → eqb t 0 ≡ b → (b ≡ false → happens_at moves t ≡ true) →
+line_by : (plan : Plan) (moves : Moves) (t : ℕ) (b : Bool) →
     line_after (cond b None (Some (standing_at plan moves (t - 1)))) t (standing_at plan moves t)
-    ≡ cond (b || (happens_at moves t && not (stays_at plan moves t))) (margin_text t (contracts_at moves t) (force plan t)) []
+    ≡ cond (b || not (stays_at plan moves t)) (margin_text t (contracts_at moves t) (force plan t)) []
 unfolding stays_at
-line_by plan moves t true e seen = refl
-line_by plan moves t false e seen =
-    let x = margin_text t (contracts_at moves t) (force plan t) in
-    flipped (stays_at plan moves t) x ∙ ap (λ h. cond (h && not (stays_at plan moves t)) x []) (sym (seen refl))
+line_by plan moves t true = refl
+line_by plan moves t false = flipped (stays_at plan moves t) (margin_text t (contracts_at moves t) (force plan t))
 
 line_is : (plan : Plan) (moves : Moves) (t c : ℕ) (o : Option Standing) → o ≡ standing_before plan moves t → c ≡ contracts_at moves t →
-    (0 < t → happens_at moves t ≡ true) → line_after o t (standing c (force plan t)) ≡ instant_text plan moves t
+    line_after o t (standing c (force plan t)) ≡ instant_text plan moves t
 unfolding instant_text has_line standing
-line_is plan moves t c o before sums seen =
-    ap (λ x. line_after o t (standing x (force plan t))) sums ∙ ap (λ x. line_after x t (standing_at plan moves t)) before
-    ∙ line_by plan moves t (eqb t 0) refl (λ e. seen (positive e))
-  where
-    positive : eqb t 0 ≡ false → 0 < t
-    positive e = ⊎_elim (λ (z : t ≡ 0). absurd (let k : true ≡ false = sym (eq-eqb t 0 z) ∙ e in cc)) (λ (n : t ≢ 0). omega arith) (cases_eq t 0)
+line_is plan moves t c o before sums =
+    ap (λ x. line_after o t (standing x (force plan t))) sums ∙ ap (λ x. line_after x t (standing_at plan moves t)) before ∙ line_by plan moves t (eqb t 0)
 
 -- the sum at a time, from the powers after the entries up to it
 sum_is : (moves : Moves) (i t : ℕ) (powers : List ℕ) → powers ≡ map (power_on (take i moves)) (range_with_len 1 most_ports) → up_to t moves ≡ take i moves →
@@ -64,17 +61,30 @@ pub last_line-is : (plan : Plan) (moves : Moves) (i : ℕ) (walk : Walk) → IsW
 unfolding standing
 last_line-is plan moves i walk w ahead =
     line_is plan moves walk.at (sum walk.powers) walk.before w.before_is
-    (sum_is moves i walk.at walk.powers w.powers_are (up_to-is moves i walk.at w.past ahead)) w.seen
+    (sum_is moves i walk.at walk.powers w.powers_are (up_to-is moves i walk.at w.past ahead))
+
+-- the budget changes only where an entry stands
+pub BudgetStays : Plan → Moves → Type 0
+BudgetStays plan moves = (t : ℕ) → 0 < t → t ≤ plan.end → happens_at moves t ≡ false → force plan (t - 1) ≡ force plan t
+
+pub budget-stays : (n : ℕ) (plan : Plan) (entries : Moves) → IsShown n plan entries → BudgetStays plan entries
+unfolding BudgetStays
+budget-stays n plan entries s =
+    subst (BudgetStays plan) (sym s.shows.entries_are) (λ t some soon quiet. force-stays n plan s.shows.moves t s.is_plan s.shows.run some soon quiet)
 
 -- between the instant of a walk and the next entry no line stands
-silent_between : (plan : Plan) (moves : Moves) (i a b : ℕ) → NoneLater a (take i moves) → NoneBefore b (drop i moves) → (v : ℕ) → a < v → v < b → instant_text plan moves v ≡ []
-silent_between plan moves i a b past ahead v low high =
+silent_between : (plan : Plan) (moves : Moves) (i a b : ℕ) → BudgetStays plan moves → b ≤ plan.end + 1 → NoneLater a (take i moves) → NoneBefore b (drop i moves) → (v : ℕ) → a < v → v < b → instant_text plan moves v ≡ []
+unfolding BudgetStays contracts_at
+silent_between plan moves i a b told soon past ahead v low high =
+    let later = all-mono (λ (m : ℕ × Entry). b ≤ m.1.at) (λ m. v < m.1.at) (λ m h. omega arith) (drop i moves) ahead in
+    let at_v = up_to-is moves i v (all-mono (λ m. m.1.at ≤ a) (λ m. m.1.at ≤ v) (λ m h. omega arith) (take i moves) past) later in
+    let before_v = up_to-is moves i (v - 1) (all-mono (λ m. m.1.at ≤ a) (λ m. m.1.at ≤ v - 1) (λ m h. omega arith) (take i moves) past)
+    (all-mono (λ m. b ≤ m.1.at) (λ m. v - 1 < m.1.at) (λ m h. omega arith) (drop i moves) ahead) in
     silent_at plan moves v (omega arith)
-    (nothing_between moves i v
-    (all-mono (λ m. m.1.at ≤ a) (λ m. m.1.at < v) (λ m h. omega arith) (take i moves) past)
-    (all-mono (λ m. b ≤ m.1.at) (λ m. v < m.1.at) (λ m h. omega arith) (drop i moves) ahead))
+    (ap (λ (l : Moves). sum (map (power_on l) (range_with_len 1 most_ports))) (before_v ∙ sym at_v))
+    (told v (omega arith) (omega arith) (nothing_between moves i v (all-mono (λ m. m.1.at ≤ a) (λ m. m.1.at < v) (λ m h. omega arith) (take i moves) past) later))
 
-module _ (plan : Plan) (moves : Moves) (i : ℕ) (m : ℕ × Entry) (walk : Walk) (here : slice_get moves i ≡ Some m) (few : count plan ≤ most_ports) (times : InTime plan moves) (w : IsWalk plan moves i walk) where
+module _ (plan : Plan) (moves : Moves) (i : ℕ) (m : ℕ × Entry) (walk : Walk) (here : slice_get moves i ≡ Some m) (few : count plan ≤ most_ports) (told : BudgetStays plan moves) (times : InTime plan moves) (w : IsWalk plan moves i walk) where
   no_sooner : walk.at ≤ m.1.at
   no_sooner = not-before plan moves i m here walk.at w.ahead
 
@@ -102,7 +112,6 @@ module _ (plan : Plan) (moves : Moves) (i : ℕ) (m : ℕ × Entry) (walk : Walk
             ∙ ap (λ (l : Moves). map (power_on l) (range_with_len 1 most_ports)) (sym (take-next moves i m here));
         past = subst P (sym at) (none-later-next plan moves i m here walk.at no_sooner w.past);
         ahead = subst A (sym at) (none-before-next plan moves i m here times);
-        seen = λ some. ap (happens_at moves) at ∙ happens-there moves i m here;
         before_is = before ∙ ap (standing_before plan moves) (sym at);
         in_time = omega (arith, at, known.2);
       }
@@ -125,7 +134,7 @@ module _ (plan : Plan) (moves : Moves) (i : ℕ) (m : ℕ × Entry) (walk : Walk
   text_by : (b : Bool) → ltb walk.at m.1.at ≡ b → text_before plan moves (cond b (later_walk plan walk m.1.at) walk).at ≡ text_before plan moves walk.at ++ cond b (last_line plan walk) []
   text_by true e =
       let lt = ltb-true walk.at m.1.at e in
-      text-to (instant_text plan moves) walk.at m.1.at lt (silent_between plan moves i walk.at m.1.at w.past (none-before-here plan moves i m here times))
+      text-to (instant_text plan moves) walk.at m.1.at lt (silent_between plan moves i walk.at m.1.at told (omega (arith, (known-at plan moves i m here times).2)) w.past (none-before-here plan moves i m here times))
       ∙ ap (λ v. text_before plan moves walk.at ++ v) (sym (last_line-is plan moves i walk w (all_later lt)))
   text_by false e = sym (append-nil (text_before plan moves walk.at))
 
@@ -148,22 +157,21 @@ walk-start plan moves walk powers at before =
       powers_are = powers ∙ powers-start 1 most_ports;
       past = tt;
       ahead = subst A (sym at) (all_from-zero moves);
-      seen = λ some. absurd (omega arith);
       before_is = before ∙ ap (standing_before plan moves) (sym at);
       in_time = omega (arith, at);
     }
 
 -- once all entries are seen, the line of the last instant makes the text whole
-pub text-whole : (plan : Plan) (moves : Moves) (i : ℕ) (walk : Walk) → length moves ≤ i → IsWalk plan moves i walk →
+pub text-whole : (plan : Plan) (moves : Moves) (i : ℕ) (walk : Walk) → BudgetStays plan moves → length moves ≤ i → IsWalk plan moves i walk →
     margins_text plan moves ≡ (margins_head ++ text_before plan moves walk.at) ++ last_line plan walk
 unfolding margins_text
-text-whole plan moves i walk done w =
+text-whole plan moves i walk told done w =
     let e : [] ≡ drop i moves = sym (drop_all i moves done) in
     let L : Moves → Type 0 = λ l. AllByRecursion (λ (m : ℕ × Entry). walk.at < m.1.at) l in
     let N : Moves → Type 0 = λ l. NoneBefore (plan.end + 1) l in
     let t = w.in_time in
     ap (λ v. margins_head ++ v)
-    (text-to (instant_text plan moves) walk.at (plan.end + 1) (omega arith) (silent_between plan moves i walk.at (plan.end + 1) w.past (subst N e tt))
+    (text-to (instant_text plan moves) walk.at (plan.end + 1) (omega arith) (silent_between plan moves i walk.at (plan.end + 1) told (omega arith) w.past (subst N e tt))
     ∙ ap (λ v. text_before plan moves walk.at ++ v) (sym (last_line-is plan moves i walk w (subst L e tt))))
     ∙ sym (append_assoc margins_head (text_before plan moves walk.at) (last_line plan walk))
 

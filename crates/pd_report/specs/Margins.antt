@@ -1,6 +1,6 @@
 -- The text of margins: what the contracts take of the shared budget over time, and what they leave of it.
 use Rattle.std.specs.Prelude.{ℕ, ◌+◌, ◌-◌, ◌*◌, ◌==◌, Bool, ◌||◌, ◌&&◌, not, nat_le, if◌then◌else◌, List, [], ◌++◌, filter, map, sum, Option, None, codes, decimal}
-use Rattle.std.specs.List.{flat_map, filter_map, last_or, list_any, range_with_len}
+use Rattle.std.specs.List.{flat_map, filter_map, last_or, range_with_len}
 use Rattle.std.specs.Option.{option_map_or}
 use Rattle.pd_port.specs.declared.entry.ContractChange.{ContractChange}
 use Rattle.pd_port.specs.declared.entry.ContractChange.TheVariants.{Made, Lost}
@@ -33,18 +33,14 @@ most_ports = 8
 unfoldable pub contracts_at : List (ℕ × Entry) → ℕ → ℕ
 contracts_at moves t = sum (map (power_on (up_to t moves)) (range_with_len 1 most_ports))
 
--- whether an entry stands at an instant
-abbrev pub happens_at : List (ℕ × Entry) → ℕ → Bool
-happens_at moves t = list_any (λ move. move.1.at == t) moves
-
 -- whether the sum and the budget at the end of an instant are what they were before it
 unfoldable pub stays_at : Plan → List (ℕ × Entry) → ℕ → Bool
 stays_at plan moves t =
     contracts_at moves (t - 1) == contracts_at moves t && force plan (t - 1) == force plan t
 
--- A line stands for the instant 0, and for each later one at which something happens and the sum or the budget changes.
+-- a line stands for the instant 0, and for each later one at which the sum or the budget changes
 unfoldable pub has_line : Plan → List (ℕ × Entry) → ℕ → Bool
-has_line plan moves t = t == 0 || (happens_at moves t && not (stays_at plan moves t))
+has_line plan moves t = t == 0 || not (stays_at plan moves t)
 
 -- a line: the time, what the contracts take of the budget, and what they leave of it
 unfoldable pub margin_text : ℕ → ℕ → ℕ → List ℕ

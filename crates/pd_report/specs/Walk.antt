@@ -1,10 +1,10 @@
 -- How far a walk over the entries of a run has come.
-use Rattle.std.specs.Prelude.{◌≡◌, ℕ, ◌-◌, ◌==◌, ◌<◌, ◌≤◌, true, ◌&&◌, if◌then◌else◌, List, [], take, drop, map, sum, slice_set, nat_lt, Option, Some, None}
+use Rattle.std.specs.Prelude.{◌≡◌, ℕ, ◌-◌, ◌==◌, ◌≤◌, ◌&&◌, if◌then◌else◌, List, [], take, drop, map, sum, slice_set, nat_lt, Option, Some, None}
 use Rattle.std.specs.List.{AllByRecursion, flat_map, range_with_len}
 use Rattle.pd_port.specs.declared.entry.ContractChange.{ContractChange}
 use Rattle.pd_port.specs.declared.entry.Entry.{Entry}
 use Rattle.pd_scenario.specs.Plan.{Plan, force}
-use Rattle.pd_report.specs.Margins.{most_ports, power_left, power_on, contracts_at, happens_at, instant_text, margin_text}
+use Rattle.pd_report.specs.Margins.{most_ports, power_left, power_on, contracts_at, instant_text, margin_text}
 use Rattle.pd_report.specs.declared.walk.Standing.{Standing}
 use Rattle.pd_report.specs.declared.walk.Walk.{Walk}
 
@@ -55,7 +55,6 @@ pub record IsWalk (plan : Plan) (moves : List (ℕ × Entry)) (index : ℕ) (wal
   pub powers_are : walk.powers ≡ map (power_on (take index moves)) (range_with_len 1 most_ports)
   pub past : NoneLater walk.at (take index moves)
   pub ahead : NoneBefore walk.at (drop index moves)
-  pub seen : 0 < walk.at → happens_at moves walk.at ≡ true
   pub before_is : walk.before ≡ standing_before plan moves walk.at
   pub in_time : walk.at ≤ plan.end
 

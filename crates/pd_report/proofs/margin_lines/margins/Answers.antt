@@ -1,15 +1,16 @@
 use Rattle.std.proofs.Common.{◌≡◌, ℕ, ◌+◌, ◌≤◌, ◌++◌, List, length, ap, subst, arith, ◌∙◌}
-use Rattle.std.specs.Prelude.{sum}
+use Rattle.std.specs.Prelude.{sum, Option, IfSome}
 use Rattle.std.proofs.lemmas.List.{append-nil}
 use Rattle.std.proofs.lemmas.Result.{err_from_is_err_and}
 use Rattle.pd_scenario.specs.Plan.{Plan}
+use Rattle.pd_run.specs.Shown.{IsShown}
 use Rattle.pd_scenario.specs.Plans.{plan_of}
 use Rattle.pd_report.specs.declared.walk.Walk.{Walk}
 use Rattle.pd_report.specs.Device.{Writes}
 use Rattle.pd_report.specs.Margins.{margins_head, margins_text}
 use Rattle.pd_report.specs.Walk.{text_before, line_after, last_line}
 use Rattle.pd_report.proofs.DeviceLemmas.{WrotePart-longer}
-use Rattle.pd_report.proofs.WalkLemmas.{walk-start, text-whole, cut-line, written-more, Writes-after}
+use Rattle.pd_report.proofs.WalkLemmas.{budget-stays, walk-start, text-whole, cut-line, written-more, Writes-after}
 use Rattle.pd_report.proofs.margin_lines.margins.Goals as goal
 
 last_with : ℕ → Walk → List ℕ
@@ -57,5 +58,7 @@ returns-clause-text g c =
     let line : c.line.result ≡ last_line plan c.loop-index.walk = c.line.ensures ∙ ap (λ b. last_with b c.loop-index.walk) c.force.ensures.value in
     let W : List ℕ → Type 0 = λ t. Writes (g.W.TextOut.taken c.loop-index.writer) (g.W.TextOut.taken c.write_text-2.new.writer) c.write_text-2.result t in
     let seen : length (g.T.Runner.entries c.args.run.now) ≤ c.loop-index.index = omega (arith, c.len-index-end.ensures.count) in
-    rw (text-whole plan (g.T.Runner.entries c.args.run.now) c.loop-index.index c.loop-index.walk seen c.loop-index.invariant.walked)
+    let I : Option Plan → Type 0 = λ o. IfSome o (λ p. IsShown g.row.N p (g.T.Runner.entries c.args.run.now)) in
+    let told = budget-stays g.row.N plan (g.T.Runner.entries c.args.run.now) (subst I c.requires c.len-index-end.ensures.run) in
+    rw (text-whole plan (g.T.Runner.entries c.args.run.now) c.loop-index.index c.loop-index.walk told seen c.loop-index.invariant.walked)
     (Writes-after _ _ _ _ _ (last_line plan c.loop-index.walk) c.loop-index.invariant.written (subst W line c.write_text-2.ensures.text))
