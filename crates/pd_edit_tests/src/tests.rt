@@ -116,32 +116,34 @@ fn lines_are_answered(rt: HostRuntime) -> Result<(), Fail> {
     Ok(())
 }
 
+/// Edits, each with the one that takes it back.
+const PAIRS: [(&[u8], &[u8]); 13] = [
+    (b"insert 9 1000 1 lose", b"remove 9"),
+    (b"move 1 5", b"move 1 0"),
+    (b"change 1 detach", b"change 1 attach thin phone"),
+    (b"remove 1", b"insert 1 0 1 attach thin phone"),
+    (b"cable spare ack 5000", b"cable spare drop"),
+    (b"sink spare 5000 1000 pd", b"sink spare drop"),
+    (b"cable thin silent 5000", b"cable thin none 3000"),
+    (
+        b"sink phone 5000 15000 pd rev2",
+        b"  sink  phone 5000 15000 pd  ",
+    ),
+    (b"caps 1 5000 1000", b"caps 1 5000 3000"),
+    (b"floor 1 60000", b"floor 1 2500"),
+    (b"budget 50000", b"budget 60000"),
+    (b"end 1", b"end 52000"),
+    (
+        b"insert 1000000 120000000 1 damage 68 31",
+        b"remove 1000000",
+    ),
+];
+
 /// Each edit is accepted, is seen, and is taken back by the other one.
 #[test]
 fn edits_are_made_and_taken_back(rt: HostRuntime) -> Result<(), Fail> {
-    let pairs: [(&[u8], &[u8]); 13] = [
-        (b"insert 9 1000 1 lose", b"remove 9"),
-        (b"move 1 5", b"move 1 0"),
-        (b"change 1 detach", b"change 1 attach thin phone"),
-        (b"remove 1", b"insert 1 0 1 attach thin phone"),
-        (b"cable spare ack 5000", b"cable spare drop"),
-        (b"sink spare 5000 1000 pd", b"sink spare drop"),
-        (b"cable thin silent 5000", b"cable thin none 3000"),
-        (
-            b"sink phone 5000 15000 pd rev2",
-            b"  sink  phone 5000 15000 pd  ",
-        ),
-        (b"caps 1 5000 1000", b"caps 1 5000 3000"),
-        (b"floor 1 60000", b"floor 1 2500"),
-        (b"budget 50000", b"budget 60000"),
-        (b"end 1", b"end 52000"),
-        (
-            b"insert 1000000 120000000 1 damage 68 31",
-            b"remove 1000000",
-        ),
-    ];
     let mut scenario = first(rt.alloc())?;
-    for (there, back) in pairs {
+    for (there, back) in PAIRS {
         let (edited, number) = answer(rt.alloc(), scenario, there);
         assert_eq!(rt; number, 0, "{there:?}");
         assert!(rt; !same(rt, &edited, &first(rt.alloc())?)?, "{there:?}");
@@ -212,5 +214,21 @@ fn timed_budgets(rt: HostRuntime) -> Result<(), Fail> {
     }
     assert_eq!(rt; scenario.force(600_000), 60_000_000);
     assert_eq!(rt; scenario.force(120_000_000), 25_000_000);
+    Ok(())
+}
+
+/// Where a growth is refused, an edit is refused 30 and nothing else, and the scenario is as it was.
+#[test]
+fn edits_or_no_memory(rt: HostRuntime) -> Result<(), Fail> {
+    for (line, _) in PAIRS {
+        let (Ok(old), Ok(scenario)) = (first(rt.alloc()), first(rt.alloc())) else {
+            return Ok(());
+        };
+        let (scenario, number) = answer(rt.alloc(), scenario, line);
+        assert!(rt; number == 0 || number == 30, "{line:?}");
+        if number == 30 {
+            assert!(rt; same(rt, &scenario, &old)?, "{line:?}");
+        }
+    }
     Ok(())
 }

@@ -1,3 +1,4 @@
+use linked_list_allocator::LocalHeap;
 use pd_scenario_text::{port_count, scenario_from_text};
 use std::alloc::AllocError;
 use std::test::Fail;
@@ -172,4 +173,26 @@ fn two_ports_or_no_memory(rt: HostRuntime) {
         let number = read_two(&rt, text.as_bytes());
         assert!(rt; number == 0 || number == 12);
     }
+}
+
+/// A script has the events of its port in their order, or its heap is too small for it.
+#[test]
+fn scripts_on_small_heaps(rt: HostRuntime) -> Result<(), Fail> {
+    let text = joined(&rt, &TWO_PORTS)?;
+    let scenario = scenario_from_text::<2>(rt.alloc(), text.as_bytes())?;
+    let mut refused = false;
+    let mut made = false;
+    for units in 1..64usize {
+        let heap = LocalHeap::new(rt.alloc(), 64 * units)?;
+        match scenario.script(&heap, 1) {
+            Ok(script) => {
+                made = true;
+                assert_eq!(rt; script.len(), 2, "on {units}");
+                assert_eq!(rt; (script[0].at(), script[1].at()), (0, 500_000));
+            }
+            Err(_) => refused = true,
+        }
+    }
+    assert!(rt; refused && made);
+    Ok(())
 }
