@@ -106,6 +106,8 @@ impl TextOut for Page {
 }
 
 #[cfg(test)]
+mod scripts;
+#[cfg(test)]
 mod shows;
 #[cfg(test)]
 mod tests;

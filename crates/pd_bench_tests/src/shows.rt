@@ -12,7 +12,7 @@ use pd_scenario_text::scenario_from_text;
 use std::alloc::Global;
 use std::test::Fail;
 
-const PHONE: &[u8] = b"
+pub(super) const PHONE: &[u8] = b"
 version = 1
 end = 1000000
 budget = 60000
