@@ -1,6 +1,6 @@
 //! What a port asks of the shared budget, and what it is answered.
 
-ghost use Rattle.std.specs.Prelude.{◌≡◌};
+ghost use Rattle.std.specs.Prelude.{◌≡◌, ◌↔◌, IsTrue};
 
 use crate::Supply;
 use arrayvec::ArrayVec;
@@ -51,4 +51,33 @@ pub enum Answer {
     Offer(ArrayVec<u32, 7>),
     /// Whether the power may be held, or the hold may stay.
     Fits(bool),
+}
+
+impl Answer {
+    /// The same answer.
+    pub fn copy(&self) -> Answer
+        ensures { result ≡ self.now }
+    {
+        match self {
+            Answer::Offer(currents) => {
+                let mut copy = ArrayVec::new();
+                let _fits = copy.try_extend_from_slice(currents.as_slice());
+                Answer::Offer(copy)
+            }
+            Answer::Fits(fits) => Answer::Fits(*fits),
+        }
+    }
+
+    /// Whether both are the same.
+    pub fn same(&self, other: &Answer) -> bool
+        ensures { IsTrue result ↔ (self.now ≡ other.now) }
+    {
+        match (self, other) {
+            (Answer::Offer(currents), Answer::Offer(others)) => {
+                currents.as_slice() == others.as_slice()
+            }
+            (Answer::Fits(fits), Answer::Fits(other)) => fits == other,
+            _ => false,
+        }
+    }
 }

@@ -13,10 +13,11 @@ use Rattle.pd_timers.proofs.LaterLemmas.{SetsLater-same}
 use Rattle.pd_objects.specs.declared.query.Answer.TheVariants as answers
 use Rattle.pd_objects.specs.declared.query.Query.TheVariants as query
 use Rattle.pd_source.specs.Record.{SourceSettings, SourceRecord, off}
-use Rattle.pd_source.specs.Step.{query_of, hold_of}
+use Rattle.pd_source.specs.Step.{query_of, hold_of, contracted, requested, powers}
 use Rattle.pd_source.specs.declared.kinds.Stimulus.{Stimulus}
 use Rattle.pd_source.specs.declared.kinds.Stimulus.TheVariants as told
 use Rattle.pd_source.proofs.Holds.{hold_of-floor, hold_of-off, hold_of-allowed, hold_of-None}
+use Rattle.pd_source.proofs.Powers.{least-fold_max}
 use Rattle.pd_line.specs.Record.{PortRecord, nothing_attached}
 use Rattle.pd_line.proofs.Later.{later_kept}
 use Rattle.pd_line.specs.Later.{Times, times_of, Later, line_end}
@@ -25,6 +26,7 @@ use Rattle.pd_port.specs.declared.due.What.{What}
 use Rattle.pd_port.specs.declared.due.What.TheVariants as what
 use Rattle.pd_plan.specs.Events.{EventData}
 use Rattle.pd_plan.specs.Settings.{SettingsData, floor_of}
+use Rattle.pd_port.specs.Budget.{contract_power}
 use Rattle.pd_port.specs.Laws.{NotBefore, pending_at, pending, without, IsOneOf, IsEarliest, source_after_told}
 use Rattle.pd_port.specs.Happens.{is_budget, is_detach}
 use Rattle.pd_port.specs.Told.{source_told, told_if_shed}
@@ -314,6 +316,15 @@ hold_floor s r = hold_of-floor (source_settings s) (floor_of s) r.source
 pub hold_detached : (s : SettingsData) → hold s (detached s) ≡ floor_of s
 unfolding hold detached nothing_attached
 hold_detached s = hold_of-off (source_settings s) (floor_of s)
+
+-- a hold is at least the contract's power
+pub hold_contract : (s : SettingsData) (r : PortRecord) → contract_power r ≤ hold s r
+unfolding hold hold_of
+hold_contract s r =
+    let c = contracted r.source.contract in
+    let q = requested (source_settings s) r.source.accepted_request in
+    let l = least-fold_max (max (max (floor_of s) c) q) (powers s.supplies r.source.draft_offer) in
+    omega arith
 
 -- a hold comes to no more than is free, or than it was, where an answer is allowed
 fits_told : (s : SourceSettings) (r : SourceRecord) (floor free t : ℕ) (x : Option Stimulus) (a : Option Answer) →

@@ -4,12 +4,29 @@ use Rattle.pd_objects.specs.Answers.{IsAllowed}
 use Rattle.pd_objects.specs.declared.query.Answer.{Answer}
 use Rattle.pd_objects.specs.declared.query.Answer.TheVariants as answer
 use Rattle.pd_source.specs.Rest.{IsEmptyAtRest}
+use Rattle.pd_source.specs.Step.{contracted}
 use Rattle.pd_plan.specs.Events.{EventData}
 use Rattle.pd_plan.specs.Settings.{SettingsData, floor_of}
 use Rattle.pd_port.specs.declared.due.Due.{Due}
 use Rattle.pd_port.specs.declared.due.What.TheVariants as what
 use Rattle.pd_port.specs.Happens.{is_budget}
-use Rattle.pd_port.specs.Port.{PortRecord, due, detached, ask, record_after, hold}
+use Rattle.pd_port.specs.Changes.{power_after}
+use Rattle.pd_port.specs.Port.{PortRecord, due, detached, ask, record_after, entry_of, hold}
+
+-- the power in microwatts of a port's contract: voltage times maximum operating current, and 0 where there is none
+abbrev pub contract_power : PortRecord → ℕ
+contract_power r = contracted r.source.contract
+
+-- a hold is at least the power of the port's contract
+abbrev pub HoldsCoverContracts : Type 0
+HoldsCoverContracts = (s : SettingsData) (r : PortRecord) → contract_power r ≤ hold s r
+
+-- A detached port has no contract, and the change that a step's entry tells of leads from the power of the contract before
+-- the step to the power after it.
+pub record ContractsAreTold : Type 0 where
+  pub at_start : (s : SettingsData) → contract_power (detached s) ≡ 0
+  pub after_each : (s : SettingsData) (r : PortRecord) (d : Due) (given : Option Answer) →
+      power_after (entry_of s r d given).contract (contract_power r) ≡ contract_power (record_after s r d given)
 
 -- at rest a port's source holds nothing
 abbrev pub RestsEmpty : PortRecord → Type 0

@@ -4,4 +4,5 @@ pub mod Happens
 pub mod Laws
 pub mod Meter
 pub mod Port
+pub mod Sound
 pub mod Told

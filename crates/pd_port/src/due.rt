@@ -1,5 +1,7 @@
 //! What falls due on a port.
 
+ghost use Rattle.std.specs.Prelude.{◌≡◌, ◌↔◌, IsTrue};
+
 use crate::Event;
 use pd_header::Side;
 use pd_timers::Timer;
@@ -12,9 +14,38 @@ pub enum What {
     Timer { side: Side, timer: Timer },
 }
 
+impl What {
+    /// Whether both are the same.
+    pub fn same(&self, other: &What) -> bool
+        ensures { IsTrue result ↔ (self.now ≡ other.now) }
+    {
+        match (self, other) {
+            (What::Event(event), What::Event(other)) => event.same(other),
+            (What::Line, What::Line) => true,
+            (
+                What::Timer { side, timer },
+                What::Timer {
+                    side: other_side,
+                    timer: other_timer,
+                },
+            ) => side == other_side && timer == other_timer,
+            _ => false,
+        }
+    }
+}
+
 /// The next thing that happens on a port, and when, in microseconds.
 #[derive(Clone, Copy, Debug)]
 pub struct Due {
     pub time: u64,
     pub what: What,
+}
+
+impl Due {
+    /// Whether both are the same.
+    pub fn same(&self, other: &Due) -> bool
+        ensures { IsTrue result ↔ (self.now ≡ other.now) }
+    {
+        self.time == other.time && self.what.same(&other.what)
+    }
 }

@@ -1,7 +1,8 @@
 //! Laws of a port's step. They run nothing.
 
 ghost use Rattle.pd_port.specs.Laws.{StepsSetLater, DuesAreEarliest, SourceStepsOnce, DetachedAreNew, AnswersMatterOnlyWhereAsked, WaitsWhileBusy, StartsNoTwo, BusyLinesAreLeft};
-ghost use Rattle.pd_port.specs.Budget.{RestsAreEmpty, ChangesKeepOrShed, HoldsStayAllowed, EventsComeFirst};
+ghost use Rattle.pd_port.specs.Budget.{ContractsAreTold, HoldsCoverContracts, RestsAreEmpty, ChangesKeepOrShed, HoldsStayAllowed, EventsComeFirst};
+ghost use Rattle.pd_port.specs.Sound.{PortsStaySound, PortsAgree};
 
 /// Each deadline and each line's end that a step sets is later than the step.
 pub fn later()
@@ -38,11 +39,31 @@ pub fn busy()
     ensures left { BusyLinesAreLeft }
 {}
 
-/// What a port holds of the shared budget comes to no more than is free, or than it was. At a change of the budget, which
-/// comes first at its time, a hold that may not stay falls to the floor; a source at rest holds nothing above it.
+/// What a port holds of the shared budget is at least its contract's power, and comes to no more than is free, or than it
+/// was. At a change of the budget, which comes first at its time, a hold that may not stay falls to the floor; a source at
+/// rest holds nothing above it.
 pub fn budget()
+    ensures contracts { HoldsCoverContracts }
     ensures rests { RestsAreEmpty }
     ensures changes { ChangesKeepOrShed }
     ensures holds { HoldsStayAllowed }
     ensures events { EventsComeFirst }
+{}
+
+/// A detached port has no contract, and what a step's entry tells of its change leads from the power of the contract before
+/// the step to the power after it.
+pub fn contracts()
+    ensures { ContractsAreTold }
+{}
+
+/// A port's source is sound at the start, and stays so in each step with an answer to what the port asks: its offers, its
+/// accepted request and its contract are of its supplies, within the limit that it knows of the cable.
+pub fn sound()
+    ensures { PortsStaySound }
+{}
+
+/// In each step of a port a contract is made of the accepted request and the delivered offer, a request is accepted that is
+/// kept, valid and fits, and the delivered offer is the one that was made, which stays where a request is accepted.
+pub fn agreed()
+    ensures { PortsAgree }
 {}

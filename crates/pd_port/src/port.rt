@@ -86,6 +86,13 @@ impl Port {
         }
     }
 
+    /// What the port is set to.
+    pub fn settings(&self) -> &Settings
+        ensures { result.now ≡ self.now.settings }
+    {
+        &self.settings
+    }
+
     /// What falls due next on the port, whose next event is given.
     pub fn due(&self, next: Option<&Event>) -> Option<Due>
         ensures { result ≡ the_due self.now.record (option_copied next.entry) }

@@ -2,4 +2,5 @@ pub mod DeviceLemmas
 pub mod MarginLemmas
 pub mod TextLemmas
 pub mod ToldLemmas
+pub mod TruthLemmas
 pub mod WalkLemmas

@@ -93,11 +93,11 @@ nothing_between moves i t past ahead =
 
 -- ---- the powers
 
-power_then : Option ContractChange → ℕ → ℕ
+unfoldable pub power_then : Option ContractChange → ℕ → ℕ
 power_then None k = k
 power_then (Some c) k = power_left c
 
-change-then : (p : ℕ) (moves : Moves) (m : ℕ × Entry) (o : Option ContractChange) → change_on p m ≡ o → power_on (moves ++ m ∷ []) p ≡ power_then o (power_on moves p)
+pub change-then : (p : ℕ) (moves : Moves) (m : ℕ × Entry) (o : Option ContractChange) → change_on p m ≡ o → power_on (moves ++ m ∷ []) p ≡ power_then o (power_on moves p)
 unfolding power_on power_then
 change-then p moves m None e =
     ap (λ l. option_map_or power_left (last_or None l) 0)
@@ -107,10 +107,10 @@ change-then p moves m (Some c) e =
     (filter_map-append (change_on p) moves (m ∷ []) ∙ ap (λ (o : Option ContractChange). filter_map (change_on p) moves ++ cons_option o []) e)
     ∙ ap (λ o. option_map_or power_left o 0) (last_or-append None (filter_map (change_on p) moves) c)
 
-change_here : (p : ℕ) (m : ℕ × Entry) → m.0 ≡ p → change_on p m ≡ m.1.contract
+pub change_here : (p : ℕ) (m : ℕ × Entry) → m.0 ≡ p → change_on p m ≡ m.1.contract
 change_here p m e = ap (λ b. cond b m.1.contract None) (eq-eqb m.0 p e)
 
-change_other : (p : ℕ) (m : ℕ × Entry) → m.0 ≢ p → change_on p m ≡ None
+pub change_other : (p : ℕ) (m : ℕ × Entry) → m.0 ≢ p → change_on p m ≡ None
 change_other p m e = ap (λ b. cond b m.1.contract None) (ne_eqb m.0 p e)
 
 no_change : (p : ℕ) (m : ℕ × Entry) → m.1.contract ≡ None → change_on p m ≡ None

@@ -5,4 +5,5 @@ pub mod Margins
 pub mod Numbers
 pub mod Report
 pub mod Text
+pub mod Truth
 pub mod Walk

@@ -5,6 +5,7 @@ mod contract_lines;
 mod device;
 mod fault;
 mod fault_lines;
+pub mod laws;
 mod margin_lines;
 mod report;
 mod text;

@@ -1,10 +1,13 @@
 pub mod Awaited
+pub mod Contracts
 pub mod First
 pub mod Forces
 pub mod Moves
+pub mod Offers
 pub mod OneRun
 pub mod Runs
 pub mod Scripts
+pub mod Sound
 pub mod Steps
 pub mod Within
 pub mod Work

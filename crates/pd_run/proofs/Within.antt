@@ -25,12 +25,13 @@ use Rattle.pd_scenario.specs.declared.budget.BudgetChange.{BudgetChange}
 use Rattle.pd_scenario.specs.Plan.{Plan, IsPlan, count, settings_of, script_of, floors_of, told_at, force}
 use Rattle.pd_run.specs.Order.{EachAfter, IsNoLater}
 use Rattle.pd_run.specs.Run.{Move, Run, Standing, standing, moved, after, taken_after, due_after, account_after, holds_after, GoesOn, IsInOrder, NoneLater, IsAnswered}
-use Rattle.pd_run.specs.Laws.{AreFloored, HoldsFit, EndsBetween, IsWithin}
+use Rattle.pd_run.specs.Laws.{AreFloored, HoldsFit, ContractsFit, AtEnds, EndsBetween, IsWithin}
 use Rattle.pd_run.proofs.Moves.{standing-same, standing-other, none_later-raise}
 use Rattle.pd_run.proofs.OneRun.{Rest, tail, whole, first_first}
 use Rattle.pd_run.proofs.Forces.{change_or_none, same_force, change_at, changes_there}
 use Rattle.pd_run.proofs.Scripts.{next_tells}
 use Rattle.pd_run.proofs.Steps.{table-set, hold_known, length-holds_after, some_event}
+use Rattle.pd_run.proofs.Contracts.{contracts_held}
 use Rattle.pd_run.proofs.Awaited.{tells, counted, all_counted, counted_at, length-all_counted, told_of, tells_of, counted_floor, counted_hold, counted_less, counted_falls, floor_at, length-floors, sum-below, sum-parts}
 
 -- no hold is below its floor
@@ -452,10 +453,21 @@ fits_start n plan is =
     let funded = is.always_funded 0 in
     record { within = omega arith; floored = floored plan [] }
 
+holds_fit : (n : ℕ) (plan : Plan) (moves : List Move) → IsPlan n plan → Run plan moves → AtEnds (HoldsFit plan) plan moves
+holds_fit n plan moves is run = λ done rest at e ends soon. fits_at n plan done rest at is (subst (Run plan) e run) ends soon
+
+-- the contracts of a run fit at the end of each instant, since the holds do
+pub contracts_fit : (n : ℕ) (plan : Plan) (moves : List Move) → IsPlan n plan → Run plan moves → AtEnds (ContractsFit plan) plan moves
+contracts_fit n plan moves is run = λ done rest at e ends soon.
+    let fits = (holds_fit n plan moves is run done rest at e ends soon).within in
+    let less = contracts_held plan done in
+    omega arith
+
 -- the holds of a run fit at the end of each instant
 pub fits_run : (n : ℕ) (plan : Plan) (moves : List Move) → IsPlan n plan → Run plan moves → IsWithin plan moves
 fits_run n plan moves is run = record {
   at_start = fits_start n plan is;
-  at_ends = λ done rest at e ends soon. fits_at n plan done rest at is (subst (Run plan) e run) ends soon;
+  at_ends = holds_fit n plan moves is run;
+  contracts_at_ends = contracts_fit n plan moves is run;
   after_each = floored_from plan [] moves;
 }

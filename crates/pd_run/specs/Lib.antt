@@ -3,4 +3,5 @@ pub mod Live
 pub mod Order
 pub mod Run
 pub mod Shown
+pub mod Sound
 pub mod Start

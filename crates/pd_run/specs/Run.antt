@@ -6,6 +6,7 @@ use Rattle.pd_objects.specs.declared.query.Answer.{Answer}
 use Rattle.pd_port.specs.declared.due.Due.{Due}
 use Rattle.pd_port.specs.declared.entry.Entry.{Entry}
 use Rattle.pd_port.specs.Port.{PortRecord, is_event, detached, due, ask, record_after, entry_of, hold}
+use Rattle.pd_port.specs.Budget.{contract_power}
 use Rattle.pd_ledger.specs.Account.{Account}
 use Rattle.pd_ledger.specs.Offer.{answer_of}
 use Rattle.pd_scenario.specs.Plan.{Plan, count, settings_of, script_of, floors_of, force}
@@ -61,6 +62,10 @@ due_after plan moves p = due_from plan (standing plan moves p) p
 -- each port's hold after these moves
 abbrev pub holds_after : Plan → List Move → List ℕ
 holds_after plan moves = map (λ p. hold (settings_of plan p) (standing plan moves p).state) (range_with_len 0 (count plan))
+
+-- the power of each port's contract after these moves, 0 where it has none
+abbrev pub contract_powers : Plan → List Move → List ℕ
+contract_powers plan moves = map (λ p. contract_power (standing plan moves p).state) (range_with_len 0 (count plan))
 
 -- the shared budget at a time, after these moves
 abbrev pub account_after : Plan → List Move → ℕ → Account

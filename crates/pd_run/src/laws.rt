@@ -1,6 +1,7 @@
 //! What holds of runs.
 
-ghost use Rattle.pd_run.specs.Laws.{OneRun, AlwaysFit};
+ghost use Rattle.pd_run.specs.Laws.{OneRun, AlwaysFit, ContractsAlwaysFit};
+ghost use Rattle.pd_run.specs.Sound.{RunsAreSound};
 
 /// A plan has at most one run.
 pub fn one_run()
@@ -10,4 +11,17 @@ pub fn one_run()
 /// The ports' holds fit the budget of the time at the end of each instant of a run.
 pub fn always_fit()
     ensures { AlwaysFit }
+{}
+
+/// The powers of all ports' contracts, voltage times maximum operating current, add to at most the budget of the time at the
+/// end of each instant of a run.
+pub fn contracts_fit()
+    ensures { ContractsAlwaysFit }
+{}
+
+/// At each place of a run each contract is of the offer that was delivered before the move that accepted its request: of one of
+/// the port's supplies, at its voltage, and for no more than was offered there, which is within the configured current and
+/// the limit that the source knows of its cable.
+pub fn sound()
+    ensures { RunsAreSound }
 {}

@@ -10,5 +10,6 @@ pub mod SoundActs
 pub mod SoundRows
 pub mod Limits
 pub mod SoundSteps
+pub mod Accepting
 pub mod Agreed
 pub mod Rests

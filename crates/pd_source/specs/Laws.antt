@@ -77,6 +77,13 @@ OffersAreSettled =
     (s : SourceSettings) (now : ℕ) (x : Stimulus) (a : Option Answer) (r : SourceRecord) →
     IsSettled r (stepped s now x a r).delivered_offer
 
+-- in a step in which a request is accepted the delivered offer stays
+abbrev pub AcceptingKeepsTheOffer : Type 0
+AcceptingKeepsTheOffer =
+    (s : SourceSettings) (now : ℕ) (x : Stimulus) (a : Option Answer) (r : SourceRecord) →
+    ((stepped s now x a r).delivered_offer ≡ r.delivered_offer)
+    ⊎ (((stepped s now x a r).accepted_request ≡ r.accepted_request) ⊎ ((stepped s now x a r).accepted_request ≡ None))
+
 -- An object of Source_Capabilities offers a supply at a current in mA: a fixed supply, of its voltage and this current.
 -- Bit 27 tells whether the power is unconstrained; no other flag is set, and there is no peak current.
 pub record Offers (w : ℕ) (unconstrained : Bool) (supply : SupplyData) (ma : ℕ) : Type 0 where

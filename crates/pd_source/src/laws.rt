@@ -1,6 +1,6 @@
 //! Laws of the engine's steps.
 
-ghost use Rattle.pd_source.specs.Laws.{StepsSetLater, StepsReadOnlyTheirAnswer, HoldsKeepTheFloor, HoldsOfDetachedAreFloors, HoldsStayAllowed, OffersAskUnderTheLimit, LimitsAreOfAnswers, TheStartIsSound, StepsStaySound, ContractsAreMade, RequestsAreTaken, OffersAreSettled, ObjectsOfferTheirSupplies};
+ghost use Rattle.pd_source.specs.Laws.{StepsSetLater, StepsReadOnlyTheirAnswer, HoldsKeepTheFloor, HoldsOfDetachedAreFloors, HoldsStayAllowed, OffersAskUnderTheLimit, LimitsAreOfAnswers, TheStartIsSound, StepsStaySound, ContractsAreMade, RequestsAreTaken, OffersAreSettled, AcceptingKeepsTheOffer, ObjectsOfferTheirSupplies};
 ghost use Rattle.pd_source.specs.Rest.{TheStartIsEmptyAtRest, StepsStayEmptyAtRest, ShedsFallToTheFloor};
 
 /// Each deadline that a step sets is later than the step, and the timer that fell due no longer runs.
@@ -42,11 +42,12 @@ pub fn sound()
 {}
 
 /// A contract is made of the accepted request and the delivered offer, a request is accepted where it is valid and fits, and
-/// the delivered offer is the one that was made.
+/// the delivered offer is the one that was made, which stays where a request is accepted.
 pub fn agreed()
     ensures contract { ContractsAreMade }
     ensures accepted { RequestsAreTaken }
     ensures delivered { OffersAreSettled }
+    ensures kept { AcceptingKeepsTheOffer }
 {}
 
 /// The objects of Source_Capabilities offer the supplies at the currents of the draft offer.

@@ -1,6 +1,9 @@
 use Rattle.pd_port.proofs.BudgetLaws.{rests_are_empty, keeps_or_sheds, events_come_first}
-use Rattle.pd_port.proofs.PortLaws.{hold_fits}
+use Rattle.pd_port.proofs.PortLaws.{hold_contract, hold_fits}
 use Rattle.pd_port.proofs.laws.budget.Goals as goal
+
+pub returns-clause-contracts : goal.returns-clause-contracts
+returns-clause-contracts c = hold_contract
 
 pub returns-clause-rests : goal.returns-clause-rests
 returns-clause-rests c = rests_are_empty

@@ -10,6 +10,7 @@ use Rattle.pd_run.specs.Live.{LiveData, Stands, IsNext, at_budget, next_move, po
 use Rattle.pd_run.proofs.Runs.{runs_start, runs_step, runs_end}
 use Rattle.pd_run.proofs.Work.{work_known, work_falls}
 use Rattle.pd_run.proofs.Steps.{due_known, entry_known, Stands-budget, IsNext-budget}
+use Rattle.pd_run.proofs.Sound.{runs_are_sound}
 use Rattle.pd_run.proofs.Within.{fits_run}
 use Rattle.pd_run.proofs.plain.run.Goals as goal
 
@@ -82,4 +83,4 @@ returns-clause-run g c =
     let plan = c.args.plan.now in
     let i = c.loop-port.invariant in
     let run = runs_end plan i.moves _ i.stands c.in_default.ensures.next i.runs in
-    record { moves = i.moves; run = run; within = fits_run g.row.N plan i.moves c.in_default.ensures.is_plan run; entries_are = i.entries }
+    record { moves = i.moves; run = run; within = fits_run g.row.N plan i.moves c.in_default.ensures.is_plan run; sound = runs_are_sound plan i.moves run; entries_are = i.entries }
