@@ -242,8 +242,8 @@ all-known plan past (m ∷ ms) chained timely =
 
 pub in-time : (plan : Plan) (moves : Moves) → Shows plan moves → InTime plan moves
 in-time plan moves s = subst (InTime plan) (sym s.entries_are) (record {
-  rising = rises plan [] s.moves s.run.chained s.run.ordered;
-  known = all-known plan [] s.moves s.run.chained s.run.timely;
+  rising = rises plan [] s.moves s.safe.run.chained s.safe.run.ordered;
+  known = all-known plan [] s.moves s.safe.run.chained s.safe.run.timely;
 })
 
 rising-drop : (moves : Moves) (i : ℕ) → Rising moves → Rising (drop i moves)

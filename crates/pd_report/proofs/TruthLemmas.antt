@@ -212,4 +212,4 @@ true_at n plan moves t is run within soon =
 
 pub margins_true : MarginsAreTrue
 margins_true n plan entries is shows t soon =
-    subst (λ (l : Moves). TellsTrue plan shows.moves l t) (sym shows.entries_are) (true_at n plan shows.moves t is shows.run shows.within soon)
+    subst (λ (l : Moves). TellsTrue plan shows.moves l t) (sym shows.entries_are) (true_at n plan shows.moves t is shows.safe.run shows.safe.within soon)

@@ -70,7 +70,7 @@ BudgetStays plan moves = (t : ℕ) → 0 < t → t ≤ plan.end → happens_at m
 pub budget-stays : (n : ℕ) (plan : Plan) (entries : Moves) → IsShown n plan entries → BudgetStays plan entries
 unfolding BudgetStays
 budget-stays n plan entries s =
-    subst (BudgetStays plan) (sym s.shows.entries_are) (λ t some soon quiet. force-stays n plan s.shows.moves t s.is_plan s.shows.run some soon quiet)
+    subst (BudgetStays plan) (sym s.shows.entries_are) (λ t some soon quiet. force-stays n plan s.shows.moves t s.is_plan s.shows.safe.run some soon quiet)
 
 -- between the instant of a walk and the next entry no line stands
 silent_between : (plan : Plan) (moves : Moves) (i a b : ℕ) → BudgetStays plan moves → b ≤ plan.end + 1 → NoneLater a (take i moves) → NoneBefore b (drop i moves) → (v : ℕ) → a < v → v < b → instant_text plan moves v ≡ []

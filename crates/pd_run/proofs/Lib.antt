@@ -6,6 +6,7 @@ pub mod Moves
 pub mod Offers
 pub mod OneRun
 pub mod Runs
+pub mod Safe
 pub mod Scripts
 pub mod Sound
 pub mod Steps

@@ -9,19 +9,11 @@ use Rattle.pd_port.specs.Port.{PortRecord, is_event, due}
 use Rattle.pd_port.specs.Laws.{NotBefore}
 use Rattle.pd_port.proofs.PortLaws.{due_later, due_first, due_event}
 use Rattle.pd_scenario.specs.Plan.{Plan, IsPlan, count, settings_of, script_of, number_of, ComesBefore}
-use Rattle.pd_run.specs.Order.{EachAfter, IsNoLater}
-use Rattle.pd_run.specs.Run.{Move, Run, Standing, standing, moved, taken_after, due_after, due_from, GoesOn, IsInOrder, NoneLater, IsAnswered}
-use Rattle.pd_run.specs.Live.{LiveData, Stands, IsFirst, IsOver, next_move}
+use Rattle.pd_run.specs.Order.{IsNoLater}
+use Rattle.pd_run.specs.Run.{Move, Run, Standing, standing, moved, taken_after, due_after, due_from, GoesOn, IsInOrder, IsAnswered}
+use Rattle.pd_run.specs.Live.{LiveData, RunsTo, Stands, IsFirst, IsOver, next_move}
 use Rattle.pd_run.proofs.Moves.{standing-same, due_after-other, EachAfter-push, none_later-raise, none_later-push}
 use Rattle.pd_run.proofs.Steps.{due_known}
-
--- the moves are a run as far as it has come, and what is due isn't before them
-pub record RunsTo (plan : Plan) (moves : List Move) : Type 0 where
-  pub chained : EachAfter (GoesOn plan) [] moves
-  pub ordered : EachAfter IsInOrder [] moves
-  pub answered : EachAfter (IsAnswered plan) [] moves
-  pub timely : EachAfter (λ _ m. m.due.time ≤ plan.end) [] moves
-  pub ahead : (p : ℕ) (d : Due) → p < count plan → due_after plan moves p ≡ Some d → NoneLater d.time p moves
 
 pub runs_start : (plan : Plan) → RunsTo plan []
 runs_start plan = record { chained = tt; ordered = tt; answered = tt; timely = tt; ahead = λ p d k e. tt }
@@ -56,8 +48,9 @@ due_after-same n plan past p d f is now e1 =
     (next_not_before n plan p (standing plan past p).taken (standing plan past p).state d is now) e
 
 -- one more move
-pub runs_step : (n : ℕ) (plan : Plan) (past : List Move) (live : LiveData) (p : ℕ) (d : Due) → IsPlan n plan → Stands plan past live → IsFirst plan live p d → RunsTo plan past → RunsTo plan (past ++ next_move plan past p d ∷ [])
-runs_step n plan past live p d is s first runs =
+pub runs_step : (n : ℕ) (plan : Plan) (past : List Move) (live : LiveData) (p : ℕ) (d : Due) → IsPlan n plan → Stands plan past live → IsFirst plan live p d → RunsTo plan (past ++ next_move plan past p d ∷ [])
+runs_step n plan past live p d is s first =
+    let runs : RunsTo plan past = s.runs in
     let m : Move = next_move plan past p d in
     let now : due_after plan past p ≡ Some d = sym (due_known plan past live p s first.known) ∙ first.is_due in
     record {
@@ -79,11 +72,11 @@ runs_step n plan past live p d is s first runs =
     }
 
 -- where nothing is due the run is whole
-pub runs_end : (plan : Plan) (moves : List Move) (live : LiveData) → Stands plan moves live → IsOver plan live (count plan) → RunsTo plan moves → Run plan moves
-runs_end plan moves live s over runs = record {
-  chained = runs.chained;
-  ordered = runs.ordered;
-  answered = runs.answered;
-  timely = runs.timely;
+pub runs_end : (plan : Plan) (moves : List Move) (live : LiveData) → Stands plan moves live → IsOver plan live (count plan) → Run plan moves
+runs_end plan moves live s over = record {
+  chained = s.runs.chained;
+  ordered = s.runs.ordered;
+  answered = s.runs.answered;
+  timely = s.runs.timely;
   complete = λ p k d e. over.late p d k (due_known plan moves live p s k ∙ e);
 }

@@ -20,7 +20,7 @@ use Rattle.pd_ledger.proofs.Offers.{answer-allowed}
 use Rattle.pd_scenario.specs.Plan.{Plan, IsPlan, count, settings_of, script_of, floors_of, force, no_settings}
 use Rattle.pd_run.specs.Run.{Move, Standing, standing, moved, after, taken_after, due_after, account_after, holds_after, reply_after}
 use Rattle.pd_run.specs.Start.{start_of, no_port}
-use Rattle.pd_run.specs.Live.{LiveData, Stands, IsFirst, IsNext, at_budget, due_at, next_move, port_at, port_after, reply_at, moved_port}
+use Rattle.pd_run.specs.Live.{LiveData, RunsTo, Stands, IsFirst, IsNext, at_budget, due_at, next_move, port_at, port_after, reply_at, moved_port}
 use Rattle.pd_run.proofs.Moves.{standing-same, standing-other}
 
 -- a table with one entry changed
@@ -69,6 +69,7 @@ hold_after-fits plan past live p d s budget_is lt =
 -- with another budget all of it stands
 pub Stands-budget : (plan : Plan) (past : List Move) (live : LiveData) (budget : ℕ) → Stands plan past live → Stands plan past (at_budget live budget)
 Stands-budget plan past live budget s = record {
+  runs = s.runs;
   ports_count = s.ports_count;
   taken_count = s.taken_count;
   ports_are = s.ports_are;
@@ -85,10 +86,10 @@ IsNext-budget plan live port d budget h = record {
 }
 
 -- all of it after one more move
-pub Stands-step : (plan : Plan) (past : List Move) (live : LiveData) (p : ℕ) (d : Due) (port : PortData) (more : List ℕ) (h : ℕ) → Stands plan past live → p < count plan
+pub Stands-step : (plan : Plan) (past : List Move) (live : LiveData) (p : ℕ) (d : Due) (port : PortData) (more : List ℕ) (h : ℕ) → Stands plan past live → RunsTo plan (past ++ next_move plan past p d ∷ []) → p < count plan
     → port ≡ port_after plan (past ++ next_move plan past p d ∷ []) p → length more ≡ length live.taken → slice_index more p ≡ taken_after (slice_index live.taken p) d → ((k : ℕ) → k ≢ p → slice_index more k ≡ slice_index live.taken k)
     → h ≡ hold (settings_of plan p) (after plan (next_move plan past p d)) → Stands plan (past ++ next_move plan past p d ∷ []) (record { ports = slice_set live.ports p port; taken = more; account = record live.account { holds = slice_set live.account.holds p h } })
-Stands-step plan past live p d port more h s lt port_is counted at_p at_others h_is =
+Stands-step plan past live p d port more h s runs lt port_is counted at_p at_others h_is =
     let m : Move = next_move plan past p d in
     let ports : List PortData = live.ports in
     let here : standing plan (past ++ m ∷ []) p ≡ moved plan (standing plan past p) m = standing-same plan past m p refl in
@@ -96,6 +97,7 @@ Stands-step plan past live p d port more h s lt port_is counted at_p at_others h
     let inside : p < length ports = omega (arith, s.ports_count) in
     let holds : slice_set (holds_after plan past) p h ≡ holds_after plan (past ++ m ∷ []) = table-set _ _ (count plan) p h lt (λ k ne. ap (λ (x : Standing). hold (settings_of plan k) x.state) (others k ne)) (ap (λ (x : Standing). hold (settings_of plan p) x.state) here ∙ sym h_is) in
     record {
+      runs = runs;
       ports_count = length-set ports p port ∙ s.ports_count;
       taken_count = counted ∙ s.taken_count;
       ports_are = λ k kn.
@@ -135,8 +137,8 @@ pub taken_read : (taken : List ℕ) (p t : ℕ) → p < length taken → t ≡ s
 taken_read taken p t lt e = get_or_default taken p 0 t lt ∙ sym e
 
 -- at the start
-pub Stands-start : (n : ℕ) (plan : Plan) (ports : List PortData) (taken : List ℕ) → IsPlan n plan → ports ≡ map start_of plan.settings → taken ≡ replicate n 0 → Stands plan [] (record { ports = ports; taken = taken; account = record { budget = plan.budget; floors = floors_of plan; holds = floors_of plan } })
-Stands-start n plan ports taken is ports_is taken_is =
+pub Stands-start : (n : ℕ) (plan : Plan) (ports : List PortData) (taken : List ℕ) → RunsTo plan [] → IsPlan n plan → ports ≡ map start_of plan.settings → taken ≡ replicate n 0 → Stands plan [] (record { ports = ports; taken = taken; account = record { budget = plan.budget; floors = floors_of plan; holds = floors_of plan } })
+Stands-start n plan ports taken runs is ports_is taken_is =
     let holds : floors_of plan ≡ holds_after plan [] =
     same_lists (floors_of plan) (holds_after plan []) (length-map plan.settings floor_of ∙ sym (length-holds_after plan []))
     (λ k d h.
@@ -144,6 +146,7 @@ Stands-start n plan ports taken is ports_is taken_is =
     let here : get_or (floors_of plan) k 0 ≡ floor_of (settings_of plan k) = list_map.get_or-map floor_of plan.settings k no_settings in
     get_or_default (floors_of plan) k d 0 h ∙ here ∙ sym (hold_detached (settings_of plan k)) ∙ sym (get_or-map-range_with_len (λ i. hold (settings_of plan i) (detached (settings_of plan i))) 0 (count plan) k k d kn (omega arith))) in
     record {
+      runs = runs;
       ports_count = ap length ports_is ∙ length-map plan.settings start_of;
       taken_count = ap length taken_is ∙ length-replicate n 0 ∙ sym is.settings_count;
       ports_are = λ p k. ap (λ (l : List PortData). get_or l p no_port) ports_is ∙ list_map.get_or-map start_of plan.settings p no_settings;

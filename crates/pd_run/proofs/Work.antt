@@ -1,5 +1,5 @@
 -- A run ends: each move leaves less to do.
-use Rattle.std.proofs.Common.{◌≡◌, ◌≢◌, ℕ, ◌+◌, ◌-◌, ◌*◌, ◌<◌, ◌≤◌, ⊎_elim, List, [], ◌∷◌, ◌++◌, length, map, sum, Option, Some, None, true, false, Bool, refl, ap, sym, ◌∙◌, arith, slice_index, slice_set, slice_get, leb, if◌then◌else◌, nat_le}
+use Rattle.std.proofs.Common.{◌≡◌, ◌≢◌, ℕ, ◌+◌, ◌-◌, ◌*◌, ◌<◌, ◌≤◌, ⊎_elim, List, [], ◌∷◌, ◌++◌, length, map, sum, Option, Some, None, true, false, Bool, refl, ap, sym, ◌∙◌, arith, slice_index, slice_set, slice_get, leb, if◌then◌else◌}
 use Rattle.std.specs.List.{range_with_len}
 use Rattle.std.proofs.lemmas.List.{same_lists}
 use Rattle.std.proofs.lemmas.List.FromFn.{get_or-map-range_with_len, length-map-range_with_len}
@@ -16,29 +16,15 @@ use Rattle.pd_port.proofs.PortLaws.{due_event, pending_few, pending_timer, pendi
 use Rattle.pd_ledger.proofs.Sums.{sum-set}
 use Rattle.pd_scenario.specs.Plan.{Plan, IsPlan, count, settings_of, script_of}
 use Rattle.pd_run.specs.Run.{Move, Standing, standing, moved, after, taken_after, due_after, due_from}
-use Rattle.pd_run.specs.Live.{LiveData, Stands, next_move, port_at}
+use Rattle.pd_run.specs.Live.{LiveData, Stands, IsFirst, next_move}
+use Rattle.pd_run.specs.Work.{work_from, work_at, work_of, work}
 use Rattle.pd_run.proofs.Moves.{standing-same, standing-other}
-use Rattle.pd_run.proofs.Steps.{table-set}
+use Rattle.pd_run.proofs.Steps.{table-set, due_known}
 use Rattle.pd_run.proofs.Runs.{due_after-same}
 
--- what is left to do from a due on: for each microsecond its 64 deadlines and one more, and the events
-abbrev pub work_from : Plan → ℕ → PortRecord → ℕ → Due → ℕ
-work_from plan p r t d = if nat_le d.time plan.end then (plan.end + 1 - d.time) * 65 + pending r d.time + (length (script_of plan p) - t) else 0
-
-abbrev pub work_at : Plan → ℕ → PortRecord → ℕ → Option Due → ℕ
-work_at plan p r t None = 0
-work_at plan p r t (Some d) = work_from plan p r t d
-
-abbrev pub work_of : Plan → ℕ → Standing → ℕ
-work_of plan p s = work_at plan p s.state s.taken (due_from plan s p)
-
--- what is left to do on all ports
+-- what is left to do on all ports after these moves
 abbrev pub work_after : Plan → List Move → ℕ
 work_after plan moves = sum (map (λ p. work_of plan p (standing plan moves p)) (range_with_len 0 (count plan)))
-
--- the same by the ports
-abbrev pub work : Plan → LiveData → ℕ
-work plan live = sum (map (λ p. work_of plan p (record { state = (port_at live p).«record»; taken = slice_index live.taken p })) (range_with_len 0 (count plan)))
 
 table-same : {X : Type 0} (f g : ℕ → X) (n : ℕ) → ((k : ℕ) → k < n → f k ≡ g k) → map f (range_with_len 0 n) ≡ map g (range_with_len 0 n)
 table-same {X} f g n h =
@@ -110,4 +96,13 @@ work_falls n plan past p d is lt e soon =
     (λ x h. due_after-same n plan past p d x is e (ap (λ (z : Standing). due_from plan z p) here ∙ h)) less in
     let fall : g p < f p = omega arith in
     let total = ap sum table in
+    omega arith
+
+-- a move leaves less to do
+pub work_less : (n : ℕ) (plan : Plan) (past : List Move) (live new : LiveData) (p : ℕ) (d : Due) → IsPlan n plan → Stands plan past live → IsFirst plan live p d → Stands plan (past ++ next_move plan past p d ∷ []) new → work plan new < work plan live
+work_less n plan past live new p d is stands first stood =
+    let before = work_known plan past live stands in
+    let after = work_known plan (past ++ next_move plan past p d ∷ []) new stood in
+    let due = sym (due_known plan past live p stands first.known) ∙ first.is_due in
+    let falls = work_falls n plan past p d is first.known due first.soon in
     omega arith

@@ -5,3 +5,4 @@ pub mod Run
 pub mod Shown
 pub mod Sound
 pub mod Start
+pub mod Work

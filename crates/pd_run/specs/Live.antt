@@ -1,13 +1,13 @@
 -- Ports that move.
-use Rattle.std.specs.Prelude.{◌≡◌, ℕ, ◌-◌, ◌<◌, ◌≤◌, List, length, slice_index, slice_index_or, slice_get, Option, None, Some, option_map}
+use Rattle.std.specs.Prelude.{◌≡◌, ℕ, ◌-◌, ◌<◌, ◌≤◌, List, [], length, slice_index, slice_index_or, slice_get, Option, None, Some, option_map}
 use Rattle.pd_objects.specs.declared.query.Answer.{Answer}
 use Rattle.pd_port.specs.declared.due.Due.{Due}
 use Rattle.pd_port.specs.Port.{PortData, due, ask, entry_of, record_after}
 use Rattle.pd_ledger.specs.Account.{Account}
 use Rattle.pd_ledger.specs.Offer.{answer_of}
 use Rattle.pd_scenario.specs.Plan.{Plan, count, settings_of, script_of, floors_of}
-use Rattle.pd_run.specs.Order.{IsNoLater}
-use Rattle.pd_run.specs.Run.{Move, standing, holds_after, reply_after}
+use Rattle.pd_run.specs.Order.{EachAfter, IsNoLater}
+use Rattle.pd_run.specs.Run.{Move, standing, due_after, holds_after, reply_after, GoesOn, IsInOrder, NoneLater, IsAnswered}
 use Rattle.pd_run.specs.Start.{no_port}
 
 -- the ports, how many events each has had, and the shared budget
@@ -28,8 +28,18 @@ due_at plan live p = due (port_at live p).«record» (slice_get (script_of plan 
 abbrev pub port_after : Plan → List Move → ℕ → PortData
 port_after plan past p = record { settings = settings_of plan p; «record» = (standing plan past p).state }
 
--- the ports, the events that they have had and what they hold are as these moves leave them
+-- the moves are a run as far as it has come, and what is due isn't before them
+pub record RunsTo (plan : Plan) (moves : List Move) : Type 0 where
+  pub chained : EachAfter (GoesOn plan) [] moves
+  pub ordered : EachAfter IsInOrder [] moves
+  pub answered : EachAfter (IsAnswered plan) [] moves
+  pub timely : EachAfter (λ _ m. m.due.time ≤ plan.end) [] moves
+  pub ahead : (p : ℕ) (d : Due) → p < count plan → due_after plan moves p ≡ Some d → NoneLater d.time p moves
+
+-- these moves are a run as far as it has come, and the ports, the events that they have had and what they hold are as these
+-- moves leave them
 pub record Stands (plan : Plan) (past : List Move) (live : LiveData) : Type 0 where
+  pub runs : RunsTo plan past
   pub ports_count : length live.ports ≡ count plan
   pub taken_count : length live.taken ≡ count plan
   pub ports_are : (p : ℕ) → p < count plan → port_at live p ≡ port_after plan past p

@@ -6,13 +6,17 @@ use Rattle.pd_run.specs.Run.{Move, Run, shown}
 use Rattle.pd_run.specs.Laws.{IsWithin}
 use Rattle.pd_run.specs.Sound.{StaysSound}
 
--- These are the entries of the plan's run. In it what the ports hold is within the budget at the end of each instant, and so
--- are their contracts; and each contract is within the offer from which it was requested.
-pub record Shows (plan : Plan) (entries : List (ℕ × Entry)) : Type 0 where
-  pub moves : List Move
+-- The moves are the run of the plan. In it what the ports hold is within the budget at the end of each instant, and so are
+-- their contracts; and each contract is within the offer from which it was requested.
+pub record SafeRun (plan : Plan) (moves : List Move) : Type 0 where
   pub run : Run plan moves
   pub within : IsWithin plan moves
   pub sound : StaysSound plan moves
+
+-- these are the entries of the plan's run, which is safe
+pub record Shows (plan : Plan) (entries : List (ℕ × Entry)) : Type 0 where
+  pub moves : List Move
+  pub safe : SafeRun plan moves
   pub entries_are : entries ≡ map shown moves
 
 -- a plan, if there is one, and the entries of its run

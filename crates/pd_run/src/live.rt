@@ -1,11 +1,13 @@
 //! Ports that move.
 
-ghost use Rattle.std.specs.Prelude.{◌≡◌, ℕ, ◌+◌, ◌-◌, ◌<◌, ◌≤◌, ◌∷◌, ◌++◌, ◌↔◌, List, [], IfOk, MatchOption, IsTrue, ⊤, option_map};
+ghost use Rattle.std.specs.Prelude.{◌≡◌, ℕ, ◌+◌, ◌-◌, ◌<◌, ◌≤◌, ◌∷◌, ◌++◌, ◌↔◌, List, [], IfOk, IfSome, MatchOption, IsTrue, ⊤, option_map};
 ghost use Rattle.pd_port.specs.Port.{is_event};
 ghost use Rattle.pd_ledger.specs.Offer.{answer_of};
 ghost use Rattle.pd_scenario.specs.Plan.{Plan, IsPlan, count, force};
-ghost use Rattle.pd_run.specs.Run.{Move};
-ghost use Rattle.pd_run.specs.Live.{LiveData, Stands, IsSoFar, IsNext, IsOver, at_budget, due_at, next_move, port_at, reply_at, moved_port};
+ghost use Rattle.pd_run.specs.Run.{Move, NoneLater};
+ghost use Rattle.pd_run.specs.Live.{LiveData, Stands, IsSoFar, IsNext, at_budget, due_at, next_move, port_at, reply_at, moved_port};
+ghost use Rattle.pd_run.specs.Shown.{SafeRun};
+ghost use Rattle.pd_run.specs.Work.{work};
 
 use crate::Timetable;
 use pd_ledger::Ledger;
@@ -48,9 +50,10 @@ impl<const N: usize> Live<N> {
         })
     }
 
-    /// The port that moves next, with what falls due on it, if that isn't after the end.
+    /// The port that moves next, with what falls due on it, if that isn't after the end. Where nothing is, the run is whole.
     pub fn next(&self, plan: &Timetable<N>) -> Option<(usize, Due)>
-        ensures next { MatchOption result (IsOver plan.now self.now (count plan.now)) (λ r. IsNext plan.now self.now r.0 r.1) }
+        ensures next { MatchOption result ((past : List Move) → Stands plan.now past self.now → SafeRun plan.now past) (λ r. IsNext plan.now self.now r.0 r.1) }
+        ensures in_order { IfSome result (λ r. (past : List Move) → Stands plan.now past self.now → NoneLater r.1.time (r.0 - 1) past) }
         ensures is_plan { IsPlan N plan.now }
     {
         let (port, due) = self.first(plan)?;
@@ -73,6 +76,9 @@ impl<const N: usize> Live<N> {
         requires stands { (past : List Move) × Stands plan.now past self.old }
         ensures answer { result ≡ reply_at self.new (port - 1) due.now }
         ensures budget { self.new ≡ at_budget self.old (force plan.now due.now.time) }
+        ensures stands { (past : List Move) → Stands plan.now past self.old → Stands plan.now past self.new }
+        ensures next { IsNext plan.now self.old port due.now → IsNext plan.now self.new port due.now }
+        ensures known { (past : List Move) → Stands plan.now past self.old → result ≡ (next_move plan.now past (port - 1) due.now).answer }
     {
         let budget = plan.force(due.time);
         self.ledger.set_budget(budget);
@@ -87,8 +93,9 @@ impl<const N: usize> Live<N> {
         requires next { IsNext plan.now self.old port due.now }
         requires budget { self.old.account.budget ≡ force plan.now due.now.time }
         requires after { after ≡ moved_port self.old (port - 1) due.now }
-        ensures { (past : List Move) → Stands plan.now past self.old
+        ensures stands { (past : List Move) → Stands plan.now past self.old
             → Stands plan.now (past ++ next_move plan.now past (port - 1) due.now ∷ []) self.new }
+        ensures less { work plan.now self.new < work plan.now self.old }
     {
         let hold = after.hold();
         self.ports[port - 1] = after;

@@ -2,15 +2,13 @@ use Rattle.std.proofs.Common.{◌≡◌, List, map, length}
 use Rattle.pd_port.specs.Meter.{raised}
 use Rattle.pd_run.specs.Run.{Move, shown}
 use Rattle.pd_run.specs.Live.{Stands}
-use Rattle.pd_run.proofs.Runs.{RunsTo}
-use Rattle.pd_run.proofs.Work.{work}
+use Rattle.pd_run.specs.Work.{work}
 use Rattle.pd_run.proofs.plain.run.Given as goal
 
 abbrev pub invariant-loop-port : goal.invariant-loop-port
 invariant-loop-port g l = record {
   moves : List Move;
   stands : Stands l.plan moves l.live;
-  runs : RunsTo l.plan moves;
   entries : l.entries.items ≡ map shown moves;
   cost : l.meter ≡ raised l.fn.meter (length moves);
 }

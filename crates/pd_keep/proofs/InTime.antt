@@ -1,0 +1,41 @@
+-- What is kept stands in the order of times.
+use Rattle.std.proofs.Common.{◌≡◌, ℕ, ◌<◌, ◌≤◌, ◌-◌, List, [], ◌∷◌, ◌++◌, length, map, arith, get_or, zero, suc, All, Option, None, Some, ap}
+use Rattle.pd_scenario.specs.Plan.{Plan}
+use Rattle.pd_run.specs.Order.{EachAfter}
+use Rattle.pd_run.specs.Run.{Move, IsInOrder, NoneLater}
+use Rattle.pd_keep.specs.declared.kept_move.KeptMove.{KeptMove}
+use Rattle.pd_keep.specs.Kept.{move_of, AreInTime, AreBefore, IsMade, Keeps}
+
+pub none_later-last : (t p : ℕ) (past : List Move) (m : Move) → NoneLater t p (past ++ m ∷ []) → m.due.time ≤ t
+none_later-last t p [] m h = h.0.by_time
+none_later-last t p (x ∷ xs) m h = none_later-last t p xs m h.1
+
+none_later-front : (t p : ℕ) (past : List Move) (m : Move) → NoneLater t p (past ++ m ∷ []) → NoneLater t p past
+none_later-front t p [] m h = tt
+none_later-front t p (x ∷ xs) m h = (h.0, none_later-front t p xs m h.1)
+
+none_later-at : (kept : List KeptMove) (past : List Move) (j : ℕ) (e : KeptMove) → EachAfter IsInOrder past (map move_of kept) → j < length kept → NoneLater (get_or kept j e).due.time ((get_or kept j e).port - 1) past
+none_later-at [] past j e h lt = absurd (omega arith)
+none_later-at (m ∷ ms) past zero e h lt = h.0
+none_later-at (m ∷ ms) past (suc j) e h lt = none_later-front _ _ past (move_of m) (none_later-at ms (past ++ move_of m ∷ []) j e h.1 (omega arith))
+
+times : (kept : List KeptMove) (past : List Move) (i j : ℕ) (e : KeptMove) → EachAfter IsInOrder past (map move_of kept) → i ≤ j → j < length kept → (get_or kept i e).due.time ≤ (get_or kept j e).due.time
+times [] past i j e h le lt = absurd (omega arith)
+times (m ∷ ms) past zero zero e h le lt = omega arith
+times (m ∷ ms) past zero (suc j) e h le lt = none_later-last _ _ past (move_of m) (none_later-at ms (past ++ move_of m ∷ []) j e h.1 (omega arith))
+times (m ∷ ms) past (suc i) zero e h le lt = absurd (omega arith)
+times (m ∷ ms) past (suc i) (suc j) e h le lt = times ms (past ++ move_of m ∷ []) i j e h.1 (omega arith) (omega arith)
+
+-- what a runner keeps is in the order of times
+pub keeps_in_time : (n : ℕ) (o : Option Plan) (kept : List KeptMove) → Keeps n o kept → AreInTime kept
+keeps_in_time n None kept none = λ i j e le lt. absurd (omega (arith, ap length none))
+keeps_in_time n (Some plan) kept keeps = λ i j e le lt. times kept [] i j e keeps.safe.run.ordered le lt
+
+-- each is what its port made of its due
+pub keeps_made : (n : ℕ) (o : Option Plan) (kept : List KeptMove) → Keeps n o kept → All IsMade kept
+keeps_made n None kept none = λ k d lt. absurd (omega (arith, ap length none))
+keeps_made n (Some plan) kept keeps = λ k d lt. (keeps.own k d lt).made
+
+-- those before a time are before a later one
+pub before_later : (old : List KeptMove) (n t u : ℕ) → AreBefore old n t → t ≤ u → AreBefore old n u
+before_later old n t u h le = λ k e lt. let less = h k e lt in omega arith

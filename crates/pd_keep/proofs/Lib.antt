@@ -1,0 +1,4 @@
+pub mod Counts
+pub mod Fresh
+pub mod InTime
+pub mod Made

@@ -1,0 +1,53 @@
+-- Moves that are kept.
+use Rattle.std.specs.Prelude.{◌≡◌, ℕ, ◌-◌, ◌<◌, ◌≤◌, List, [], length, map, All, Option, None, Some, slice_index_or}
+use Rattle.pd_objects.specs.declared.query.Answer.{Answer}
+use Rattle.pd_port.specs.declared.due.Due.{Due}
+use Rattle.pd_port.specs.Port.{PortData, record_after, entry_of}
+use Rattle.pd_scenario.specs.Plan.{Plan, IsPlan, settings_of}
+use Rattle.pd_run.specs.Run.{Move}
+use Rattle.pd_run.specs.Shown.{SafeRun}
+use Rattle.pd_keep.specs.declared.kept_move.KeptMove.{KeptMove}
+
+-- what is kept of a port's move for a due, with an answer
+abbrev pub kept_of : ℕ → PortData → Due → Option Answer → KeptMove
+kept_of p x d a = record {
+  port = p;
+  before = x;
+  due = d;
+  answer = a;
+  after = record { settings = x.settings; «record» = record_after x.settings x.«record» d a };
+  entry = entry_of x.settings x.«record» d a;
+}
+
+-- it is what its port made of its due
+abbrev pub IsMade : KeptMove → Type 0
+IsMade k = k ≡ kept_of k.port k.before k.due k.answer
+
+-- the move that it stands for; ports are numbered from 0 there
+abbrev pub move_of : KeptMove → Move
+move_of k = record { port = k.port - 1; before = k.before.«record»; due = k.due; answer = k.answer; entry = k.entry }
+
+-- it is a move of a port of the plan
+pub record IsOwn (plan : Plan) (k : KeptMove) : Type 0 where
+  pub made : IsMade k
+  pub from_one : 1 ≤ k.port
+  pub settings : k.before.settings ≡ settings_of plan (k.port - 1)
+
+-- what is kept stands in the order of times
+abbrev pub AreInTime : List KeptMove → Type 0
+AreInTime old = (i j : ℕ) (e : KeptMove) → i ≤ j → j < length old → (slice_index_or old i e).due.time ≤ (slice_index_or old j e).due.time
+
+-- the first n of them are before this time
+abbrev pub AreBefore : List KeptMove → ℕ → ℕ → Type 0
+AreBefore old n time = (k : ℕ) (e : KeptMove) → k < n → (slice_index_or old k e).due.time < time
+
+-- what is kept is the run of a plan of n ports
+pub record AreMovesOf (n : ℕ) (plan : Plan) (kept : List KeptMove) : Type 0 where
+  pub is_plan : IsPlan n plan
+  pub safe : SafeRun plan (map move_of kept)
+  pub own : All (IsOwn plan) kept
+
+-- the same of a plan that may not be there; then nothing is kept
+abbrev pub Keeps : ℕ → Option Plan → List KeptMove → Type 0
+Keeps n None kept = kept ≡ []
+Keeps n (Some plan) kept = AreMovesOf n plan kept

@@ -1,0 +1,8 @@
+//! Tests of what edits cost in steps, with the runner that keeps its moves and with the plain one.
+#![tactic(auto)]
+
+#[cfg(test)]
+mod texts;
+
+#[cfg(test)]
+mod tests;

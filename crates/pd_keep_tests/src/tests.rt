@@ -1,0 +1,104 @@
+ghost use Rattle.std.specs.Prelude.{◌≤◌};
+
+use crate::texts::{LATE, PAIR, PHONE};
+use pd_edit::apply;
+use pd_edit_lines::Line;
+use pd_keep::Kept;
+use pd_port::Meter;
+use pd_run::{Plain, Runner};
+use pd_scenario_text::scenario_from_text;
+use std::alloc::Global;
+use std::test::*;
+
+/// The moves of the run after the edits of these lines, and the steps that the last of them cost; nothing where one of
+/// them is refused.
+fn cost<const N: usize, T: Runner<N>>(
+    alloc: Global,
+    text: &[u8],
+    lines: &[&[u8]],
+) -> Result<Option<(usize, u64)>, Fail>
+    requires from_one { 1 ≤ N }
+    requires to_eight { N ≤ 8 }
+{
+    let Ok(mut scenario) = scenario_from_text::<N>(alloc, text) else {
+        return Ok(None);
+    };
+    let mut meter = Meter::new();
+    let mut runner = T::empty(alloc);
+    runner.replace(alloc, &scenario, &mut meter)?;
+    let mut before = meter.count();
+    for line in lines {
+        let Ok(Line::Edit(edit)) = Line::read(line) else {
+            return Ok(None);
+        };
+        let Ok(edited) = apply(alloc, &scenario, &edit) else {
+            return Ok(None);
+        };
+        scenario = edited;
+        before = meter.count();
+        runner.replace(alloc, &scenario, &mut meter)?;
+    }
+    Ok(Some((runner.len(), meter.count().saturating_sub(before))))
+}
+
+/// A lost packet at its time, and at the end.
+#[test]
+fn of_a_lost_packet(rt: HostRuntime) -> Result<(), Fail> {
+    let none: [&[u8]; 0] = [];
+    let whole = cost::<1, Kept<1>>(rt.alloc(), PHONE, none.as_slice())?;
+    assert_eq!(rt; whole, Some((263, 263)));
+    let early: [&[u8]; 1] = [b"insert 2 58800 1 lose"];
+    let kept = cost::<1, Kept<1>>(rt.alloc(), PHONE, early.as_slice())?;
+    assert_eq!(rt; kept, Some((268, 11)));
+    let plain = cost::<1, Plain<1>>(rt.alloc(), PHONE, early.as_slice())?;
+    assert_eq!(rt; plain, Some((268, 268)));
+    let last: [&[u8]; 1] = [b"insert 2 119999999 1 lose"];
+    let kept = cost::<1, Kept<1>>(rt.alloc(), PHONE, last.as_slice())?;
+    assert_eq!(rt; kept, Some((264, 1)));
+    let plain = cost::<1, Plain<1>>(rt.alloc(), PHONE, last.as_slice())?;
+    assert_eq!(rt; plain, Some((264, 264)));
+    Ok(())
+}
+
+/// An event that is ignored is one step, and costs none when it is taken back.
+#[test]
+fn of_an_ignored_event(rt: HostRuntime) -> Result<(), Fail> {
+    let ignored: [&[u8]; 1] = [b"insert 2 100 1 attach thin phone"];
+    let kept = cost::<1, Kept<1>>(rt.alloc(), PHONE, ignored.as_slice())?;
+    assert_eq!(rt; kept, Some((264, 1)));
+    let back: [&[u8]; 2] = [b"insert 2 100 1 attach thin phone", b"remove 2"];
+    let kept = cost::<1, Kept<1>>(rt.alloc(), PHONE, back.as_slice())?;
+    assert_eq!(rt; kept, Some((263, 0)));
+    Ok(())
+}
+
+/// More power where there was enough changes no step.
+#[test]
+fn of_more_power(rt: HostRuntime) -> Result<(), Fail> {
+    let more: [&[u8]; 1] = [b"budget 70000"];
+    let kept = cost::<1, Kept<1>>(rt.alloc(), PHONE, more.as_slice())?;
+    assert_eq!(rt; kept, Some((263, 0)));
+    Ok(())
+}
+
+/// A detach of one port costs the other nothing where it leaves power enough.
+#[test]
+fn of_a_detach(rt: HostRuntime) -> Result<(), Fail> {
+    let detach: [&[u8]; 1] = [b"insert 3 119999999 1 detach"];
+    let kept = cost::<2, Kept<2>>(rt.alloc(), PAIR, detach.as_slice())?;
+    let plain = cost::<2, Plain<2>>(rt.alloc(), PAIR, detach.as_slice())?;
+    assert_eq!(rt; kept.map(|(_, steps)| steps), Some(1));
+    assert!(rt; plain.is_some_and(|(_, steps)| steps > 478));
+    Ok(())
+}
+
+/// Another plug of the cable that is attached twice: what lies between is copied.
+#[test]
+fn of_another_cable(rt: HostRuntime) -> Result<(), Fail> {
+    let other: [&[u8]; 1] = [b"cable late nak 3000"];
+    let kept = cost::<1, Kept<1>>(rt.alloc(), LATE, other.as_slice())?;
+    assert_eq!(rt; kept, Some((334, 53)));
+    let plain = cost::<1, Plain<1>>(rt.alloc(), LATE, other.as_slice())?;
+    assert_eq!(rt; plain, Some((334, 334)));
+    Ok(())
+}
