@@ -1,9 +1,9 @@
 -- There is one count of fresh moves, and a plan that is run again has none.
-use Rattle.std.proofs.Common.{◌≡◌, ℕ, ◌+◌, ◌<◌, ⊎_elim, List, [], ◌∷◌, length, Option, None, Some, refl, ap, sym, ◌∙◌, subst, arith, Contains}
+use Rattle.std.proofs.Common.{◌≡◌, ℕ, ◌+◌, ⊎_elim, List, [], ◌∷◌, None, Some, refl, sym, ◌∙◌, subst, arith, suc, Contains}
 use Rattle.pd_scenario.specs.Plan.{Plan}
-use Rattle.pd_run.specs.Run.{Move, Run}
+use Rattle.pd_run.specs.Run.{Move}
 use Rattle.pd_run.proofs.OneRun.{run_unique}
-use Rattle.pd_keep.specs.Fresh.{IsRepeated, AreFresh, FreshBeside, OneCount, NoneFreshAgain}
+use Rattle.pd_keep.specs.Fresh.{IsRepeated, AreFresh, OneCount, NoneFreshAgain}
 
 one : (old_plan : Plan) (old : List Move) (plan : Plan) (ms : List Move) (a b : ℕ) → AreFresh old_plan old plan ms a → AreFresh old_plan old plan ms b → a ≡ b
 one old_plan old plan [] a b h g = h ∙ sym g
@@ -30,7 +30,7 @@ none : (plan : Plan) (old ms : List Move) (n : ℕ) → ((m : Move) → Contains
 none plan old [] n has h = h
 none plan old (m ∷ ms) n has h =
     ⊎_elim
-    (λ (w : IsRepeated plan old plan m × AreFresh plan old plan ms n). none plan old ms n (λ x at. has x (at.0 + 1, omega (arith, at.1), at.2)) w.1)
+    (λ (w : IsRepeated plan old plan m × AreFresh plan old plan ms n). none plan old ms n (λ x at. has x (suc at.0, omega (arith, at.1), at.2)) w.1)
     (λ (w : (IsRepeated plan old plan m → ⊥) × ((k : ℕ) × (n ≡ k + 1) × AreFresh plan old plan ms k)).
     absurd (w.0 (m, has m (0, omega arith, refl), record { port = refl; before = refl; settings = refl; due = refl; answer = refl })))
     h

@@ -1,12 +1,12 @@
 -- How the count of fresh moves goes on with one more move.
-use Rattle.std.proofs.Common.{◌≡◌, ◌≢◌, ℕ, ◌+◌, ◌-◌, ◌<◌, ◌≤◌, ◌⊎◌, ⊎_elim, inl, inr, List, [], ◌∷◌, ◌++◌, length, map, Option, None, Some, refl, ap, sym, ◌∙◌, subst, arith, get_or, All, Contains}
+use Rattle.std.proofs.Common.{◌≡◌, ℕ, ◌+◌, ◌-◌, ◌<◌, ◌≤◌, ⊎_elim, inl, inr, List, [], ◌∷◌, ◌++◌, length, map, Option, None, Some, refl, ap, sym, ◌∙◌, subst, arith, get_or, All, Contains}
 use Rattle.std.proofs.lemmas.List.{get_or_default, length-map}
 use Rattle.std.proofs.Math.ListN as list_map
 use Rattle.pd_objects.specs.declared.query.Answer.{Answer}
 use Rattle.pd_plan.specs.Settings.{SettingsData}
 use Rattle.pd_port.specs.declared.due.Due.{Due}
 use Rattle.pd_port.specs.Meter.{raised}
-use Rattle.pd_port.specs.Port.{PortData, PortRecord, entry_of}
+use Rattle.pd_port.specs.Port.{PortData, PortRecord}
 use Rattle.pd_scenario.specs.Plan.{Plan, settings_of}
 use Rattle.pd_run.specs.Run.{Move}
 use Rattle.pd_keep.specs.declared.kept_move.KeptMove.{KeptMove}

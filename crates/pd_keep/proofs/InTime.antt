@@ -1,5 +1,7 @@
 -- What is kept stands in the order of times.
-use Rattle.std.proofs.Common.{◌≡◌, ℕ, ◌<◌, ◌≤◌, ◌-◌, List, [], ◌∷◌, ◌++◌, length, map, arith, get_or, zero, suc, All, Option, None, Some, ap}
+use Rattle.std.proofs.Common.{◌≡◌, ◌≢◌, ⊎_elim, Contains, leb, true, false, ◌∙◌, ℕ, ◌<◌, ◌≤◌, ◌-◌, List, [], ◌∷◌, ◌++◌, length, map, arith, get_or, zero, suc, All, Option, None, Some, ap, subst}
+use Rattle.std.proofs.lemmas.List.{get_or_default}
+use Rattle.std.proofs.lemmas.Bool.Decides.{leb_tells}
 use Rattle.pd_scenario.specs.Plan.{Plan}
 use Rattle.pd_run.specs.Order.{EachAfter}
 use Rattle.pd_run.specs.Run.{Move, IsInOrder, NoneLater}
@@ -39,3 +41,22 @@ keeps_made n (Some plan) kept keeps = λ k d lt. (keeps.own k d lt).made
 -- those before a time are before a later one
 pub before_later : (old : List KeptMove) (n t u : ℕ) → AreBefore old n t → t ≤ u → AreBefore old n u
 before_later old n t u h le = λ k e lt. let less = h k e lt in omega arith
+
+-- ports are numbered from 1
+pub keeps_from_one : (n : ℕ) (o : Option Plan) (kept : List KeptMove) (i : ℕ) (k : KeptMove) → Keeps n o kept → i < length kept → get_or kept i k ≡ k → 1 ≤ k.port
+keeps_from_one n None kept i k none lt e = absurd (omega (arith, ap length none))
+keeps_from_one n (Some plan) kept i k keeps lt e = subst (λ (y : KeptMove). 1 ≤ y.port) e (keeps.own i k lt).from_one
+
+-- a move that isn't among the first ones isn't there where those that follow are later
+pub not_later : (old : List KeptMove) (i : ℕ) (at m : KeptMove) → AreInTime old → ((k : ℕ) → k < i → get_or old k m ≢ m) → i < length old → get_or old i at ≡ at → m.due.time < at.due.time → Contains old m → ⊥
+not_later old i at m in_time none lt here later has =
+    let j = has.0 in
+    let there : get_or old j at ≡ m = get_or_default old j at m has.1 ∙ has.2 in
+    ⊎_elim
+    (λ (then : (leb i j ≡ true) × (i ≤ j)).
+    let le = in_time i j at then.1 has.1 in
+    let a : (get_or old i at).due.time ≡ at.due.time = ap (λ (k : KeptMove). k.due.time) here in
+    let b : (get_or old j at).due.time ≡ m.due.time = ap (λ (k : KeptMove). k.due.time) there in
+    absurd (omega arith))
+    (λ (first : (leb i j ≡ false) × (j < i)). none j first.1 has.2)
+    (leb_tells i j)

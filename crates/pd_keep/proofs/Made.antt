@@ -1,11 +1,11 @@
 -- What is kept of a port's move is the next move of the run.
-use Rattle.std.proofs.Common.{◌≡◌, ℕ, ◌-◌, ◌<◌, ◌≤◌, List, Option, refl, ap, sym, ◌∙◌}
+use Rattle.std.proofs.Common.{◌≡◌, ℕ, ◌-◌, ◌≤◌, List, Option, refl, ap, ◌∙◌}
 use Rattle.pd_objects.specs.declared.query.Answer.{Answer}
 use Rattle.pd_port.specs.declared.due.Due.{Due}
-use Rattle.pd_port.specs.Port.{PortData, record_after}
-use Rattle.pd_scenario.specs.Plan.{Plan, count, settings_of}
+use Rattle.pd_port.specs.Port.{PortData}
+use Rattle.pd_scenario.specs.Plan.{Plan}
 use Rattle.pd_run.specs.Run.{Move}
-use Rattle.pd_run.specs.Live.{LiveData, Stands, next_move, port_at, port_after, reply_at, moved_port}
+use Rattle.pd_run.specs.Live.{LiveData, next_move, port_at, port_after, reply_at, moved_port}
 use Rattle.pd_keep.specs.declared.kept_move.KeptMove.{KeptMove}
 use Rattle.pd_keep.specs.Kept.{kept_of, move_of, IsOwn, IsMade}
 

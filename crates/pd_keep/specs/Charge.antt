@@ -1,5 +1,5 @@
 -- What a single move costs.
-use Rattle.std.specs.Prelude.{◌≡◌, ◌⊎◌, ⊥, ℕ, List, Contains}
+use Rattle.std.specs.Prelude.{◌≡◌, ◌⊎◌, ℕ, List, Contains}
 use Rattle.pd_port.specs.Meter.{raised}
 use Rattle.pd_keep.specs.declared.kept_move.KeptMove.{KeptMove}
 

@@ -1,5 +1,5 @@
 -- Which moves of a run are fresh, beside an older run.
-use Rattle.std.specs.Prelude.{◌≡◌, ◌⊎◌, ⊥, ℕ, ◌+◌, List, [], ◌∷◌, length, Contains, Option, None, Some}
+use Rattle.std.specs.Prelude.{◌≡◌, ◌⊎◌, ℕ, ◌+◌, List, [], ◌∷◌, length, Contains, Option, None, Some}
 use Rattle.pd_port.specs.Meter.{raised}
 use Rattle.pd_scenario.specs.Plan.{Plan, settings_of}
 use Rattle.pd_run.specs.Run.{Move, Run}

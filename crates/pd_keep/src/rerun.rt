@@ -1,6 +1,6 @@
 //! A run beside an older one: moves that the older one has are copied.
 
-ghost use Rattle.std.specs.Prelude.{◌≡◌, ◌⊎◌, ⊥, ℕ, ◌+◌, ◌<◌, ◌≤◌, List, IfOk, IfSome, IfNone, map, length, Contains, All, slice_index_or};
+ghost use Rattle.std.specs.Prelude.{◌≡◌, ◌⊎◌, ℕ, ◌+◌, ◌<◌, ◌≤◌, List, IfOk, IfSome, IfNone, map, length, Contains, All, slice_index_or};
 ghost use Rattle.pd_port.specs.Meter.{raised};
 ghost use Rattle.pd_scenario.specs.Plan.{Plan};
 ghost use Rattle.pd_run.specs.Shown.{SafeRun};
@@ -68,11 +68,19 @@ fn make(
     }
 }
 
-fn step(port: usize, before: &Port, due: &Due, answer: Option<Answer>, meter: &mut Meter) -> KeptMove
+fn step(
+    port: usize,
+    before: &Port,
+    due: &Due,
+    answer: Option<Answer>,
+    meter: &mut Meter,
+) -> KeptMove
     requires early { due.now.time ≤ 120000000 }
     ensures made { result ≡ kept_of port before.now due.now answer }
     ensures meter { meter.new ≡ raised meter.old 1 }
+    ensures rises { meter.old ≤ meter.new }
 {
+    let _count = meter.count();
     let kept = copy_answer(&answer);
     let mut after = before.copy();
     let entry = after.step(due, answer, meter);

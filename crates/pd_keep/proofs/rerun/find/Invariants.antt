@@ -1,4 +1,4 @@
-use Rattle.std.proofs.Common.{◌≡◌, ◌≢◌, ℕ, ◌<◌, ◌≤◌, slice_index_or}
+use Rattle.std.proofs.Common.{◌≢◌, ℕ, ◌<◌, slice_index_or}
 use Rattle.pd_keep.specs.Kept.{kept_of}
 use Rattle.pd_keep.proofs.rerun.find.Given as goal
 

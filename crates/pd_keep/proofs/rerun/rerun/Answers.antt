@@ -1,15 +1,12 @@
-use Rattle.std.proofs.Common.{◌≡◌, ℕ, ◌<◌, ◌≤◌, ◌-◌, ◌++◌, ◌∷◌, [], List, map, length, arith, refl, ap, sym, ◌∙◌, subst, All, Option}
+use Rattle.std.proofs.Common.{◌≡◌, ◌-◌, ◌++◌, ◌∷◌, [], List, map, arith, ap, sym, ◌∙◌, subst}
 use Rattle.std.proofs.lemmas.List.{map-append}
 use Rattle.std.proofs.lemmas.List.Elements.{All-push}
-use Rattle.pd_objects.specs.declared.query.Answer.{Answer}
 use Rattle.pd_port.specs.Port.{PortData}
-use Rattle.pd_scenario.specs.Plan.{Plan}
 use Rattle.pd_run.specs.Run.{Move}
-use Rattle.pd_run.specs.Live.{LiveData, Stands, IsNext, next_move, port_at, port_after, moved_port}
+use Rattle.pd_run.specs.Live.{LiveData, Stands, next_move, port_after, moved_port}
 use Rattle.pd_run.specs.Work.{work}
 use Rattle.pd_keep.specs.declared.kept_move.KeptMove.{KeptMove}
 use Rattle.pd_keep.specs.Kept.{move_of, kept_of, IsOwn}
-use Rattle.pd_keep.specs.Charge.{Charges}
 use Rattle.pd_keep.proofs.Fresh.{fresh_step}
 use Rattle.pd_keep.proofs.InTime.{none_later-last, before_later}
 use Rattle.pd_keep.proofs.Made.{kept_is_next, kept_is_own, kept_is_moved}
@@ -19,7 +16,18 @@ use Rattle.pd_keep.proofs.rerun.rerun.Goals as goal
 pub skip-from-requires : goal.skip-from-requires
 skip-from-requires g c =
     let i = c.loop-port.invariant in
-    (i.within, i.passed c.in-Some.due.time (c.in-Some.port - 1) (c.in-Some.ensures.in_order _ i.stands))
+    record { within = i.within; before = i.passed c.in-Some.due.time (c.in-Some.port - 1) (c.in-Some.ensures.in_order _ i.stands) }
+
+pub settle-requires : goal.settle-requires
+settle-requires g c =
+    let i = c.loop-port.invariant in
+    let live = c.reply-answer.new.self in
+    let stands = c.reply-answer.ensures.stands _ i.stands in
+    let next = c.reply-answer.ensures.next c.in-Some.ensures.next in
+    let budget = ap (λ (l : LiveData). l.account.budget) c.reply-answer.ensures.budget in
+    let after : c.copy.result ≡ moved_port live (c.in-Some.port - 1) c.in-Some.due =
+    c.copy.ensures ∙ ap (λ (k : KeptMove). k.after) c.make-made.ensures.made ∙ kept_is_moved live (c.in-Some.port - 1) c.in-Some.port c.port.result.now c.in-Some.due c.reply-answer.result c.port.ensures c.reply-answer.ensures.answer in
+    (omega arith, (omega arith, (c.in-Some.ensures.is_plan, ((map move_of c.loop-port.moves.items, stands), (next, (budget, after))))))
 
 pub loop-port-smaller : goal.loop-port-smaller
 loop-port-smaller g c =
