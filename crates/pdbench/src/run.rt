@@ -7,9 +7,10 @@ use crate::devices::{Input, Output};
 use crate::fault::{tell, tell_refused};
 use crate::files::read_whole;
 use pd_bench::session;
+use pd_keep::Kept;
 use pd_port::Meter;
 use pd_report::BenchFault;
-use pd_run::{Plain, Runner};
+use pd_run::Runner;
 use pd_scenario::Scenario;
 use pd_scenario_text::{ScenarioFault, port_count, scenario_from_text};
 use std::alloc::Global;
@@ -73,7 +74,7 @@ fn run_session<const N: usize, R: Files + Print + Eprint + Alloc<A = Global>>(
     scenario: Scenario<N>,
     edits: &[u8],
 ) -> Ending {
-    let mut runner = Plain::<N>::empty(rt.alloc());
+    let mut runner = Kept::<N>::empty(rt.alloc());
     let mut reader = Input::new(edits);
     let mut writer = Output::new(io::writer(rt));
     match session(
