@@ -2,7 +2,6 @@
 #![tactic(auto)]
 
 #[cfg(test)]
-mod texts;
-
-#[cfg(test)]
 mod tests;
+#[cfg(test)]
+mod texts;

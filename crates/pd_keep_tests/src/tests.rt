@@ -12,7 +12,7 @@ use std::test::*;
 
 /// The moves of the run after the edits of these lines, and the steps that the last of them cost; nothing where one of
 /// them is refused.
-fn cost<const N: usize, T: Runner<N>>(
+fn cost<const N: usize, T: Runner<N> + Drop>(
     alloc: Global,
     text: &[u8],
     lines: &[&[u8]],
@@ -25,8 +25,8 @@ fn cost<const N: usize, T: Runner<N>>(
     };
     let mut meter = Meter::new();
     let mut runner = T::empty(alloc);
-    runner.replace(alloc, &scenario, &mut meter)?;
     let mut before = meter.count();
+    runner.replace(alloc, &scenario, &mut meter)?;
     for line in lines {
         let Ok(Line::Edit(edit)) = Line::read(line) else {
             return Ok(None);
