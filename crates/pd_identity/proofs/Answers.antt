@@ -1,11 +1,12 @@
 -- What cables answer, and how it is read.
-use Rattle.std.proofs.Common.{◌≡◌, ℕ, ◌<◌, ◌↔◌, refl, arith}
+use Rattle.std.proofs.Common.{◌≡◌, ℕ, ◌^◌, ◌<◌, ◌↔◌, refl, arith, lit<}
+use Rattle.std.specs.List.{AllByRecursion}
 use Rattle.pd_identity.specs.declared.Cable.{Cable}
 use Rattle.pd_identity.specs.declared.CablePlug.{CablePlug}
 use Rattle.pd_identity.specs.declared.CablePlug.TheVariants as plug
 use Rattle.pd_identity.specs.declared.Rating.{Rating}
 use Rattle.pd_identity.specs.declared.Rating.TheVariants as rating
-use Rattle.pd_identity.specs.Identity.{header_of, IsHeader, id_header, IsIdHeader, cable_object_of, current_of, IsPassiveCable, answer_of, reply_of, limit_of}
+use Rattle.pd_identity.specs.Identity.{header_of, IsHeader, id_header, IsIdHeader, cable_object_of, current_of, IsPassiveCable, answer_of, reply_of, limit_of, rated}
 use Rattle.pd_identity.specs.Laws.{IsRead}
 
 pub header_fields : (t : ℕ) → t < 4 → IsHeader (header_of t) t
@@ -62,3 +63,28 @@ is_rated plug.Silent r = (λ e. not_rated 3000 e refl, λ e. absurd (let f = e.0
 
 pub limits_rated : (c : Cable) → (limit_of (answer_of c) ≡ 5000) ↔ ((c.plug ≡ plug.Ack) × (c.rating ≡ rating.FiveAmperes))
 limits_rated c = is_rated c.plug c.rating
+
+tells : (p : CablePlug) (r : Rating) → limit_of (answer_of (cable p r)) ≡ rated (cable p r)
+unfolding answer_of limit_of header_of id_header cable_object_of
+tells plug.Absent r = refl
+tells plug.Ack rating.ThreeAmperes = refl
+tells plug.Ack rating.FiveAmperes = refl
+tells plug.Nak r = refl
+tells plug.Busy r = refl
+tells plug.Silent r = refl
+
+pub limits_told : (c : Cable) → limit_of (answer_of c) ≡ rated c
+limits_told c = tells c.plug c.rating
+
+-- what is answered are words of 32 bits
+fits : (p : CablePlug) (r : Rating) → AllByRecursion (λ w. w < 2 ^ 32) (answer_of (cable p r))
+unfolding answer_of header_of id_header cable_object_of
+fits plug.Absent r = tt
+fits plug.Ack rating.ThreeAmperes = (lit< tt, (lit< tt, (lit< tt, (lit< tt, (lit< tt, tt)))))
+fits plug.Ack rating.FiveAmperes = (lit< tt, (lit< tt, (lit< tt, (lit< tt, (lit< tt, tt)))))
+fits plug.Nak r = (lit< tt, tt)
+fits plug.Busy r = (lit< tt, tt)
+fits plug.Silent r = tt
+
+pub answer_fits : (c : Cable) → AllByRecursion (λ w. w < 2 ^ 32) (answer_of c)
+answer_fits c = fits c.plug c.rating

@@ -87,3 +87,10 @@ reply_of (header ∷ objects) =
 unfoldable pub limit_of : List ℕ → ℕ
 limit_of objects =
     if nat_le 5 (length objects) && (field (slice_index objects 1) 29 27 == 3 && field (slice_index objects 4) 6 5 == 2) then 5000 else 3000
+
+-- The most current in mA that a cable is known to carry: 5,000 where it is rated so and its plug answers ACK, else 3,000.
+abbrev pub rated : Cable → ℕ
+rated cable = by_rating cable.plug cable.rating where
+  by_rating : CablePlug → Rating → ℕ
+  by_rating plug.Ack rating.FiveAmperes = 5000
+  by_rating _ _ = 3000

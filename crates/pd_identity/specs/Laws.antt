@@ -5,7 +5,7 @@ use Rattle.pd_identity.specs.declared.CablePlug.TheVariants as plug
 use Rattle.pd_identity.specs.declared.Rating.{Rating}
 use Rattle.pd_identity.specs.declared.Rating.TheVariants as rating
 use Rattle.pd_identity.specs.declared.identity.Reply.TheVariants as reply
-use Rattle.pd_identity.specs.Identity.{header_of, IsHeader, id_header, IsIdHeader, cable_object_of, current_of, IsPassiveCable, answer_of, reply_of, limit_of}
+use Rattle.pd_identity.specs.Identity.{header_of, IsHeader, id_header, IsIdHeader, cable_object_of, current_of, IsPassiveCable, answer_of, reply_of, limit_of, rated}
 
 -- each object has its fields
 pub record ObjectsHaveFields : Type 0 where
@@ -26,3 +26,7 @@ AnswersAreRead = (c : Cable) → IsRead c
 abbrev pub LimitsAreOfRatings : Type 0
 LimitsAreOfRatings =
     (c : Cable) → (limit_of (answer_of c) ≡ 5000) ↔ ((c.plug ≡ plug.Ack) × (c.rating ≡ rating.FiveAmperes))
+
+-- an answer gives as its limit what the cable is rated at, as far as its plug acknowledges
+abbrev pub AnswersTellRatings : Type 0
+AnswersTellRatings = (c : Cable) → limit_of (answer_of c) ≡ rated c

@@ -1,3 +1,4 @@
+pub mod Cables
 pub mod Later
 pub mod Lines
 pub mod Noise

@@ -1,9 +1,7 @@
 -- What the run of a charger relies on where the shared budget changes.
-use Rattle.std.proofs.Common.{◌≡◌, ℕ, ◌<◌, ◌≤◌, ◌+◌, ◌*◌, ◌==◌, ◌&&◌, ◌||◌, nat_lt, Bool, true, false, if◌then◌else◌, is_some, Option, Some, None, refl, ◌∙◌, sym, ap, subst, inl, arith}
+use Rattle.std.proofs.Common.{◌≡◌, ℕ, ◌<◌, ◌≤◌, ◌+◌, ◌*◌, ◌&&◌, Bool, true, false, if◌then◌else◌, is_some, Option, Some, None, refl, ◌∙◌, sym, ap, subst, inl, arith}
 use Rattle.std.proofs.lemmas.Bool.Decides.{nat_tests}
 use Rattle.std.proofs.lemmas.Option.{same_Some}
-use Rattle.pd_header.specs.declared.side.Side.{Side}
-use Rattle.pd_header.specs.declared.side.Side.TheVariants.{Source, Sink, Plug}
 use Rattle.pd_timers.specs.Timers.{place}
 use Rattle.pd_objects.specs.declared.query.Answer.{Answer}
 use Rattle.pd_objects.specs.declared.query.Answer.TheVariants as answers
@@ -21,9 +19,9 @@ use Rattle.pd_port.specs.declared.due.What.{What}
 use Rattle.pd_port.specs.declared.due.What.TheVariants as what
 use Rattle.pd_port.specs.Budget.{KeepsOrSheds, RestsEmpty, RestsAreEmpty, EventsComeFirst}
 use Rattle.pd_port.specs.Happens.{is_budget, is_detach}
-use Rattle.pd_port.specs.Laws.{IsEarliest, source_after_told}
+use Rattle.pd_port.specs.Laws.{source_after_told}
 use Rattle.pd_port.specs.Told.{source_told, told_if_shed}
-use Rattle.pd_port.specs.Port.{rank, side_place, is_before, event_due, dues, due, detached, source_settings, whole, ask, asks, record_after, hold}
+use Rattle.pd_port.specs.Port.{rank, side_place, is_before, due, detached, source_settings, whole, ask, asks, record_after, hold}
 use Rattle.pd_port.proofs.Asked.{record_after-source}
 use Rattle.pd_port.proofs.PortLaws.{due_event}
 use Rattle.pd_port.proofs.Earliest.{due-IsEarliest, is_before-time, some_due}

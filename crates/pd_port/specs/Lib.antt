@@ -1,4 +1,5 @@
 pub mod Budget
+pub mod Cables
 pub mod Changes
 pub mod Happens
 pub mod Laws

@@ -3,6 +3,7 @@
 ghost use Rattle.pd_port.specs.Laws.{StepsSetLater, DuesAreEarliest, SourceStepsOnce, DetachedAreNew, AnswersMatterOnlyWhereAsked, WaitsWhileBusy, StartsNoTwo, BusyLinesAreLeft};
 ghost use Rattle.pd_port.specs.Budget.{ContractsAreTold, HoldsCoverContracts, RestsAreEmpty, ChangesKeepOrShed, HoldsStayAllowed, EventsComeFirst};
 ghost use Rattle.pd_port.specs.Sound.{PortsStaySound, PortsAgree};
+ghost use Rattle.pd_port.specs.Cables.{PortsKnowTheirCables};
 
 /// Each deadline and each line's end that a step sets is later than the step.
 pub fn later()
@@ -66,4 +67,10 @@ pub fn sound()
 /// kept, valid and fits, and the delivered offer is the one that was made, which stays where a request is accepted.
 pub fn agreed()
     ensures { PortsAgree }
+{}
+
+/// A port's source offers under no more than the attached cable is rated at, from the start and after each step, and is off
+/// while nothing is attached: whatever may reach the source tells it of the attached cable alone.
+pub fn cables()
+    ensures { PortsKnowTheirCables }
 {}

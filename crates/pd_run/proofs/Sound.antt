@@ -10,7 +10,9 @@ use Rattle.pd_source.specs.Sound.{AreOffered, IsAnswer}
 use Rattle.pd_plan.specs.Settings.{SettingsData}
 use Rattle.pd_port.specs.Port.{source_settings, ask}
 use Rattle.pd_port.specs.Sound.{IsSoundPort, IsAnswerTo}
+use Rattle.pd_port.specs.Cables.{KnowsCable}
 use Rattle.pd_port.proofs.Sound.{ports_stay_sound}
+use Rattle.pd_port.proofs.Cables.{ports_know_cables, contract_is_rated}
 use Rattle.pd_ledger.specs.Account.{Account, free_of, total_with}
 use Rattle.pd_ledger.specs.Offer.{offered, answer_of}
 use Rattle.pd_scenario.specs.Plan.{Plan, settings_of}
@@ -58,9 +60,25 @@ sound_step plan past m goes is_answered sound q =
     (λ (other : m.port ≢ q). subst (λ (x : Standing). IsSoundPort (settings_of plan q) x.state) (sym (standing-other plan past m q other)) (sound q))
     (cases_eq m.port q)
 
+-- after these moves each port's source knows no more of its cable than the cable is rated at
+abbrev AllKnow : Plan → List Move → Type 0
+AllKnow plan moves = (p : ℕ) → KnowsCable (standing plan moves p).state
+
+know_step : (plan : Plan) (past : List Move) (m : Move) → GoesOn plan past m → AllKnow plan past → AllKnow plan (past ++ m ∷ [])
+know_step plan past m goes know q =
+    ⊎_elim
+    (λ (same : m.port ≡ q).
+    let before : KnowsCable m.before = subst KnowsCable (sym goes.before_is) (know m.port) in
+    let next : KnowsCable (after plan m) = ports_know_cables.after_each (settings_of plan m.port) m.before m.due m.answer before in
+    let here : KnowsCable (standing plan (past ++ m ∷ []) m.port).state = subst (λ (x : Standing). KnowsCable x.state) (sym (standing-same plan past m m.port refl)) next in
+    subst (λ k. KnowsCable (standing plan (past ++ m ∷ []) k).state) same here)
+    (λ (other : m.port ≢ q). subst (λ (x : Standing). KnowsCable x.state) (sym (standing-other plan past m q other)) (know q))
+    (cases_eq m.port q)
+
 -- what is kept along a run
 record Keeps (plan : Plan) (moves : List Move) : Type 0 where
   sound : AreSound plan moves
+  know : AllKnow plan moves
   traced : AllTraced plan moves
 
 keeps_all : (plan : Plan) (past done rest : List Move) → EachAfter (GoesOn plan) past (done ++ rest) → EachAfter (IsAnswered plan) past (done ++ rest) → Keeps plan past → Keeps plan (past ++ done)
@@ -68,16 +86,22 @@ keeps_all plan past [] rest goes is_answered keeps = subst (Keeps plan) (sym (ap
 keeps_all plan past (m ∷ ms) rest goes is_answered keeps =
     let sound = sound_step plan past m goes.0 is_answered.0 keeps.sound in
     subst (Keeps plan) (append_assoc past (m ∷ []) ms)
-    (keeps_all plan (past ++ m ∷ []) ms rest goes.1 is_answered.1 (record { sound = sound; traced = traced_step plan past m goes.0 keeps.sound sound keeps.traced }))
+    (keeps_all plan (past ++ m ∷ []) ms rest goes.1 is_answered.1 (record { sound = sound; know = know_step plan past m goes.0 keeps.know; traced = traced_step plan past m goes.0 keeps.sound sound keeps.traced }))
 
 keeps_at : (plan : Plan) (moves : List Move) → Run plan moves → (done rest : List Move) → moves ≡ done ++ rest → Keeps plan done
 keeps_at plan moves run done rest e =
     keeps_all plan [] done rest (subst (EachAfter (GoesOn plan) []) e run.chained) (subst (EachAfter (IsAnswered plan) []) e run.answered)
-    (record { sound = λ p. ports_stay_sound.at_start (settings_of plan p); traced = traced_start plan })
+    (record {
+      sound = λ p. ports_stay_sound.at_start (settings_of plan p);
+      know = λ p. ports_know_cables.at_start (settings_of plan p);
+      traced = traced_start plan;
+    })
 
 pub runs_are_sound : (plan : Plan) (moves : List Move) → Run plan moves → StaysSound plan moves
 runs_are_sound plan moves run = record {
   sources = λ done rest e. (keeps_at plan moves run done rest e).sound;
   contracts = λ done rest e p c is. ((keeps_at plan moves run done rest e).sound p).contract c is;
   offers = λ done rest e. within_offers plan done (keeps_at plan moves run done rest e).traced;
+  rated = λ done rest e p c is.
+      let k = keeps_at plan moves run done rest e in contract_is_rated (settings_of plan p) (standing plan done p).state c (k.sound p) (k.know p) is;
 }

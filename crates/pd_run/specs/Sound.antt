@@ -1,5 +1,7 @@
 -- What holds of each port's source in a run, and so of its contract.
 use Rattle.std.specs.Prelude.{◌≡◌, ◌≤◌, ℕ, ◌-◌, true, List, ◌∷◌, ◌++◌, Some, slice_get}
+use Rattle.pd_identity.specs.Identity.{rated}
+use Rattle.pd_identity.specs.declared.Cable.{Cable}
 use Rattle.pd_objects.specs.declared.contract.Contract.{Contract}
 use Rattle.pd_source.specs.Request.{voltage_at, contract_of}
 use Rattle.pd_source.specs.Sound.{IsContract, limit_in}
@@ -47,11 +49,18 @@ abbrev pub ContractsAreWithinOffers : Plan → List Move → Type 0
 ContractsAreWithinOffers plan moves =
     (p : ℕ) (c : Contract) → (standing plan moves p).state.source.contract ≡ Some c → IsOfOffer plan moves p c
 
+-- after these moves a cable is attached wherever there is a contract, and the contract's current is at most what it is rated at
+abbrev pub ContractsAreRated : Plan → List Move → Type 0
+ContractsAreRated plan moves =
+    (p : ℕ) (c : Contract) → (standing plan moves p).state.source.contract ≡ Some c →
+    (cable : Cable) × ((standing plan moves p).state.cable ≡ Some cable) × (c.ma ≤ rated cable)
+
 -- So it is at each place of a run.
 pub record StaysSound (plan : Plan) (moves : List Move) : Type 0 where
   pub sources : (done rest : List Move) → moves ≡ done ++ rest → AreSound plan done
   pub contracts : (done rest : List Move) → moves ≡ done ++ rest → AreContracts plan done
   pub offers : (done rest : List Move) → moves ≡ done ++ rest → ContractsAreWithinOffers plan done
+  pub rated : (done rest : List Move) → moves ≡ done ++ rest → ContractsAreRated plan done
 
 abbrev pub RunsAreSound : Type 0
 RunsAreSound = (plan : Plan) (moves : List Move) → Run plan moves → StaysSound plan moves

@@ -21,7 +21,8 @@ pub fn contracts_fit()
 
 /// At each place of a run each contract is of the offer that was delivered before the move that accepted its request: of one of
 /// the port's supplies, at its voltage, and for no more than was offered there, which is within the configured current and
-/// the limit that the source knows of its cable.
+/// the limit that the source knows of its cable. And a cable is attached that is rated at no less than the contract's
+/// current: at 5,000 mA where it is for 5 A and its plug acknowledges, and else at 3,000 mA.
 pub fn sound()
     ensures { RunsAreSound }
 {}

@@ -13,3 +13,4 @@ pub mod SoundSteps
 pub mod Accepting
 pub mod Agreed
 pub mod Rests
+pub mod Attached

@@ -12,9 +12,9 @@ use Rattle.pd_source.specs.declared.kinds.Heard.TheVariants as heard
 use Rattle.pd_source.specs.declared.kinds.Deed.{Deed}
 use Rattle.pd_source.specs.declared.kinds.Deed.TheVariants as deed
 use Rattle.pd_source.specs.Record.{SourceSettings, SourceRecord, off}
-use Rattle.pd_source.specs.Table.{Row, row, Guard, Always, HasContract, HardResetsLeft, Next, To, SR, Failed, among, match_one, fits, first, table, anything_else, row_of, hr, deeds_of_row, holds, heard_of}
+use Rattle.pd_source.specs.Table.{Row, row, Guard, Always, HasContract, HardResetsLeft, To, SR, Failed, among, match_one, first, table, anything_else, row_of, hr, deeds_of_row, holds, heard_of}
 use Rattle.pd_source.specs.Acts.{after, all_after}
-use Rattle.pd_source.specs.Step.{before_row, row_at, deeds_at, stepped, hold_of, powers, contracted, requested}
+use Rattle.pd_source.specs.Step.{before_row, deeds_at, stepped, hold_of, powers, contracted, requested}
 use Rattle.pd_source.proofs.Walk.{and-left, and-right, all_rows}
 use Rattle.pd_source.proofs.SoundRows.{fixed, row_of-fit}
 use Rattle.pd_source.proofs.Holds.{hold_of-off}

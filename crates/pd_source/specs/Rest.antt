@@ -1,5 +1,5 @@
 -- What a source holds of the shared budget while it is at rest, and once it has shed.
-use Rattle.std.specs.Prelude.{◌≡◌, ℕ, Bool, true, List, [], ◌∷◌, Option, None}
+use Rattle.std.specs.Prelude.{◌≡◌, ℕ, Bool, true, [], ◌∷◌, Option, None}
 use Rattle.pd_objects.specs.declared.query.Answer.{Answer}
 use Rattle.pd_source.specs.declared.kinds.State.{State}
 use Rattle.pd_source.specs.declared.kinds.State.TheVariants as state
