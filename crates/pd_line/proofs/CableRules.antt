@@ -36,7 +36,8 @@ use Rattle.pd_plug.specs.declared.kinds.Act.{Act as PlugAct}
 use Rattle.pd_plug.specs.declared.kinds.Act.TheVariants as plug_act_is
 use Rattle.pd_plug.specs.declared.kinds.Stimulus.{Stimulus as PlugStimulus}
 use Rattle.pd_plug.specs.declared.kinds.Stimulus.TheVariants as plug_told
-use Rattle.pd_plug.proofs.Cables.{SendOf, cable-stepped, acts_of-of}
+use Rattle.pd_plug.specs.Laws.{SendOf}
+use Rattle.pd_plug.proofs.Cables.{cable-stepped, acts_of-of}
 use Rattle.pd_line.specs.declared.notes.Fault.{Fault}
 use Rattle.pd_line.specs.declared.notes.Fault.TheVariants.{NoGoodCrc}
 use Rattle.pd_line.specs.declared.notes.Start.{Start}

@@ -58,3 +58,7 @@ heard p fate = option_and_then received (left fate (spelling p))
 abbrev pub kept : Bool → Contents → Option Contents
 kept true p = Some p
 kept false p = None
+
+-- What a side hears, whatever became of it on the line, is the packet of the codes that were sent.
+abbrev pub HeardIsSent : Type 0
+HeardIsSent = (p q : Contents) (fate : Fate) → heard p fate ≡ Some q → Spells (spelling p) q

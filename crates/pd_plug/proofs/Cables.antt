@@ -1,21 +1,14 @@
 -- The plug's engine knows the cable of its attach, and sends what that cable answers.
-use Rattle.std.proofs.Common.{◌≡◌, ℕ, List, [], ◌∷◌, ◌++◌, Option, refl, subst, ◌∙◌}
-use Rattle.pd_identity.specs.declared.Cable.{Cable}
+use Rattle.std.proofs.Common.{◌≡◌, ℕ, List, [], ◌∷◌, ◌++◌, refl, subst, ◌∙◌}
 use Rattle.pd_plug.specs.declared.kinds.Stimulus.{Stimulus}
 use Rattle.pd_plug.specs.declared.kinds.Act.{Act}
-use Rattle.pd_plug.specs.declared.kinds.Act.TheVariants as act
 use Rattle.pd_plug.specs.declared.kinds.Deed.{Deed}
 use Rattle.pd_plug.specs.declared.kinds.Deed.TheVariants as deed
 use Rattle.pd_plug.specs.Record.{PlugRecord}
 use Rattle.pd_plug.specs.Table.{deeds_of_row}
-use Rattle.pd_plug.specs.Acts.{identity_of, after, wants, all_after, all_wants}
+use Rattle.pd_plug.specs.Acts.{after, wants, all_after, all_wants}
 use Rattle.pd_plug.specs.Step.{before_row, row_at, stepped, acts_of}
-
--- what is sent is what this cable answers
-abbrev pub SendOf : Option Cable → List Act → Type 0
-SendOf cable [] = Unit {0}
-SendOf cable (act.SendIdentity objects ∷ acts) = (objects.items ≡ identity_of cable) × SendOf cable acts
-SendOf cable (a ∷ acts) = SendOf cable acts
+use Rattle.pd_plug.specs.Laws.{SendOf, StepsSendOfTheirCables}
 
 cable-after : (d : Deed) (now : ℕ) (r : PlugRecord) → (after d now r).cable ≡ r.cable
 cable-after (deed.Enter s) now r = refl
@@ -46,3 +39,6 @@ all_wants_of (d ∷ ds) now r =
 pub acts_of-of : (now : ℕ) (x : Stimulus) (r : PlugRecord) → SendOf (before_row x r).cable (acts_of now x r)
 unfolding acts_of
 acts_of-of now x r = all_wants_of (deeds_of_row (row_at x (before_row x r))) now (before_row x r)
+
+pub sends_of_cables : StepsSendOfTheirCables
+sends_of_cables now x r = record { cable = cable-stepped now x r; sends = acts_of-of now x r }

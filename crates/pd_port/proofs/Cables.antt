@@ -30,7 +30,8 @@ use Rattle.pd_source.specs.Record.{SourceSettings, SourceRecord, cable_current, 
 use Rattle.pd_source.specs.Step as source
 use Rattle.pd_source.specs.Sound.{limit_in, IsOfAnswer, is_early}
 use Rattle.pd_source.proofs.Limits.{limit-stepped}
-use Rattle.pd_source.proofs.Attached.{is_attach, off-stepped}
+use Rattle.pd_source.specs.Laws.{is_attach}
+use Rattle.pd_source.proofs.Attached.{off-stepped}
 use Rattle.pd_sink.specs.Step as sink
 use Rattle.pd_sink.specs.declared.kinds.Stimulus.TheVariants as sink_told
 use Rattle.pd_plan.specs.declared.event.EventKind.{EventKind}

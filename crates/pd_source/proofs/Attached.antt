@@ -14,11 +14,8 @@ use Rattle.pd_source.specs.Record.{SourceSettings, SourceRecord}
 use Rattle.pd_source.specs.Table.{Row, anything_else, holds, heard_of, heard_reply, row_of, deeds_of_row}
 use Rattle.pd_source.specs.Acts.{all_after}
 use Rattle.pd_source.specs.Step.{before_row, row_at, stepped}
+use Rattle.pd_source.specs.Laws.{is_attach}
 use Rattle.pd_source.proofs.Answered.{state-before}
-
-abbrev pub is_attach : Stimulus → Bool
-is_attach stimulus.Attach = true
-is_attach x = false
 
 abbrev is_attach_heard : Heard → Bool
 is_attach_heard heard.Attach = true

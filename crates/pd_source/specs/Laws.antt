@@ -1,5 +1,5 @@
 -- Laws of the source's policy engine.
-use Rattle.std.specs.Prelude.{◌≡◌, ℕ, ◌≤◌, ◌*◌, ◌%◌, max, Bool, if◌then◌else◌, Option, Some, None, ◌⊎◌}
+use Rattle.std.specs.Prelude.{◌≡◌, ℕ, ◌≤◌, ◌*◌, ◌%◌, max, Bool, true, false, if◌then◌else◌, Option, Some, None, ◌⊎◌}
 use Rattle.arrayvec.specs.ArrayVec.{ArrayVec}
 use Rattle.pd_symbols.specs.Words.{field}
 use Rattle.pd_timers.specs.Deadlines.{SetsLater}
@@ -7,7 +7,9 @@ use Rattle.pd_objects.specs.declared.query.Answer.{Answer}
 use Rattle.pd_objects.specs.declared.query.Query.TheVariants as query
 use Rattle.pd_objects.specs.Answers.{IsAllowed}
 use Rattle.pd_objects.specs.Supply.{SupplyData, IsSupply}
+use Rattle.pd_source.specs.declared.kinds.State.TheVariants as state
 use Rattle.pd_source.specs.declared.kinds.Stimulus.{Stimulus}
+use Rattle.pd_source.specs.declared.kinds.Stimulus.TheVariants as stimulus
 use Rattle.pd_source.specs.Record.{SourceSettings, SourceRecord, off, cable_current}
 use Rattle.pd_source.specs.Acts.{object_of}
 use Rattle.pd_source.specs.Sound.{IsSound, IsAnswer, IsOfAnswer, limit_in, IsMade, IsTaken, IsSettled}
@@ -52,6 +54,16 @@ LimitsAreOfAnswers =
     (s : SourceSettings) (now : ℕ) (x : Stimulus) (a : Option Answer) (r : SourceRecord) →
     ((stepped s now x a r).limit ≡ r.limit)
     ⊎ (((stepped s now x a r).limit ≡ Some cable_current) ⊎ IsOfAnswer x (stepped s now x a r).limit)
+
+abbrev pub is_attach : Stimulus → Bool
+is_attach stimulus.Attach = true
+is_attach x = false
+
+-- a source that is off stays off until a sink is attached
+abbrev pub OffStaysOff : Type 0
+OffStaysOff =
+    (s : SourceSettings) (now : ℕ) (x : Stimulus) (a : Option Answer) (r : SourceRecord) →
+    is_attach x ≡ false → r.state ≡ state.Off → (stepped s now x a r).state ≡ state.Off
 
 -- What holds of the record at each step: from the start, and after each step with an answer to what was asked.
 abbrev pub TheStartIsSound : Type 0

@@ -1,6 +1,6 @@
 //! Laws of the engine's steps.
 
-ghost use Rattle.pd_source.specs.Laws.{StepsSetLater, StepsReadOnlyTheirAnswer, HoldsKeepTheFloor, HoldsOfDetachedAreFloors, HoldsStayAllowed, OffersAskUnderTheLimit, LimitsAreOfAnswers, TheStartIsSound, StepsStaySound, ContractsAreMade, RequestsAreTaken, OffersAreSettled, AcceptingKeepsTheOffer, ObjectsOfferTheirSupplies};
+ghost use Rattle.pd_source.specs.Laws.{StepsSetLater, StepsReadOnlyTheirAnswer, HoldsKeepTheFloor, HoldsOfDetachedAreFloors, HoldsStayAllowed, OffersAskUnderTheLimit, LimitsAreOfAnswers, TheStartIsSound, StepsStaySound, ContractsAreMade, RequestsAreTaken, OffersAreSettled, AcceptingKeepsTheOffer, ObjectsOfferTheirSupplies, OffStaysOff};
 ghost use Rattle.pd_source.specs.Rest.{TheStartIsEmptyAtRest, StepsStayEmptyAtRest, ShedsFallToTheFloor};
 
 /// Each deadline that a step sets is later than the step, and the timer that fell due no longer runs.
@@ -53,4 +53,9 @@ pub fn agreed()
 /// The objects of Source_Capabilities offer the supplies at the currents of the draft offer.
 pub fn objects()
     ensures { ObjectsOfferTheirSupplies }
+{}
+
+/// A source that is off stays off until a sink is attached.
+pub fn off()
+    ensures { OffStaysOff }
 {}
