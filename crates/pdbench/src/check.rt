@@ -4,8 +4,8 @@ ghost use Rattle.std.specs.Prelude.{◌≤◌};
 
 use crate::Ending;
 use crate::fault::tell;
-use crate::files::read_whole;
 use pd_report::BenchFault;
+use pd_run_text::read_whole;
 use pd_scenario_text::{ScenarioFault, port_count, scenario_from_text};
 use std::alloc::Global;
 use std::rt::Files;

@@ -3,9 +3,7 @@
 
 mod check;
 mod decode;
-mod devices;
 mod fault;
-mod files;
 mod run;
 mod words;
 

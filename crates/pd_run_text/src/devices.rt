@@ -6,21 +6,11 @@ use pd_bench::TextIn;
 use pd_report::{DeviceFault, TextOut};
 use std::io::{Read, Write};
 
-/// A reader that counts its failures.
+/// A reader, and how many of its calls failed, up to the greatest value.
 #[derive(Drop)]
 pub struct Input<R> {
-    reader: R,
-    failures: u64,
-}
-
-impl<R> Input<R> {
-    /// The reader, which has not failed yet.
-    pub fn new(reader: R) -> Self {
-        Input {
-            reader,
-            failures: 0,
-        }
-    }
+    pub reader: R,
+    pub failures: u64,
 }
 
 impl<R: Read> TextIn for Input<R> {
@@ -39,21 +29,11 @@ impl<R: Read> TextIn for Input<R> {
     }
 }
 
-/// A writer that counts its failures.
+/// A writer, and how many of its calls failed, up to the greatest value.
 #[derive(Drop)]
 pub struct Output<W> {
-    writer: W,
-    failures: u64,
-}
-
-impl<W> Output<W> {
-    /// The writer, which has not failed yet.
-    pub fn new(writer: W) -> Self {
-        Output {
-            writer,
-            failures: 0,
-        }
-    }
+    pub writer: W,
+    pub failures: u64,
 }
 
 impl<W: Write> TextOut for Output<W> {

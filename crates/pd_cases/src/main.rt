@@ -1,0 +1,84 @@
+//! The worked cases: `pd_cases FOLDER` runs a session over each case that the list `FOLDER/cases.txt` names, and compares
+//! what it writes with the text that is expected. A case is a folder of `FOLDER/cases` with `scenario.toml`, `edits.txt`
+//! and `output.txt`.
+#![tactic(auto)]
+
+mod answers;
+mod cases;
+
+use answers::{kept_answers, plain_answers};
+use cases::{Case, read_case};
+use pd_run_text::read_whole;
+use std::alloc::{AllocError, Global};
+use std::process::ExitCode;
+use std::rt::{Env, Files};
+use std::{env, io};
+
+/// How many cases there are, and how many of them differ.
+#[derive(Clone, Copy, Debug, PartialEq, Eq)]
+pub struct Counts {
+    pub cases: u64,
+    pub differ: u64,
+}
+
+/// Tells that a case differs, where it does, and answers whether it is as expected.
+fn tell<R: Print>(rt: &R, name: &str, runner: &str, is_expected: bool) -> io::Result<bool> {
+    if !is_expected {
+        println!(rt; "{name} differs ({runner})")?;
+    }
+    Ok(is_expected)
+}
+
+/// Runs a case with each runner, and answers whether all write what is expected.
+fn run_case<R: Print + Alloc<A = Global>>(rt: &R, name: &str, case: &Case) -> io::Result<bool> {
+    let plain = tell(rt, name, "plain", plain_answers(rt.alloc(), case))?;
+    let kept = tell(rt, name, "kept", kept_answers(rt.alloc(), case))?;
+    Ok(plain && kept)
+}
+
+/// Runs the cases of a folder.
+fn run_cases<R: Files + Print + Alloc<A = Global>>(rt: &R, folder: &str) -> io::Result<Counts> {
+    let path = format!(in rt.alloc(); "{folder}/cases.txt")?;
+    let list = read_whole(rt, path.as_str())?;
+    let mut counts = Counts {
+        cases: 0,
+        differ: 0,
+    };
+    for line in list.split(|byte| *byte == b'\n') {
+        let Ok(name) = str::from_utf8(line) else {
+            return Err(io::Error::from(io::ErrorKind::InvalidData));
+        };
+        if name.is_empty() {
+            continue;
+        }
+        let case = read_case(rt, folder, name)?;
+        counts.cases = counts.cases.saturating_add(1);
+        if !run_case(rt, name, &case)? {
+            counts.differ = counts.differ.saturating_add(1);
+        }
+    }
+    Ok(counts)
+}
+
+/// Runs the cases of the folder that the command line names, and tells how many differ. The answer is the status.
+fn obey<R: Files + Print + Eprint + Env + Alloc<A = Global>>(rt: &R) -> io::Result<u8> {
+    let words: Result<Vec<String>, AllocError> = env::args(rt)?.collect(rt.alloc());
+    let words = words?;
+    let [_, folder] = words.as_slice() else {
+        eprintln!(rt; "usage: pd_cases FOLDER")?;
+        return Ok(2);
+    };
+    let counts = run_cases(rt, folder.as_str())?;
+    println!(rt; "{} cases, {} differ", counts.cases, counts.differ)?;
+    Ok(if counts.differ == 0 { 0 } else { 1 })
+}
+
+fn main(rt: HostRuntime) -> ExitCode {
+    match obey(&rt) {
+        Ok(status) => ExitCode::from(status),
+        Err(_) => {
+            let _ = eprintln!(rt; "cannot read");
+            ExitCode::from(3)
+        }
+    }
+}

@@ -1,0 +1,46 @@
+-- What a session over texts comes to.
+use Rattle.std.specs.Prelude.{◌≡◌, ℕ, ◌⊎◌, List, ◌++◌, Result, Ok, Err, Option, Some, IfSome}
+use Rattle.pd_scenario.specs.Contents.{Contents}
+use Rattle.pd_scenario_tables.specs.declared.fault.ScenarioFault.{ScenarioFault}
+use Rattle.pd_scenario_text.specs.Reading.{Counts, Reads}
+use Rattle.pd_report.specs.Device.{one_more}
+use Rattle.pd_report.specs.declared.fault.BenchFault.TheVariants.{WriteFailed}
+use Rattle.pd_bench.specs.declared.tally.Tally.{Tally}
+use Rattle.pd_bench.specs.Session.{Session, SessionEnds}
+use Rattle.pd_run_text.specs.declared.texts.RunFault.{RunFault}
+use Rattle.pd_run_text.specs.declared.texts.RunFault.TheVariants as faults
+
+-- the text is a scenario of so many ports
+pub record IsScenarioText (text : List ℕ) (n : ℕ) (s : Contents) : Type 0 where
+  pub counts : Counts text (Ok n)
+  pub reads : Reads n text (Ok s)
+
+-- out is what a session over these edits writes, for the scenario of the text
+pub record IsAnswer (text edits out : List ℕ) (tally : Tally) : Type 0 where
+  pub ports : ℕ
+  pub scenario : Contents
+  pub is_scenario : IsScenarioText text ports scenario
+  pub session : Session ports scenario edits out tally
+
+abbrev pub IsAnswered : List ℕ → List ℕ → List ℕ → Type 0
+IsAnswered text edits out = (tally : Tally) × IsAnswer text edits out tally
+
+-- where the writer tells its bytes, they grew by that text
+abbrev pub WritesAnswer : List ℕ → List ℕ → Tally → Option (List ℕ) → Option (List ℕ) → Type 0
+WritesAnswer text edits tally taken taken' = IfSome taken (λ before. (out : List ℕ) × IsAnswer text edits out tally × (taken' ≡ Some (before ++ out)))
+
+-- the text has no scenario: its ports can't be counted, or its scenario is refused
+abbrev pub IsRefused : List ℕ → ScenarioFault → Type 0
+IsRefused text fault = Counts text (Err fault) ⊎ ((n : ℕ) × Counts text (Ok n) × Reads n text (Err fault))
+
+-- Where the text is refused, nothing is written; where the session fails, it ends as sessions over these edits do.
+abbrev pub RunsText : Result Tally RunFault → List ℕ → List ℕ → Option (List ℕ) → Option (List ℕ) → Type 0
+RunsText (Ok tally) text edits taken taken' = WritesAnswer text edits tally taken taken'
+RunsText (Err (faults.Scenario fault)) text edits taken taken' = IsRefused text fault × (taken' ≡ taken)
+RunsText (Err (faults.Session fault)) text edits taken taken' =
+    (n : ℕ) × (s : Contents) × (left' : Option (List ℕ)) × IsScenarioText text n s × SessionEnds n (Err fault) (Some edits) left' taken taken' s
+
+-- the count of failed writes says whether one failed
+abbrev pub CountsWrites : Result Tally RunFault → ℕ → ℕ → Type 0
+CountsWrites (Err (faults.Session WriteFailed)) writes writes' = writes' ≡ one_more writes
+CountsWrites answer writes writes' = writes' ≡ writes

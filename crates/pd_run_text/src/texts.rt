@@ -1,0 +1,103 @@
+//! Sessions over texts.
+
+ghost use Rattle.std.specs.Prelude.{◌≡◌, ℕ, ◌≤◌, Ok};
+ghost use Rattle.pd_scenario_text.specs.Reading.{Counts};
+ghost use Rattle.pd_run_text.specs.Texts.{CountsWrites, RunsText};
+
+use crate::devices::Input;
+use pd_bench::{Tally, session};
+use pd_keep::Kept;
+use pd_port::Meter;
+use pd_report::{BenchFault, TextOut};
+use pd_run::{Plain, Runner};
+use pd_scenario_text::{ScenarioFault, port_count, scenario_from_text};
+use std::alloc::Global;
+
+/// Why a session over texts didn't come to its end.
+#[derive(Clone, Copy, Debug, PartialEq, Eq)]
+pub enum RunFault {
+    /// The text has no scenario.
+    Scenario(ScenarioFault),
+    /// The session failed.
+    Session(BenchFault),
+}
+
+// Runs a session with a runner of as many ports as the text has.
+macro_rules! run_by {
+    ($runner:ident, $alloc:ident, $text:ident, $edits:ident, $writer:ident, $meter:ident) => {
+        match port_count($alloc, $text) {
+            Ok(1) => run_text::<1, $runner<1>, W>($alloc, $text, $edits, $writer, $meter),
+            Ok(2) => run_text::<2, $runner<2>, W>($alloc, $text, $edits, $writer, $meter),
+            Ok(3) => run_text::<3, $runner<3>, W>($alloc, $text, $edits, $writer, $meter),
+            Ok(4) => run_text::<4, $runner<4>, W>($alloc, $text, $edits, $writer, $meter),
+            Ok(5) => run_text::<5, $runner<5>, W>($alloc, $text, $edits, $writer, $meter),
+            Ok(6) => run_text::<6, $runner<6>, W>($alloc, $text, $edits, $writer, $meter),
+            Ok(7) => run_text::<7, $runner<7>, W>($alloc, $text, $edits, $writer, $meter),
+            Ok(8) => run_text::<8, $runner<8>, W>($alloc, $text, $edits, $writer, $meter),
+            Ok(_) => Err(RunFault::Scenario(ScenarioFault::Limit)),
+            Err(fault) => Err(RunFault::Scenario(fault)),
+        }
+    };
+}
+
+/// Runs a session over an edit script for the scenario of a text, which has 1 to 8 ports. Each edit is run from the
+/// start.
+///
+/// # Errors
+/// `Scenario` where the text is refused, and nothing is written; `Session` where the session fails.
+pub fn run_plain<W: TextOut>(
+    alloc: Global,
+    text: &[u8],
+    edits: &[u8],
+    writer: &mut W,
+    meter: &mut Meter,
+) -> Result<Tally, RunFault>
+    ensures text { RunsText result text.now edits.now (W.taken writer.old) (W.taken writer.new) }
+    ensures counts { CountsWrites result (W.failures writer.old) (W.failures writer.new) }
+{
+    run_by!(Plain, alloc, text, edits, writer, meter)
+}
+
+/// Runs a session over an edit script for the scenario of a text, which has 1 to 8 ports. The moves of each run are kept
+/// for the next.
+///
+/// # Errors
+/// `Scenario` where the text is refused, and nothing is written; `Session` where the session fails.
+pub fn run_kept<W: TextOut>(
+    alloc: Global,
+    text: &[u8],
+    edits: &[u8],
+    writer: &mut W,
+    meter: &mut Meter,
+) -> Result<Tally, RunFault>
+    ensures text { RunsText result text.now edits.now (W.taken writer.old) (W.taken writer.new) }
+    ensures counts { CountsWrites result (W.failures writer.old) (W.failures writer.new) }
+{
+    run_by!(Kept, alloc, text, edits, writer, meter)
+}
+
+// Runs a session for the scenario of a text of N ports.
+fn run_text<const N: usize, T: Runner<N> + Drop, W: TextOut>(
+    alloc: Global,
+    text: &[u8],
+    edits: &[u8],
+    writer: &mut W,
+    meter: &mut Meter,
+) -> Result<Tally, RunFault>
+    requires from_one { 1 ≤ N }
+    requires to_eight { N ≤ 8 }
+    requires counts { Counts text.now (Ok N) }
+    ensures text { RunsText result text.now edits.now (W.taken writer.old) (W.taken writer.new) }
+    ensures counts { CountsWrites result (W.failures writer.old) (W.failures writer.new) }
+{
+    let scenario = match scenario_from_text::<N>(alloc, text) {
+        Ok(scenario) => scenario,
+        Err(fault) => return Err(RunFault::Scenario(fault)),
+    };
+    let mut runner = T::empty(alloc);
+    let mut reader = Input {
+        reader: edits,
+        failures: 0,
+    };
+    session(alloc, scenario, &mut runner, &mut reader, writer, meter).map_err(RunFault::Session)
+}
