@@ -9,7 +9,7 @@ use pd_report::{DeviceFault, TextOut};
 
 /// Gives the bytes of a text, a few at a time, and fails at one call.
 #[derive(Drop)]
-pub struct Script<'a> {
+pub(crate) struct Script<'a> {
     rest: &'a [u8],
     most: usize,
     calls: u32,
@@ -19,7 +19,7 @@ pub struct Script<'a> {
 
 impl<'a> Script<'a> {
     /// A reader of a text, at most so many bytes a call, that fails at a call numbered from 1; at none for 0.
-    pub fn new(text: &'a [u8], most: usize, fails_at: u32) -> Self {
+    pub(crate) fn new(text: &'a [u8], most: usize, fails_at: u32) -> Self {
         Script {
             rest: text,
             most,
@@ -51,7 +51,7 @@ impl<'a> TextIn for Script<'a> {
 
 /// Holds what is written, takes a few bytes at a time, and fails at one call.
 #[derive(Drop)]
-pub struct Page {
+pub(crate) struct Page {
     text: ArrayVec<u8, 4096>,
     most: usize,
     calls: u32,
@@ -63,7 +63,7 @@ pub struct Page {
 impl Page {
     /// A writer of at most so many bytes a call, that fails at a call numbered from 1, or takes none there; at none
     /// for 0.
-    pub fn new(most: usize, fails_at: u32, takes_none: bool) -> Self {
+    pub(crate) fn new(most: usize, fails_at: u32, takes_none: bool) -> Self {
         Page {
             text: ArrayVec::new(),
             most,
@@ -75,7 +75,7 @@ impl Page {
     }
 
     /// What was written.
-    pub fn text(&self) -> &[u8] {
+    pub(crate) fn text(&self) -> &[u8] {
         self.text.as_slice()
     }
 }
