@@ -102,3 +102,35 @@ fn of_another_cable(rt: HostRuntime) -> Result<(), Fail> {
     assert_eq!(rt; plain, Some((334, 334)));
     Ok(())
 }
+
+/// Whether a runner stands for the edited scenario, or, where there is no memory, for the scenario before.
+fn replaces_or_stays<T: Runner<1> + Drop>(alloc: Global) -> bool {
+    let Ok(scenario) = scenario_from_text::<1>(alloc, PHONE) else {
+        return true;
+    };
+    let Ok(Line::Edit(edit)) = Line::read(b"insert 2 58800 1 lose") else {
+        return false;
+    };
+    let Ok(edited) = apply(alloc, &scenario, &edit) else {
+        return true;
+    };
+    let mut meter = Meter::new();
+    let mut runner = T::empty(alloc);
+    let first = match runner.replace(alloc, &scenario, &mut meter) {
+        Ok(()) => 263,
+        Err(_) => 0,
+    };
+    let stands_for_first = runner.len() == first;
+    let then = match runner.replace(alloc, &edited, &mut meter) {
+        Ok(()) => 268,
+        Err(_) => first,
+    };
+    stands_for_first && runner.len() == then
+}
+
+/// Here each growth may be refused in turn.
+#[test]
+fn edited_run_or_no_memory(rt: HostRuntime) {
+    assert!(rt; replaces_or_stays::<Kept<1>>(rt.alloc()));
+    assert!(rt; replaces_or_stays::<Plain<1>>(rt.alloc()));
+}
