@@ -6,7 +6,7 @@
 --     caps PORT MV MA [MV MA]..      floor PORT MW      budget MW      end AT
 --     show transcript PORT      show contracts      show faults      show margins
 -- KIND is attach CABLE SINK, detach, demand MW, lose, damage PLACE MASK, get_source or get_sink.
-use Rattle.std.specs.Prelude.{ℕ, Bool, true, false, ◌&&◌, ◌==◌, ◌||◌, nat_lt, nat_le, List, [], ◌∷◌, ◌++◌, length, codes, Option, Some, None, option_map, ok_or, Result, Ok, Err, bytes_eq, if◌then◌else◌}
+use Rattle.std.specs.Prelude.{ℕ, Bool, false, ◌&&◌, ◌==◌, ◌||◌, nat_lt, nat_le, List, [], ◌∷◌, ◌++◌, length, codes, Option, Some, None, option_map, ok_or, Result, Ok, Err, bytes_eq, if◌then◌else◌}
 use Rattle.std.specs.List.{list_all}
 use Rattle.arrayvec.specs.ArrayVec.{ArrayVec}
 use Rattle.pd_sink.specs.declared.settings.SinkRevision.{SinkRevision}

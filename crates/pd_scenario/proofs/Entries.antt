@@ -1,6 +1,6 @@
 -- The events in a map by their times and numbers.
-use Rattle.std.proofs.Common.{◌≡◌, ℕ, Bool, true, false, ◌&&◌, ◌||◌, ◌==◌, List, [], ◌∷◌, ◌++◌, fold, map, refl, sym, ap, ◌∙◌, inl, inr, arith, Some, None}
-use Rattle.std.specs.Prelude.{Option, nat_lt, nat_eq}
+use Rattle.std.proofs.Common.{◌≡◌, ℕ, true, ◌&&◌, ◌||◌, ◌==◌, List, [], ◌∷◌, ◌++◌, fold, map, refl, sym, ap, inl, inr, arith, Some, None}
+use Rattle.std.specs.Prelude.{Option, nat_lt}
 use Rattle.std.specs.Option.{option_to_list}
 use Rattle.std.specs.Ordering.{nat_cmp, ordering_then}
 use Rattle.std.specs.declared.cmp.Ordering.{Ordering}
@@ -14,7 +14,7 @@ use Rattle.std.proofs.lemmas.List.Sums.{fold-append}
 use Rattle.pd_plan.specs.Events.{EventData}
 use Rattle.pd_scenario.specs.Plan.{number_of}
 use Rattle.pd_scenario.specs.Script.{is_before, put}
-use Rattle.pd_scenario.proofs.Ordered.{SamePlace, same}
+use Rattle.pd_scenario.proofs.Ordered.{same}
 
 abbrev pub place : EventData → ℕ × ℕ
 place e = (e.at, number_of e.happening)

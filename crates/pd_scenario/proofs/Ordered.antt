@@ -1,7 +1,7 @@
 -- The events of a port stand in the order of their times and numbers, and are exactly its events.
-use Rattle.std.proofs.Common.{◌≡◌, ℕ, zero, suc, ◌+◌, ◌<◌, ◌≤◌, ◌⊎◌, Bool, true, false, ◌||◌, ◌&&◌, ◌==◌, List, [], ◌∷◌, length, fold, refl, sym, ◌∙◌, inl, inr, arith, add-one, Some}
+use Rattle.std.proofs.Common.{◌≡◌, ℕ, zero, suc, ◌+◌, ◌<◌, ◌≤◌, ◌⊎◌, true, false, ◌||◌, ◌&&◌, ◌==◌, List, [], ◌∷◌, length, fold, refl, sym, ◌∙◌, inl, inr, arith, add-one, Some}
 use Rattle.std.specs.Prelude.{slice_get, nat_lt, Contains}
-use Rattle.std.proofs.lemmas.Bool.{cases_Bool, or_parts, or_cases, and_parts, and_cases}
+use Rattle.std.proofs.lemmas.Bool.{cases_Bool}
 use Rattle.std.proofs.lemmas.Bool.Decides.{nat_tests}
 use Rattle.pd_plan.specs.Events.{EventData}
 use Rattle.pd_scenario.specs.Plan.{ComesBefore, number_of}

@@ -1,10 +1,10 @@
 -- The plan of a valid scenario is a plan.
-use Rattle.std.proofs.Common.{◌≡◌, ℕ, ◌+◌, ◌*◌, ◌<◌, ◌≤◌, ◌⊎◌, ◌↔◌, Bool, true, false, not, ◌&&◌, cond, List, [], ◌∷◌, length, map, fold, refl, sym, ap, ◌∙◌, inl, inr, arith, add-one, Some, None}
+use Rattle.std.proofs.Common.{◌≡◌, ℕ, ◌+◌, ◌*◌, ◌<◌, ◌≤◌, Bool, true, false, not, ◌&&◌, cond, List, [], ◌∷◌, length, map, fold, refl, sym, ap, ◌∙◌, inl, inr, arith, add-one, Some, None}
 use Rattle.std.specs.Prelude.{Option, option_map, sum, sum_by, slice_get, ◌==◌, nat_le, Contains}
-use Rattle.std.specs.List.{range_with_len, filter_map, list_any, list_all}
-use Rattle.std.proofs.lemmas.Bool.{cases_Bool, cases_lt, false≢true, and_parts, or_left, not-true}
+use Rattle.std.specs.List.{range_with_len, filter_map}
+use Rattle.std.proofs.lemmas.Bool.{cases_Bool, cases_lt, false≢true, and_parts, not-true}
 use Rattle.std.proofs.lemmas.Bool.Decides.{nat_tests}
-use Rattle.std.proofs.lemmas.List.{length-map, get_or_past}
+use Rattle.std.proofs.lemmas.List.{get_or_past}
 use Rattle.std.proofs.lemmas.List.Sums.{sum_by-cons}
 use Rattle.std.proofs.lemmas.List.FromFn.{get_or-map-range_with_len, length-map-range_with_len}
 use Rattle.pd_plan.specs.Events.{EventData}
@@ -25,7 +25,7 @@ use Rattle.pd_scenario.specs.Plan.{IsPlan, ComesBefore, script_of, number_of, to
 use Rattle.pd_scenario.specs.Contents.{Contents, IsValid, has_id, ids_differ, event_fits, happening_fits, budget_in, budget_of}
 use Rattle.pd_scenario.specs.Script.{script, events_for, event_for, seen_by, resolved, put}
 use Rattle.pd_scenario.specs.Plans.{plan_of, change_in, change_of, changes_of, IsScript}
-use Rattle.pd_scenario.proofs.Lists.{cases, none, passes, From, filter_map_from, filter_map_has, length-filter_map, least_first, least_of}
+use Rattle.pd_scenario.proofs.Lists.{cases, none, passes, filter_map_from, filter_map_has, length-filter_map, least_first, least_of}
 use Rattle.pd_scenario.proofs.Ordered.{SamePlace, InOrder-each, each_only, each_all, length-each, adjacent, from_adjacent, one_order}
 use Rattle.pd_scenario.proofs.Forces.{last_is_there}
 

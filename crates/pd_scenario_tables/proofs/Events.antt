@@ -1,10 +1,10 @@
 -- What the sound table of an event says is within the limits of a scenario.
-use Rattle.std.proofs.Common.{◌≡◌, ℕ, ◌<◌, ◌≤◌, pos, Bool, true, false, not, ◌&&◌, List, refl, sym, lit<, Some, None}
+use Rattle.std.proofs.Common.{◌≡◌, ℕ, ◌≤◌, true, false, ◌&&◌, refl, sym, lit<, Some, None}
 use Rattle.std.specs.Prelude.{Option, is_none}
 use Rattle.std.proofs.lemmas.Bool.{false≢true, and_from, not-false}
 use Rattle.toml.specs.Data.{Data, Members}
-use Rattle.pd_scenario.specs.Limits.{allows, is_port}
-use Rattle.pd_scenario.specs.Contents.{event_fits, happening_fits, kind_fits}
+use Rattle.pd_scenario.specs.Limits.{allows}
+use Rattle.pd_scenario.specs.Contents.{event_fits, happening_fits}
 use Rattle.pd_scenario.specs.declared.limits.Quantity.TheVariants as quantity
 use Rattle.pd_scenario_tables.specs.declared.schema.Version.{Version}
 use Rattle.pd_scenario_tables.specs.declared.schema.EventName.{EventName}
@@ -13,10 +13,10 @@ use Rattle.pd_scenario_tables.specs.declared.schema.TableKind.TheVariants.{Event
 use Rattle.pd_scenario_tables.specs.declared.schema.Key.TheVariants as key
 use Rattle.pd_scenario_tables.specs.declared.schema.Need.TheVariants.{Required}
 use Rattle.pd_scenario_tables.specs.declared.schema.Form.TheVariants as form
-use Rattle.pd_scenario_tables.specs.Schema.{rule, rules_of, event_rules, any_event}
+use Rattle.pd_scenario_tables.specs.Schema.{rule}
 use Rattle.pd_scenario_tables.specs.Words.{event_named}
-use Rattle.pd_scenario_tables.specs.Values.{word_of, small, is_known}
-use Rattle.pd_scenario_tables.specs.Tables.{value_at, word_in, value_fails, number_at, event_at, is_sound, is_sound_event}
+use Rattle.pd_scenario_tables.specs.Values.{word_of, is_known}
+use Rattle.pd_scenario_tables.specs.Tables.{value_at, word_in, value_fails, event_at, is_sound, is_sound_event}
 use Rattle.pd_scenario_tables.specs.Convert.{happening_of, event_of}
 use Rattle.pd_scenario_tables.proofs.Sound.{Holds, holds, needed, port_needed}
 use Rattle.pd_scenario_tables.proofs.Parts.{attach_named, demand_allowed, damage_allowed, budget_allowed}

@@ -1,5 +1,5 @@
 -- The elements of an array and the keys of a table, where the code has a `Vec` and a map.
-use Rattle.std.proofs.Common.{◌≡◌, ℕ, zero, suc, Bool, true, false, not, ◌||◌, ◌&&◌, length, List, [], ◌∷◌, Option, Some, None, String, Vec, Global, BTreeMap, string_bytes, map, pos, ℤ, refl, arith, sym, ap, ◌∙◌, ◌++◌, ◌+◌, ◌<◌, ◌≤◌, take, get_or}
+use Rattle.std.proofs.Common.{◌≡◌, ℕ, zero, suc, Bool, true, false, ◌||◌, ◌&&◌, length, List, [], ◌∷◌, Option, Some, None, string_bytes, map, pos, refl, arith, ap, ◌∙◌, ◌++◌, ◌+◌, ◌<◌, ◌≤◌, take, get_or}
 use Rattle.std.specs.List.{list_any, list_all, filter_map, cons_option}
 use Rattle.std.specs.Option.{option_to_list}
 use Rattle.std.proofs.lemmas.Bool.{and_parts}
@@ -10,7 +10,6 @@ use Rattle.toml.specs.Data.{Data, array}
 use Rattle.toml.specs.View.{view, items_view, members_view}
 use Rattle.toml.specs.declared.value.Value.{Value}
 use Rattle.toml.proofs.Views.{Entry}
-use Rattle.pd_objects.specs.Supply.{SupplyData}
 use Rattle.pd_scenario_tables.specs.Values.{elements, is_pair, pair_of, are_rising, supply_of}
 use Rattle.pd_scenario_tables.specs.Tables.{keys_of}
 

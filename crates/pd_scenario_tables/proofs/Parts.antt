@@ -1,16 +1,16 @@
 -- What the sound tables of a file say is within the limits of a scenario.
-use Rattle.std.proofs.Common.{◌≡◌, ℕ, ◌<◌, ◌≤◌, ◌%◌, ℤ, pos, Bool, true, false, not, ◌&&◌, ◌==◌, List, [], ◌∷◌, length, map, refl, sym, ◌∙◌, ap, arith, lit<, Some, None}
-use Rattle.std.specs.Prelude.{Option, option_map, is_none, nat_le, nat_lt, slice_get}
+use Rattle.std.proofs.Common.{◌≡◌, ℕ, ◌<◌, ◌≤◌, ◌%◌, pos, true, false, not, ◌&&◌, ◌==◌, List, [], ◌∷◌, length, map, refl, sym, ap, arith, lit<, Some, None}
+use Rattle.std.specs.Prelude.{Option, is_none, nat_le, nat_lt}
 use Rattle.std.specs.List.{list_all}
 use Rattle.std.proofs.lemmas.Bool.{false≢true, and_parts, not-true, not-false}
 use Rattle.std.proofs.lemmas.Bool.Decides.{nat_tests}
 use Rattle.toml.specs.Data.{Data, Members}
 use Rattle.pd_objects.specs.Supply.{SupplyData, IsSupply}
-use Rattle.pd_packet.specs.Damage.{DamageData, IsDamage}
+use Rattle.pd_packet.specs.Damage.{IsDamage}
 use Rattle.pd_sink.specs.Settings.{SinkData, IsSink, IsDemand}
 use Rattle.pd_plan.specs.Settings.{SettingsData, IsSettings, AreRising}
 use Rattle.pd_scenario.specs.Names.{is_name}
-use Rattle.pd_scenario.specs.Limits.{allows, is_port}
+use Rattle.pd_scenario.specs.Limits.{allows}
 use Rattle.pd_scenario.specs.declared.limits.Quantity.TheVariants as quantity
 use Rattle.pd_scenario_tables.specs.declared.schema.Version.{Version}
 use Rattle.pd_scenario_tables.specs.declared.schema.Version.TheVariants.{One, Two}
@@ -25,8 +25,8 @@ use Rattle.pd_scenario_tables.specs.declared.fault.ScenarioFault.TheVariants as 
 use Rattle.pd_scenario_tables.specs.Schema.{rule, port_rules}
 use Rattle.pd_scenario_tables.specs.Values.{elements_of, small, pair_of, supply_of, supplies_of, is_within, is_supply, are_rising, are_supplies, passes}
 use Rattle.pd_scenario_tables.specs.Tables.{value_at, value_fails, some_value_fails, elements_in, elements_at, word_at, number_at, fails, is_sound, is_sound_port}
-use Rattle.pd_scenario_tables.specs.Convert.{settings_of, cable_of, sink_of}
-use Rattle.pd_scenario_tables.proofs.Sound.{Holds, holds, at_rule, within_small, needed, number_or, port_needed, name_needed}
+use Rattle.pd_scenario_tables.specs.Convert.{settings_of, sink_of}
+use Rattle.pd_scenario_tables.proofs.Sound.{Holds, holds, at_rule, within_small, needed, number_or, name_needed}
 
 -- ---- limits as the parts of a scenario state them
 

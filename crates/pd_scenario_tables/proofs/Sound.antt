@@ -1,18 +1,16 @@
 -- What holds of a sound table, rule by rule.
-use Rattle.std.proofs.Common.{◌≡◌, ℕ, zero, suc, ◌<◌, ◌≤◌, ◌^◌, ◌%◌, ℤ, pos, negsuc, Bool, true, false, not, ◌||◌, ◌&&◌, ◌==◌, cond, List, [], ◌∷◌, length, get_or, map, refl, sym, ◌∙◌, inl, inr, arith, lit<, Some, None}
-use Rattle.std.specs.Prelude.{Option, is_none, is_some, nat_le, nat_lt, Contains}
-use Rattle.std.specs.List.{list_any, list_all}
-use Rattle.std.proofs.lemmas.Bool.{cases_Bool, false≢true, and_parts, or_parts, not-true, not-false}
+use Rattle.std.proofs.Common.{◌≡◌, ℕ, zero, suc, ◌<◌, ◌≤◌, ◌^◌, ℤ, pos, negsuc, Bool, true, false, not, ◌&&◌, List, [], ◌∷◌, length, get_or, refl, sym, arith, Some, None}
+use Rattle.std.specs.Prelude.{Option, is_none, nat_le, Contains}
+use Rattle.std.specs.List.{list_any}
+use Rattle.std.proofs.lemmas.Bool.{false≢true, and_parts, or_parts, not-false}
 use Rattle.std.proofs.lemmas.Bool.Decides.{nat_tests}
 use Rattle.toml.specs.Data.{Data, Members}
-use Rattle.pd_objects.specs.Supply.{SupplyData, IsSupply}
 use Rattle.pd_scenario.specs.Names.{is_name}
 use Rattle.pd_scenario.specs.Limits.{allows, is_port}
 use Rattle.pd_scenario.specs.declared.limits.Quantity.{Quantity}
 use Rattle.pd_scenario.specs.declared.limits.Quantity.TheVariants as quantity
 use Rattle.pd_scenario_tables.specs.declared.schema.Version.{Version}
 use Rattle.pd_scenario_tables.specs.declared.schema.TableKind.{TableKind}
-use Rattle.pd_scenario_tables.specs.declared.schema.TableKind.TheVariants as kinds
 use Rattle.pd_scenario_tables.specs.declared.schema.Key.{Key}
 use Rattle.pd_scenario_tables.specs.declared.schema.Need.TheVariants as need
 use Rattle.pd_scenario_tables.specs.declared.schema.Need.TheVariants.{Required}
@@ -20,7 +18,7 @@ use Rattle.pd_scenario_tables.specs.declared.schema.Form.TheVariants.{Number, Po
 use Rattle.pd_scenario_tables.specs.declared.schema.Rule.{Rule}
 use Rattle.pd_scenario_tables.specs.declared.fault.ScenarioFault.TheVariants as fault
 use Rattle.pd_scenario_tables.specs.Schema.{rule, rules_of}
-use Rattle.pd_scenario_tables.specs.Values.{whole_of, word_of, natural, small, pair_of, supply_of, is_within, is_port_number, is_supply, passes}
+use Rattle.pd_scenario_tables.specs.Values.{whole_of, word_of, small, is_within, is_port_number, passes}
 use Rattle.pd_scenario_tables.specs.Tables.{value_at, whole_in, word_in, is_required, value_fails, lacks_key, some_value_fails, fails, is_sound}
 
 -- ---- what a sound table says of one rule

@@ -1,7 +1,7 @@
 -- The refusals of one table of a file.
-use Rattle.std.specs.Prelude.{◌≡◌, ℕ, ℤ, pos, Bool, true, false, not, ◌||◌, ◌&&◌, List, [], ◌∷◌, Option, Some, None, is_none, unwrap_or, bytes_eq, if◌then◌else◌}
+use Rattle.std.specs.Prelude.{◌≡◌, ℕ, ℤ, pos, Bool, true, false, not, ◌&&◌, List, [], ◌∷◌, Option, Some, None, is_none, unwrap_or, bytes_eq, if◌then◌else◌}
 use Rattle.std.specs.List.{list_any, filter_map}
-use Rattle.toml.specs.Data.{Data, array, Members, no_members, member, get_member, as_table}
+use Rattle.toml.specs.Data.{Data, Members, no_members, member, get_member, as_table}
 use Rattle.pd_sink.specs.declared.settings.SinkMode.{SinkMode}
 use Rattle.pd_sink.specs.declared.settings.SinkMode.TheVariants.{PowerDelivery}
 use Rattle.pd_scenario_tables.specs.declared.schema.Version.{Version}
@@ -18,7 +18,7 @@ use Rattle.pd_scenario_tables.specs.declared.fault.ScenarioFault.{ScenarioFault}
 use Rattle.pd_scenario_tables.specs.declared.fault.ScenarioFault.TheVariants as fault
 use Rattle.pd_scenario_tables.specs.Schema.{text_of, rules_of}
 use Rattle.pd_scenario_tables.specs.Words.{version_of, mode_of, event_named}
-use Rattle.pd_scenario_tables.specs.Values.{whole_of, word_of, truth_of, small, elements, elements_of, passes}
+use Rattle.pd_scenario_tables.specs.Values.{whole_of, word_of, truth_of, small, elements_of, passes}
 
 -- ---- what stands at a key, or for it where it is absent
 

@@ -1,15 +1,13 @@
 -- Names and ids in a set of those that came before.
-use Rattle.std.proofs.Common.{◌≡◌, ℕ, ◌+◌, ◌<◌, Bool, true, false, not, ◌||◌, ◌&&◌, ◌==◌, List, [], ◌∷◌, ◌++◌, length, map, take, drop, get_or, refl, sym, ap, ◌∙◌, inl, inr, arith, Bor, nat_cmp, Some, None}
-use Rattle.std.specs.Prelude.{Option, bytes_eq, find, is_some, option_map}
-use Rattle.std.specs.Bool.{Decides}
+use Rattle.std.proofs.Common.{◌≡◌, ℕ, ◌+◌, ◌<◌, Bool, true, false, not, ◌||◌, ◌&&◌, ◌==◌, List, [], ◌∷◌, ◌++◌, length, map, take, drop, get_or, refl, sym, ap, ◌∙◌, inl, inr, arith, Bor, nat_cmp, Some}
+use Rattle.std.specs.Prelude.{bytes_eq, is_some}
 use Rattle.std.specs.List.{list_any, list_all}
 use Rattle.std.specs.Ordering.{is_eq}
-use Rattle.std.specs.declared.cmp.Ordering.{Ordering}
 use Rattle.std.specs.declared.cmp.Ordering.TheVariants.{Equal}
 use Rattle.std.specs.Cmp.Lexicographic.{slice_cmp}
 use Rattle.std.specs.BTreeSet.{BTreeSet, insert_key}
-use Rattle.std.proofs.lemmas.Bool.{false≢true, cases_Bool}
-use Rattle.std.proofs.lemmas.Bool.Decides.{nat_tests, Decides-eqb}
+use Rattle.std.proofs.lemmas.Bool.{cases_Bool}
+use Rattle.std.proofs.lemmas.Bool.Decides.{nat_tests}
 use Rattle.std.proofs.lemmas.List.{take_more, map-append, take-append-drop}
 use Rattle.std.proofs.lemmas.Map.Text.{is_eq-slice_cmp}
 use Rattle.std.proofs.lemmas.Slice.Eq.{bytes_eq-Decides}
@@ -21,7 +19,7 @@ use Rattle.pd_scenario.specs.declared.contents.ScenarioEventKind.TheVariants.{At
 use Rattle.pd_scenario.specs.declared.contents.ScenarioHappening.{ScenarioHappening}
 use Rattle.pd_scenario.specs.declared.contents.ScenarioHappening.TheVariants.{OnPort, Budget}
 use Rattle.pd_scenario.specs.declared.contents.ScenarioEvent.{ScenarioEvent}
-use Rattle.pd_scenario_text.specs.Names.{texts, cable_names, sink_names, has_text, Has, kind_is_in, is_in, name_check}
+use Rattle.pd_scenario_text.specs.Names.{texts, cable_names, sink_names, Has, kind_is_in, is_in, name_check}
 use Rattle.pd_scenario_text.proofs.Differing.{list_any-last, list_any-same, differ, differ-part, differ-last, turn_from, insert_has}
 use Rattle.pd_scenario_tables.proofs.Members.{list_any-map}
 

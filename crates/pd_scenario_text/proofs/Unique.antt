@@ -1,8 +1,7 @@
 -- A text has one answer, and a refusal one number.
-use Rattle.std.proofs.Common.{◌≡◌, ℕ, ◌==◌, ◌⊎◌, Bool, cond, List, refl, sym, ap, ◌∙◌, inl, inr, Some, None, Ok, Err}
-use Rattle.std.specs.Prelude.{Option, Result}
+use Rattle.std.proofs.Common.{◌≡◌, ℕ, ◌==◌, ◌⊎◌, cond, List, refl, sym, ap, ◌∙◌, inl, inr, Err}
+use Rattle.std.specs.Prelude.{Result}
 use Rattle.toml.specs.Data.{Members}
-use Rattle.toml.specs.Parse.{parse_document}
 use Rattle.pd_scenario.specs.Contents.{Contents}
 use Rattle.pd_scenario_tables.specs.declared.fault.ScenarioFault.{ScenarioFault}
 use Rattle.pd_scenario_tables.specs.declared.fault.ScenarioFault.TheVariants.{Toml, UnknownKey, WrongType, MissingKey, Range, Name, Duplicate, Supplies, Floors, UnknownName, Limit, Memory}

@@ -1,5 +1,5 @@
 -- A file to which no refusal applies gives a scenario that keeps every limit.
-use Rattle.std.proofs.Common.{◌≡◌, ℕ, ◌≤◌, Bool, true, false, not, ◌||◌, ◌&&◌, ◌==◌, List, [], ◌∷◌, length, map, refl, arith, lit<, Bor, BTreeMap, String, Global}
+use Rattle.std.proofs.Common.{◌≡◌, ℕ, ◌≤◌, Bool, true, false, not, ◌||◌, ◌==◌, List, [], ◌∷◌, length, map, refl, arith, lit<, Bor, BTreeMap, String, Global}
 use Rattle.std.specs.Prelude.{nat_lt, sum_by, All}
 use Rattle.std.specs.List.{list_any, list_all}
 use Rattle.std.proofs.lemmas.Bool.{and_parts, or_parts, not-false}
@@ -30,10 +30,10 @@ use Rattle.pd_scenario_tables.specs.Seen.{views}
 use Rattle.pd_scenario_tables.specs.Convert.{settings_of, cable_of, sink_of, event_of}
 use Rattle.pd_scenario_text.specs.Contents.{Tables, contents_of}
 use Rattle.pd_scenario_text.specs.Refusals.{fails_somewhere, has_duplicate, has_unknown_name, exceeds_budget, exceed_limits, exceeds_limit}
-use Rattle.pd_scenario_tables.proofs.Sound.{Holds, holds, needed}
+use Rattle.pd_scenario_tables.proofs.Sound.{holds, needed}
 use Rattle.pd_scenario_tables.proofs.Parts.{cable_named, sink_named, sink_fits, port_fits}
 use Rattle.pd_scenario_tables.proofs.Events.{event_fit}
-use Rattle.pd_scenario_text.proofs.Decided.{Clean, Later, Last}
+use Rattle.pd_scenario_text.proofs.Decided.{Clean, Last}
 
 -- ---- where a refusal applies nowhere
 

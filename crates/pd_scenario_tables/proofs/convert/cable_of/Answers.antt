@@ -1,4 +1,3 @@
-use Rattle.std.proofs.Common.{◌≡◌}
 use Rattle.toml.specs.View.{table_view}
 use Rattle.pd_scenario_tables.proofs.Parts.{cable_named}
 use Rattle.pd_scenario_tables.proofs.convert.cable_of.Goals as goal

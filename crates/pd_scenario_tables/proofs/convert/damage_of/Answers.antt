@@ -1,4 +1,4 @@
-use Rattle.std.proofs.Common.{◌≡◌, ◌≤◌, arith}
+use Rattle.std.proofs.Common.{◌≤◌, arith}
 use Rattle.toml.specs.View.{table_view}
 use Rattle.pd_scenario_tables.proofs.Parts.{is_damage}
 use Rattle.pd_scenario_tables.proofs.convert.damage_of.Goals as goal

@@ -1,4 +1,3 @@
-use Rattle.std.proofs.Common.{◌≡◌}
 use Rattle.toml.specs.View.{table_view}
 use Rattle.pd_scenario_tables.proofs.Parts.{is_demand, demand_allowed}
 use Rattle.pd_scenario_tables.proofs.convert.demand_of.Goals as goal

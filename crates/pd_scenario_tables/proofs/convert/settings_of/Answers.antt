@@ -1,4 +1,4 @@
-use Rattle.std.proofs.Common.{◌≡◌, ◌≤◌, arith}
+use Rattle.std.proofs.Common.{◌≤◌, arith}
 use Rattle.toml.specs.View.{table_view}
 use Rattle.pd_scenario_tables.proofs.Parts.{few_tries, port_fits}
 use Rattle.pd_scenario_tables.proofs.convert.settings_of.Goals as goal

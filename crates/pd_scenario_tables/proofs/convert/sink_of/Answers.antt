@@ -1,4 +1,3 @@
-use Rattle.std.proofs.Common.{◌≡◌}
 use Rattle.toml.specs.View.{table_view}
 use Rattle.pd_scenario_tables.proofs.Parts.{sink_named, sink_numbers, is_sink}
 use Rattle.pd_scenario_tables.proofs.convert.sink_of.Goals as goal

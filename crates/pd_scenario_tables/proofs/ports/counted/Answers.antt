@@ -1,5 +1,3 @@
-use Rattle.std.proofs.Common.{◌≡◌, ◌∙◌, ap, length, rules}
-use Rattle.std.specs.List.{list_all}
 use Rattle.std.proofs.lemmas.List.{length-map}
 use Rattle.toml.proofs.Views.{view-Array}
 use Rattle.pd_scenario_tables.proofs.Members.{list_all-elements, elements-items_view}

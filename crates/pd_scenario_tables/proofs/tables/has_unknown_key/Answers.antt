@@ -1,4 +1,4 @@
-use Rattle.std.proofs.Common.{◌≡◌, rules, tests, not, string_bytes}
+use Rattle.std.proofs.Common.{rules, tests, not, string_bytes}
 use Rattle.std.proofs.lemmas.Iterator.Search.{any_from_yields_List}
 use Rattle.std.proofs.lemmas.Iterator.Consumers.{YieldsList-from_rest}
 use Rattle.pd_scenario_tables.specs.Tables.{has_key}

@@ -1,4 +1,4 @@
-use Rattle.std.proofs.Common.{◌≡◌, ◌∙◌, sym, ap}
+use Rattle.std.proofs.Common.{◌∙◌, sym, ap}
 use Rattle.std.specs.List.{filter_map}
 use Rattle.toml.specs.Data.{as_table}
 use Rattle.pd_scenario_tables.proofs.Members.{filter_map-map}

@@ -1,4 +1,4 @@
-use Rattle.std.proofs.Common.{◌≡◌, ◌∙◌, sym}
+use Rattle.std.proofs.Common.{◌∙◌, sym}
 use Rattle.pd_scenario_tables.proofs.Members.{are_rising-short}
 use Rattle.pd_scenario_tables.proofs.values.are_rising.Goals as goal
 

@@ -1,4 +1,4 @@
-use Rattle.std.proofs.Common.{◌≡◌, map, ap}
+use Rattle.std.proofs.Common.{map, ap}
 use Rattle.toml.specs.View.{view}
 use Rattle.toml.proofs.Views.{view-Array}
 use Rattle.pd_scenario_tables.proofs.Members.{elements-items_view}

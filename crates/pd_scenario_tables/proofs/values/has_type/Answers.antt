@@ -1,4 +1,4 @@
-use Rattle.std.proofs.Common.{◌≡◌, ◌∙◌, ap, sym}
+use Rattle.std.proofs.Common.{◌∙◌, ap}
 use Rattle.std.specs.List.{list_all}
 use Rattle.toml.proofs.Views.{view-Array}
 use Rattle.pd_scenario_tables.proofs.Members.{list_all-elements}

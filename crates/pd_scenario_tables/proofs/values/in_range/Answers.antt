@@ -1,4 +1,4 @@
-use Rattle.std.proofs.Common.{◌≡◌, ◌∙◌, sym, ap}
+use Rattle.std.proofs.Common.{◌∙◌, sym, ap}
 use Rattle.std.specs.List.{list_all}
 use Rattle.toml.specs.View.{view}
 use Rattle.pd_scenario_tables.specs.Values.{is_supply}

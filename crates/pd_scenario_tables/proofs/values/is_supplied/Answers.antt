@@ -1,4 +1,4 @@
-use Rattle.std.proofs.Common.{◌≡◌, ◌∙◌, sym, ap, map}
+use Rattle.std.proofs.Common.{◌∙◌, sym, ap, map}
 use Rattle.toml.specs.View.{view}
 use Rattle.pd_scenario_tables.specs.Values.{supply_of, are_supplies}
 use Rattle.pd_scenario_tables.proofs.Members.{map-twice}

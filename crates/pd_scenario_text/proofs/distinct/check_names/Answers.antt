@@ -1,5 +1,4 @@
 use Rattle.std.proofs.Common.{◌≡◌, ◌∙◌, sym, ap, true}
-use Rattle.std.specs.Prelude.{is_some}
 use Rattle.pd_scenario.specs.Contents.{names_differ}
 use Rattle.pd_scenario_text.specs.Names.{texts, cable_names, sink_names, Has}
 use Rattle.pd_scenario_text.proofs.Found.{checked}

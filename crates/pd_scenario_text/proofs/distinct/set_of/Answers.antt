@@ -1,4 +1,4 @@
-use Rattle.std.proofs.Common.{◌≡◌, ◌∙◌, ◌+◌, sym, ap, drop, take, get_or}
+use Rattle.std.proofs.Common.{◌∙◌, ◌+◌, sym, ap, drop, take, get_or}
 use Rattle.std.specs.List.{list_any}
 use Rattle.std.specs.Prelude.{bytes_eq}
 use Rattle.pd_scenario.specs.Contents.{names_differ}

@@ -1,4 +1,4 @@
-use Rattle.std.proofs.Common.{◌≡◌, ◌∙◌, sym}
+use Rattle.std.proofs.Common.{◌∙◌, sym}
 use Rattle.pd_scenario_text.proofs.Decided.{least_more}
 use Rattle.pd_scenario_text.proofs.document.least_budget.Goals as goal
 use Rattle.pd_scenario_text.proofs.document.least_budget.Goals.{in-Some, in_default}

@@ -1,4 +1,3 @@
-use Rattle.std.proofs.Common.{◌≡◌, get_or}
 use Rattle.std.proofs.lemmas.List.Elements.{All-get_or}
 use Rattle.toml.specs.View.{table_view}
 use Rattle.pd_scenario_tables.specs.Tables.{IsSoundPort}

@@ -1,4 +1,4 @@
-use Rattle.std.proofs.Common.{◌≡◌, subst}
+use Rattle.std.proofs.Common.{subst}
 use Rattle.toml.specs.View.{table_view}
 use Rattle.pd_scenario_text.specs.Contents.{Tables, contents_of}
 use Rattle.pd_scenario_text.specs.Refusals.{refusal}

@@ -1,10 +1,10 @@
-use Rattle.std.proofs.Common.{◌≡◌, ◌∙◌, not, map, sym, ap, lit<}
+use Rattle.std.proofs.Common.{◌∙◌, not, map, sym, ap, lit<}
 use Rattle.pd_scenario_tables.specs.Seen.{views}
 use Rattle.pd_scenario_text.specs.Document.{seen}
 use Rattle.pd_scenario_tables.specs.Convert.{settings_of, cable_of, sink_of, event_of}
 use Rattle.pd_scenario_text.specs.Contents.{contents_of}
 use Rattle.pd_scenario_text.specs.Refusals.{refusal}
-use Rattle.pd_scenario_text.proofs.Decided.{Clean, clean, Later, Last, no_check, a_check, refused_duplicate, refused_supplies, refused_floors, refused_unknown, refused_limit, accepted, same_check, same_exceed, same_limit, same_contents, same_valid, same_answer}
+use Rattle.pd_scenario_text.proofs.Decided.{clean, Later, Last, no_check, a_check, refused_duplicate, refused_supplies, refused_floors, refused_unknown, refused_limit, accepted, same_check, same_exceed, same_limit, same_contents, same_valid, same_answer}
 use Rattle.pd_scenario_text.proofs.Valid.{sound_cables, sound_sinks, sound_events, sound_ports, tables_of_cables_sound, tables_of_sinks_sound, tables_of_events_sound, tables_of_ports_sound, valid}
 use Rattle.pd_scenario_text.proofs.document.Document.scenario.Goals as goal
 
