@@ -1,11 +1,11 @@
 //! Ports that move.
 
-ghost use Rattle.std.specs.Prelude.{◌≡◌, ℕ, ◌+◌, ◌-◌, ◌<◌, ◌≤◌, ◌∷◌, ◌++◌, ◌↔◌, List, [], IfOk, IfSome, MatchOption, IsTrue, ⊤, option_map};
+ghost use Rattle.std.specs.Prelude.{◌≡◌, ℕ, ◌+◌, ◌-◌, ◌<◌, ◌≤◌, ◌∷◌, ◌++◌, ◌↔◌, List, [], IfOk, IfSome, IfNone, MatchOption, IsTrue, ⊤, option_map};
 ghost use Rattle.pd_port.specs.Port.{is_event};
 ghost use Rattle.pd_ledger.specs.Offer.{answer_of};
 ghost use Rattle.pd_scenario.specs.Plan.{Plan, IsPlan, count, force};
 ghost use Rattle.pd_run.specs.Run.{Move, NoneLater};
-ghost use Rattle.pd_run.specs.Live.{LiveData, Stands, IsSoFar, IsNext, at_budget, due_at, next_move, port_at, reply_at, moved_port};
+ghost use Rattle.pd_run.specs.Live.{LiveData, Stands, IsSoFar, IsNext, IsOver, at_budget, due_at, next_move, port_at, reply_at, moved_port};
 ghost use Rattle.pd_run.specs.Shown.{SafeRun};
 ghost use Rattle.pd_run.specs.Work.{work};
 
@@ -53,6 +53,7 @@ impl<const N: usize> Live<N> {
     /// The port that moves next, with what falls due on it, if that isn't after the end. Where nothing is, the run is whole.
     pub fn next(&self, plan: &Timetable<N>) -> Option<(usize, Due)>
         ensures next { MatchOption result ((past : List Move) → Stands plan.now past self.now → SafeRun plan.now past) (λ r. IsNext plan.now self.now r.0 r.1) }
+        ensures over { IfNone result (IsOver plan.now self.now (count plan.now)) }
         ensures in_order { IfSome result (λ r. (past : List Move) → Stands plan.now past self.now → NoneLater r.1.time (r.0 - 1) past) }
         ensures is_plan { IsPlan N plan.now }
     {
