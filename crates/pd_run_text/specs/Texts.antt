@@ -44,3 +44,8 @@ RunsText (Err (faults.Session fault)) text edits taken taken' =
 abbrev pub CountsWrites : Result Tally RunFault → ℕ → ℕ → Type 0
 CountsWrites (Err (faults.Session WriteFailed)) writes writes' = writes' ≡ one_more writes
 CountsWrites answer writes writes' = writes' ≡ writes
+
+-- a text is a scenario, or it is refused by this number
+abbrev pub ChecksText : Result Unit ScenarioFault → List ℕ → Type 0
+ChecksText (Ok _) text = (n : ℕ) × (s : Contents) × IsScenarioText text n s
+ChecksText (Err fault) text = IsRefused text fault

@@ -1,10 +1,13 @@
-//! Sessions over texts: the text of a scenario and an edit script go in, and what they come to goes out.
+//! Texts of scenarios: whether they are scenarios, and sessions over them, where an edit script goes in too and what it
+//! comes to goes out.
 #![tactic(auto)]
 
+mod check;
 mod devices;
 mod files;
 mod texts;
 
+pub use check::check_text;
 pub use devices::{Input, Output};
 pub use files::read_whole;
 pub use texts::{RunFault, run_kept, run_plain};

@@ -24,16 +24,9 @@ pub enum RunFault {
 
 // Runs a session with a runner of as many ports as the text has.
 macro_rules! run_by {
-    ($runner:ident, $alloc:ident, $text:ident, $edits:ident, $writer:ident, $meter:ident) => {
+    ($runner:ident, $alloc:ident, $text:ident, $edits:ident, $writer:ident, $meter:ident; $($n:literal)*) => {
         match port_count($alloc, $text) {
-            Ok(1) => run_text::<1, $runner<1>, W>($alloc, $text, $edits, $writer, $meter),
-            Ok(2) => run_text::<2, $runner<2>, W>($alloc, $text, $edits, $writer, $meter),
-            Ok(3) => run_text::<3, $runner<3>, W>($alloc, $text, $edits, $writer, $meter),
-            Ok(4) => run_text::<4, $runner<4>, W>($alloc, $text, $edits, $writer, $meter),
-            Ok(5) => run_text::<5, $runner<5>, W>($alloc, $text, $edits, $writer, $meter),
-            Ok(6) => run_text::<6, $runner<6>, W>($alloc, $text, $edits, $writer, $meter),
-            Ok(7) => run_text::<7, $runner<7>, W>($alloc, $text, $edits, $writer, $meter),
-            Ok(8) => run_text::<8, $runner<8>, W>($alloc, $text, $edits, $writer, $meter),
+            $(Ok($n) => run_text::<$n, $runner<$n>, W>($alloc, $text, $edits, $writer, $meter),)*
             Ok(_) => Err(RunFault::Scenario(ScenarioFault::Limit)),
             Err(fault) => Err(RunFault::Scenario(fault)),
         }
@@ -55,7 +48,7 @@ pub fn run_plain<W: TextOut>(
     ensures text { RunsText result text.now edits.now (W.taken writer.old) (W.taken writer.new) }
     ensures counts { CountsWrites result (W.failures writer.old) (W.failures writer.new) }
 {
-    run_by!(Plain, alloc, text, edits, writer, meter)
+    run_by!(Plain, alloc, text, edits, writer, meter; 1 2 3 4 5 6 7 8)
 }
 
 /// Runs a session over an edit script for the scenario of a text, which has 1 to 8 ports. The moves of each run are kept
@@ -73,7 +66,7 @@ pub fn run_kept<W: TextOut>(
     ensures text { RunsText result text.now edits.now (W.taken writer.old) (W.taken writer.new) }
     ensures counts { CountsWrites result (W.failures writer.old) (W.failures writer.new) }
 {
-    run_by!(Kept, alloc, text, edits, writer, meter)
+    run_by!(Kept, alloc, text, edits, writer, meter; 1 2 3 4 5 6 7 8)
 }
 
 // Runs a session for the scenario of a text of N ports.
