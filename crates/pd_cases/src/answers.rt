@@ -1,11 +1,11 @@
-//! What sessions over a case come to.
+//! What sessions over a case come to, and whether a file is refused.
 
 ghost use Rattle.std.specs.Prelude.{IsTrue};
-ghost use Rattle.pd_run_text.specs.Texts.{IsAnswered};
+ghost use Rattle.pd_run_text.specs.Texts.{IsAnswered, IsRefusedBy};
 
 use crate::cases::Case;
 use pd_port::Meter;
-use pd_run_text::{Output, run_kept, run_plain};
+use pd_run_text::{Output, check_text, run_kept, run_plain};
 use std::alloc::Global;
 
 // Whether a session writes what is expected.
@@ -35,4 +35,14 @@ pub fn kept_answers(alloc: Global, case: &Case) -> bool
     ensures { IsTrue result → IsAnswered case.now.scenario.items case.now.edits.items case.now.output.items }
 {
     writes_output!(run_kept, alloc, case)
+}
+
+/// Whether the text of a file is refused by this number.
+pub fn is_refused(alloc: Global, text: &[u8], number: u8) -> bool
+    ensures { IsTrue result → IsRefusedBy text.now number }
+{
+    match check_text(alloc, text) {
+        Ok(()) => false,
+        Err(fault) => fault.number() == number,
+    }
 }

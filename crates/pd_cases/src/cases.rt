@@ -2,8 +2,8 @@
 
 use pd_run_text::read_whole;
 use std::alloc::Global;
-use std::io;
 use std::rt::Files;
+use std::{fs, io};
 
 /// A case: a scenario, an edit script, and what a session over them writes.
 #[derive(Drop)]
@@ -11,6 +11,32 @@ pub struct Case {
     pub scenario: Vec<u8>,
     pub edits: Vec<u8>,
     pub output: Vec<u8>,
+}
+
+/// Reads a list of a folder, a line each.
+///
+/// # Errors
+/// It can't be read, or is no text.
+pub fn read_list<R: Files + Alloc<A = Global>>(
+    rt: &R,
+    folder: &str,
+    name: &str,
+) -> io::Result<String> {
+    let path = format!(in rt.alloc(); "{folder}/{name}")?;
+    fs::read_to_string(rt, path.as_str())
+}
+
+/// Reads a file of a folder that is refused.
+///
+/// # Errors
+/// It can't be read.
+pub fn read_refused<R: Files + Alloc<A = Global>>(
+    rt: &R,
+    folder: &str,
+    name: &str,
+) -> io::Result<Vec<u8>> {
+    let path = format!(in rt.alloc(); "{folder}/refused/{name}")?;
+    read_whole(rt, path.as_str())
 }
 
 fn read_part<R: Files + Alloc<A = Global>>(

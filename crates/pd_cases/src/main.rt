@@ -1,30 +1,31 @@
 //! The worked cases: `pd_cases FOLDER` runs a session over each case that the list `FOLDER/cases.txt` names, and compares
 //! what it writes with the text that is expected. A case is a folder of `FOLDER/cases` with `scenario.toml`, `edits.txt`
-//! and `output.txt`.
+//! and `output.txt`. The list `FOLDER/refused.txt` names files of `FOLDER/refused`, each after the number by which it is
+//! refused.
 #![tactic(auto)]
 
 mod answers;
 mod cases;
 
-use answers::{kept_answers, plain_answers};
-use cases::{Case, read_case};
-use pd_run_text::read_whole;
+use answers::{is_refused, kept_answers, plain_answers};
+use cases::{Case, read_case, read_list, read_refused};
 use std::alloc::{AllocError, Global};
 use std::process::ExitCode;
 use std::rt::{Env, Files};
 use std::{env, io};
 
-/// How many cases there are, and how many of them differ.
+/// How many cases and refused files there are, and how many of them differ.
 #[derive(Clone, Copy, Debug, PartialEq, Eq)]
 pub struct Counts {
     pub cases: u64,
+    pub refused: u64,
     pub differ: u64,
 }
 
 /// Tells that a case differs, where it does, and answers whether it is as expected.
-fn tell<R: Print>(rt: &R, name: &str, runner: &str, is_expected: bool) -> io::Result<bool> {
+fn tell<R: Print>(rt: &R, name: &str, how: &str, is_expected: bool) -> io::Result<bool> {
     if !is_expected {
-        println!(rt; "{name} differs ({runner})")?;
+        println!(rt; "{name} differs ({how})")?;
     }
     Ok(is_expected)
 }
@@ -37,30 +38,51 @@ fn run_case<R: Print + Alloc<A = Global>>(rt: &R, name: &str, case: &Case) -> io
 }
 
 /// Runs the cases of a folder.
-fn run_cases<R: Files + Print + Alloc<A = Global>>(rt: &R, folder: &str) -> io::Result<Counts> {
-    let path = format!(in rt.alloc(); "{folder}/cases.txt")?;
-    let list = read_whole(rt, path.as_str())?;
-    let mut counts = Counts {
-        cases: 0,
-        differ: 0,
-    };
-    for line in list.split(|byte| *byte == b'\n') {
-        let Ok(name) = str::from_utf8(line) else {
-            return Err(io::Error::from(io::ErrorKind::InvalidData));
-        };
-        if name.is_empty() {
-            continue;
-        }
+fn run_cases<R: Files + Print + Alloc<A = Global>>(
+    rt: &R,
+    folder: &str,
+    counts: &mut Counts,
+) -> io::Result<()> {
+    let list = read_list(rt, folder, "cases.txt")?;
+    for name in list.as_str().lines() {
         let case = read_case(rt, folder, name)?;
         counts.cases = counts.cases.saturating_add(1);
         if !run_case(rt, name, &case)? {
             counts.differ = counts.differ.saturating_add(1);
         }
     }
-    Ok(counts)
+    Ok(())
 }
 
-/// Runs the cases of the folder that the command line names, and tells how many differ. The answer is the status.
+/// Checks the refused files of a folder.
+fn check_refused<R: Files + Print + Alloc<A = Global>>(
+    rt: &R,
+    folder: &str,
+    counts: &mut Counts,
+) -> io::Result<()> {
+    let list = read_list(rt, folder, "refused.txt")?;
+    for line in list.as_str().lines() {
+        let Some((Ok(number), name)) = line
+            .split_once(' ')
+            .map(|(n, name)| (n.parse::<u8>(), name))
+        else {
+            return Err(io::Error::from(io::ErrorKind::InvalidData));
+        };
+        let text = read_refused(rt, folder, name)?;
+        counts.refused = counts.refused.saturating_add(1);
+        if !tell(
+            rt,
+            name,
+            "refusal",
+            is_refused(rt.alloc(), text.as_slice(), number),
+        )? {
+            counts.differ = counts.differ.saturating_add(1);
+        }
+    }
+    Ok(())
+}
+
+/// Runs what the folder has that the command line names, and tells how much differs. The answer is the status.
 fn obey<R: Files + Print + Eprint + Env + Alloc<A = Global>>(rt: &R) -> io::Result<u8> {
     let words: Result<Vec<String>, AllocError> = env::args(rt)?.collect(rt.alloc());
     let words = words?;
@@ -68,8 +90,17 @@ fn obey<R: Files + Print + Eprint + Env + Alloc<A = Global>>(rt: &R) -> io::Resu
         eprintln!(rt; "usage: pd_cases FOLDER")?;
         return Ok(2);
     };
-    let counts = run_cases(rt, folder.as_str())?;
-    println!(rt; "{} cases, {} differ", counts.cases, counts.differ)?;
+    let mut counts = Counts {
+        cases: 0,
+        refused: 0,
+        differ: 0,
+    };
+    run_cases(rt, folder.as_str(), &mut counts)?;
+    check_refused(rt, folder.as_str(), &mut counts)?;
+    println!(rt;
+        "{} cases, {} refused files, {} differ",
+        counts.cases, counts.refused, counts.differ
+    )?;
     Ok(if counts.differ == 0 { 0 } else { 1 })
 }
 

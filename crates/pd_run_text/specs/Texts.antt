@@ -2,6 +2,7 @@
 use Rattle.std.specs.Prelude.{◌≡◌, ℕ, ◌⊎◌, List, ◌++◌, Result, Ok, Err, Option, Some, IfSome}
 use Rattle.pd_scenario.specs.Contents.{Contents}
 use Rattle.pd_scenario_tables.specs.declared.fault.ScenarioFault.{ScenarioFault}
+use Rattle.pd_scenario_tables.specs.Numbers.{number_of}
 use Rattle.pd_scenario_text.specs.Reading.{Counts, Reads}
 use Rattle.pd_report.specs.Device.{one_more}
 use Rattle.pd_report.specs.declared.fault.BenchFault.TheVariants.{WriteFailed}
@@ -45,7 +46,11 @@ abbrev pub CountsWrites : Result Tally RunFault → ℕ → ℕ → Type 0
 CountsWrites (Err (faults.Session WriteFailed)) writes writes' = writes' ≡ one_more writes
 CountsWrites answer writes writes' = writes' ≡ writes
 
--- a text is a scenario, or it is refused by this number
+-- a text has no scenario, for a refusal of this number
+abbrev pub IsRefusedBy : List ℕ → ℕ → Type 0
+IsRefusedBy text number = (fault : ScenarioFault) × IsRefused text fault × (number ≡ number_of fault)
+
+-- a text is a scenario, or it is refused
 abbrev pub ChecksText : Result Unit ScenarioFault → List ℕ → Type 0
 ChecksText (Ok _) text = (n : ℕ) × (s : Contents) × IsScenarioText text n s
 ChecksText (Err fault) text = IsRefused text fault
