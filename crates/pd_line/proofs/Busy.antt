@@ -27,7 +27,8 @@ use Rattle.pd_line.specs.declared.record.Line.TheVariants.{Idle, Message, Pause,
 use Rattle.pd_line.specs.declared.work.Work.{Work}
 use Rattle.pd_line.specs.Work.{with_layer, on_layer, timed_out_on, noted, sink_steps, plug_steps, source_after, source_steps, tells_timer}
 use Rattle.pd_line.specs.Lines.{with_line, started, packet_starts, good_crc_starts, after_time_out, times_out, line_ends_at, line_ends, is_idle, line_starts}
-use Rattle.pd_line.proofs.Kept.{Kept, of_any, Watched, sink_after, plug_after, sink_acts_kept, plug_acts_kept, source_acts_kept, noted_kept, tells_failed_kept, message_ends_kept, good_crc_ends_kept, hard_reset_ends_kept}
+use Rattle.pd_line.proofs.Kept.{sink_acts_kept, plug_acts_kept, source_acts_kept, noted_kept, tells_failed_kept, message_ends_kept, good_crc_ends_kept, hard_reset_ends_kept}
+use Rattle.pd_line.proofs.Parts.{Kept, of_any, Watched, sink_after, plug_after}
 
 -- while the line is busy, nothing starts
 pub line_starts-busy : (t : ℕ) (w : Work) → is_idle w.port.line ≡ false → line_starts t w ≡ w

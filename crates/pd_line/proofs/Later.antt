@@ -28,7 +28,8 @@ use Rattle.pd_line.specs.declared.work.Work.{Work}
 use Rattle.pd_line.specs.Later.{Times, line_end, KeptOrLater, Later}
 use Rattle.pd_line.specs.Work.{with_layer, sink_acts, sink_steps, plug_acts, plug_steps, source_acts, source_after, source_steps, tells_timer}
 use Rattle.pd_line.specs.Lines.{with_line, started, line_ends}
-use Rattle.pd_line.proofs.Kept.{Kept, EndsNoneOfSource, EndsNoneOfSink, EndsNoneOfPlug, Watched, watched, times, sink_after, plug_after, sink_acts_kept, plug_acts_kept, source_acts_kept, line_ends_at_kept}
+use Rattle.pd_line.proofs.Kept.{sink_acts_kept, plug_acts_kept, source_acts_kept, line_ends_at_kept}
+use Rattle.pd_line.proofs.Parts.{Kept, EndsNoneOfSource, EndsNoneOfSink, EndsNoneOfPlug, Watched, watched, times, sink_after, plug_after}
 
 -- a step at t has led to this work
 pub record Leads (t : ℕ) (settings : SourceSettings) (old : Times) (new : Work) : Type 0 where

@@ -22,7 +22,8 @@ use Rattle.pd_line.specs.declared.record.Line.{Line}
 use Rattle.pd_line.specs.declared.work.Work.{Work}
 use Rattle.pd_line.specs.Work.{tells_timer, with_layer, layer_on, on_layer, sink_acts, sink_steps, plug_acts, plug_steps, source_acts, source_after, source_steps}
 use Rattle.pd_line.specs.Lines.{with_line, started, acknowledged}
-use Rattle.pd_line.proofs.Kept.{Kept, OfSource, Watched, unanswered, sink_after, plug_after, sink_acts_kept, plug_acts_kept, source_acts_kept, acknowledged_kept}
+use Rattle.pd_line.proofs.Kept.{sink_acts_kept, plug_acts_kept, source_acts_kept, acknowledged_kept}
+use Rattle.pd_line.proofs.Parts.{Kept, OfSource, Watched, unanswered, sink_after, plug_after}
 
 -- What was done to w leaves the source and the answer: it is v now. It doesn't read the answer: done to w without its
 -- answer it is u, which is v without its answer.

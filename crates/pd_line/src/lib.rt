@@ -1,6 +1,7 @@
 //! The line of a port: who speaks on it, what reaches whom, and what the layers and engines make of it.
 #![tactic(auto)]
 
+mod hard_reset;
 mod lines;
 mod notes;
 mod record;

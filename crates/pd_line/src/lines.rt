@@ -84,11 +84,11 @@ impl Work {
     ghost use Rattle.pd_packet.specs.Hearing.{heard};
     ghost use Rattle.pd_line.specs.Noise.{most, most_besides};
     ghost use Rattle.pd_line.specs.Work.{wait};
-    ghost use Rattle.pd_line.specs.Lines.{hears, taken, revision_on, packet_starts, good_crc_starts, message_ends, goes_up, good_crc_ends, times_out, waiting_dropped, layers_reset, hears_reset, all_hear_reset, hard_reset_ends, line_ends, line_starts, acknowledged, waiting_on, message_starts, hard_reset_starts, side_starts};
+    ghost use Rattle.pd_line.specs.Lines.{hears, taken, revision_on, packet_starts, good_crc_starts, message_ends, goes_up, good_crc_ends, times_out, hard_reset_ends, line_ends, line_starts, acknowledged, waiting_on, message_starts, hard_reset_starts, side_starts};
 
     /// Whether a side hears.
     #[tactic(auto, unfolding(crate::specs::Lines::hears))]
-    fn hears(&self, side: Side) -> bool
+    pub(crate) fn hears(&self, side: Side) -> bool
         ensures { result ≡ hears side self.now }
     {
         match side {
@@ -258,69 +258,6 @@ impl Work {
             }
             _ => {}
         }
-    }
-
-    /// Drops all that waits.
-    #[tactic(auto, unfolding(crate::specs::Lines::waiting_dropped))]
-    fn drop_waiting(&mut self)
-        ensures after { self.new ≡ waiting_dropped self.old }
-        ensures faults { self.new.faults ≡ self.old.faults }
-    {
-        self.wait(Side::Source, Waiting::Nothing);
-        self.wait(Side::Sink, Waiting::Nothing);
-        self.wait(Side::Plug, Waiting::Nothing);
-    }
-
-    /// Resets all layers.
-    #[tactic(auto, unfolding(crate::specs::Lines::layers_reset))]
-    fn reset_layers(&mut self)
-        ensures after { self.new ≡ layers_reset self.old }
-        ensures faults { self.new.faults ≡ self.old.faults }
-    {
-        self.reset_on(Side::Source, Channel::Sop);
-        self.reset_on(Side::Sink, Channel::Sop);
-        self.reset_on(Side::Source, Channel::SopPrime);
-        self.reset_on(Side::Plug, Channel::SopPrime);
-    }
-
-    /// A side that hears, and isn't the sender, gets a Hard Reset.
-    #[tactic(auto, unfolding(crate::specs::Lines::hears_reset))]
-    fn hear_reset(&mut self, sender: Side, side: Side, t: u64)
-        requires time { t ≤ 120000000 }
-        requires room { length self.old.faults.items + most_besides sender side ≤ 8 }
-        ensures after { self.new ≡ hears_reset sender side t self.old }
-        ensures faults { length self.new.faults.items ≤ length self.old.faults.items + most_besides sender side }
-    {
-        if side != sender && self.hears(side) {
-            self.tell_reset(side, t);
-        }
-    }
-
-    /// A Hard Reset has ended, for the engines.
-    #[tactic(auto, using(crate::proofs::Noise::three_at_most), unfolding(crate::specs::Lines::all_hear_reset))]
-    fn all_hear_reset(&mut self, sender: Side, t: u64)
-        requires time { t ≤ 120000000 }
-        requires room { length self.old.faults.items ≤ 4 }
-        ensures after { self.new ≡ all_hear_reset sender t self.old }
-        ensures faults { length self.new.faults.items ≤ length self.old.faults.items + 4 }
-    {
-        self.tell_sent(sender, Sent::Other, t);
-        self.hear_reset(sender, Side::Source, t);
-        self.hear_reset(sender, Side::Sink, t);
-        self.hear_reset(sender, Side::Plug, t);
-    }
-
-    /// A Hard Reset has ended.
-    #[tactic(auto, unfolding(crate::specs::Lines::hard_reset_ends))]
-    fn hard_reset_ends(&mut self, sender: Side, t: u64)
-        requires time { t ≤ 120000000 }
-        requires room { length self.old.faults.items ≤ 4 }
-        ensures after { self.new ≡ hard_reset_ends sender t self.old }
-        ensures faults { length self.new.faults.items ≤ length self.old.faults.items + 4 }
-    {
-        self.drop_waiting();
-        self.reset_layers();
-        self.all_hear_reset(sender, t);
     }
 
     /// What is on the line has ended.

@@ -41,7 +41,8 @@ use Rattle.pd_line.specs.Record.{without_settings, nothing_attached}
 use Rattle.pd_line.specs.Told.{sent_as, source_hears_as}
 use Rattle.pd_line.specs.Work.{with_port, noted, layer_on, on_layer, good_crc_on, timed_out_on, received_on, sink_steps, plug_steps, source_steps, tells_sent, tells_failed, tells_message, tells_reset, tells_timer, tells_attach}
 use Rattle.pd_line.specs.Lines.{with_line, receiver, hears, told_sent, acknowledged, told_message, goes_up, good_crc_ends, after_time_out, times_out, waiting_dropped, layers_reset, hears_reset, all_hear_reset, hard_reset_ends, line_ends_at, line_ends, line_starts}
-use Rattle.pd_line.proofs.Kept.{OfSource, unanswered, choice, noted_kept, sink_steps_kept, plug_steps_kept, tells_sent_kept, packet_starts_kept, good_crc_starts_kept, message_ends_kept, acknowledged_kept, goes_up_kept, times_out_kept, waiting_dropped_kept, layers_reset_kept, hears_reset_kept, attached_kept, line_starts_kept}
+use Rattle.pd_line.proofs.Kept.{choice, noted_kept, sink_steps_kept, plug_steps_kept, tells_sent_kept, packet_starts_kept, good_crc_starts_kept, message_ends_kept, acknowledged_kept, goes_up_kept, times_out_kept, waiting_dropped_kept, layers_reset_kept, hears_reset_kept, attached_kept, line_starts_kept}
+use Rattle.pd_line.proofs.Parts.{OfSource, unanswered}
 use Rattle.pd_line.proofs.Source.{acknowledged_layer, line_layer, tells_timer_spares, Spares, SparesWith, spares, none, joins, on_layer_spares, source_steps_step, line_spares, sparing}
 use Rattle.pd_port.specs.declared.due.Due.{Due}
 use Rattle.pd_port.specs.declared.due.What.{What}
