@@ -1,5 +1,5 @@
 -- What a sink asks of an offer.
-use Rattle.std.proofs.Common.{◌≡◌, ◌⊎◌, inl, inr, ℕ, ◌+◌, ◌*◌, ◌/◌, ◌%◌, ◌<◌, ◌≤◌, min, nat_lt, nat_le, ◌==◌, Bool, true, false, ◌&&◌, if◌then◌else◌, List, [], ◌∷◌, length, Option, Some, None, refl, arith}
+use Rattle.std.proofs.Common.{◌≡◌, inl, inr, ℕ, ◌+◌, ◌*◌, ◌%◌, ◌<◌, ◌≤◌, nat_lt, nat_le, ◌==◌, Bool, true, false, ◌&&◌, if◌then◌else◌, List, [], ◌∷◌, length, Option, Some, None, refl, arith}
 use Rattle.std.specs.Option.{MatchOption, IfSome}
 use Rattle.std.specs.List.{All}
 use Rattle.std.proofs.lemmas.List.Elements.{All-nil, All-cons, All-contains}
@@ -8,7 +8,6 @@ use Rattle.pd_objects.specs.RequestObject.{request_word_of}
 use Rattle.pd_sink.specs.declared.settings.SinkMode.{SinkMode}
 use Rattle.pd_sink.specs.declared.settings.SinkMode.TheVariants as mode
 use Rattle.pd_sink.specs.declared.rule.Offered.{Offered}
-use Rattle.pd_sink.specs.declared.rule.Asked.{Asked}
 use Rattle.pd_sink.specs.Settings.{SinkData}
 use Rattle.pd_sink.specs.Rule.{need_of, is_accepted, supply_at, accepted, accepted_from, IsFitting, IsGreatest, short_ma, mismatch_ma, chosen, asked_of, Asks}
 use Rattle.pd_sink.specs.Objects.{request_object}

@@ -11,8 +11,8 @@ use Rattle.pd_sink.specs.declared.kinds.Deed.{Deed}
 use Rattle.pd_sink.specs.declared.kinds.Deed.TheVariants as deed
 use Rattle.pd_sink.specs.Record.{SinkRecord}
 use Rattle.pd_sink.specs.Table.{Row, Guard, holds, has_hard_resets_left, table, first, fits, row_of, deeds_of_row}
-use Rattle.pd_sink.specs.Acts.{after, wants, send, sending_of, asked_in, is_mismatch, all_wants, noise, noise_of}
-use Rattle.pd_sink.specs.Step.{before_row, row_at, deeds_at, acts_of}
+use Rattle.pd_sink.specs.Acts.{after, wants, send, sending_of, asked_in, is_mismatch, all_wants, noise}
+use Rattle.pd_sink.specs.Step.{before_row, deeds_at, acts_of}
 
 -- the most faults that an act of a row may bring
 deed_noise : Deed → ℕ
