@@ -9,7 +9,8 @@ use Rattle.pd_sink.specs.declared.settings.SinkMode.{SinkMode}
 use Rattle.pd_sink.specs.declared.settings.SinkMode.TheVariants as mode
 use Rattle.pd_sink.specs.declared.rule.Offered.{Offered}
 use Rattle.pd_sink.specs.Settings.{SinkData}
-use Rattle.pd_sink.specs.Rule.{need_of, is_accepted, supply_at, accepted, accepted_from, IsFitting, IsGreatest, short_ma, mismatch_ma, chosen, asked_of, Asks}
+use Rattle.pd_sink.specs.Rule.{need_of, is_accepted, supply_at, accepted, accepted_from, IsFitting, IsGreatest, short_ma, mismatch_ma, Asks}
+use Rattle.pd_sink.specs.Choice.{chosen, asked_of}
 use Rattle.pd_sink.specs.Objects.{request_object}
 use Rattle.pd_sink.specs.Laws.{Requests}
 use Rattle.pd_sink.proofs.Needs.{IsNeed-need_of}

@@ -6,7 +6,8 @@ use Rattle.std.proofs.lemmas.Bool.Decides.{nat_tests}
 use Rattle.std.proofs.lemmas.List.{append-nil}
 use Rattle.std.proofs.lemmas.List.Elements.{All-nil, All-push, All-same, All-weaker, Contains-append_left, Contains-push}
 use Rattle.pd_sink.specs.declared.rule.Offered.{Offered}
-use Rattle.pd_sink.specs.Rule.{need_of, power_of, is_enough, is_greater, IsFitting, IsGreatest, higher_of, fitting_from, greater_of, greatest_from}
+use Rattle.pd_sink.specs.Rule.{need_of, power_of, IsFitting, IsGreatest}
+use Rattle.pd_sink.specs.Choice.{is_enough, is_greater, higher_of, fitting_from, greater_of, greatest_from}
 
 abbrev pub Falls : ℕ → Offered → Type 0
 Falls demand_mw o = o.ma < need_of o.mv demand_mw

@@ -15,7 +15,7 @@ use Rattle.pd_sink.specs.declared.kinds.Deed.{Deed}
 use Rattle.pd_sink.specs.declared.kinds.Deed.TheVariants as deed
 use Rattle.pd_sink.specs.declared.rule.Asked.{Asked}
 use Rattle.pd_sink.specs.Settings.{SinkData}
-use Rattle.pd_sink.specs.Rule.{asked_of}
+use Rattle.pd_sink.specs.Choice.{asked_of}
 use Rattle.pd_sink.specs.Objects.{request_object, sink_capabilities}
 use Rattle.pd_sink.specs.Record.{SinkRecord}
 

@@ -1,5 +1,6 @@
 pub mod Settings
 pub mod Rule
+pub mod Choice
 pub mod Objects
 pub mod Record
 pub mod Table

@@ -1,5 +1,5 @@
 -- What a sink asks of an offer: this product's own rule.
-use Rattle.std.specs.Prelude.{◌≡◌, ◌⊎◌, ℕ, ◌+◌, ◌*◌, ◌%◌, ◌<◌, ◌≤◌, min, Bool, true, false, ◌==◌, ◌&&◌, ◌||◌, nat_lt, nat_le, if◌then◌else◌, List, [], ◌∷◌, Contains, All, length, slice_index, Option, Some, None}
+use Rattle.std.specs.Prelude.{◌≡◌, ◌⊎◌, ℕ, ◌+◌, ◌*◌, ◌%◌, ◌<◌, ◌≤◌, min, Bool, true, false, ◌==◌, ◌&&◌, nat_lt, nat_le, if◌then◌else◌, List, [], ◌∷◌, Contains, All, length, slice_index, Option, Some, None}
 use Rattle.std.specs.Int.{div_ceil}
 use Rattle.pd_symbols.specs.Words.{field}
 use Rattle.pd_sink.specs.declared.settings.SinkMode.{SinkMode}
@@ -58,10 +58,6 @@ pub record IsOffered (o : Offered) : Type 0 where
 abbrev pub power_of : Offered → ℕ
 power_of o = o.mv * o.ma
 
--- whether a supply is offered at a current that is at least what is needed of its voltage
-abbrev pub is_enough : ℕ → Offered → Bool
-is_enough demand_mw o = nat_le (need_of o.mv demand_mw) o.ma
-
 -- a supply that is offered at what is needed
 pub record Fits (demand_mw : ℕ) (o : Offered) : Type 0 where
   pub offered : IsOffered o
@@ -78,30 +74,6 @@ pub record IsGreatest (supplies : List Offered) (o : Offered) : Type 0 where
   pub offered : Contains supplies o
   pub greatest : All (λ (other : Offered). power_of other ≤ power_of o) supplies
   pub lowest : All (λ (other : Offered). power_of other ≡ power_of o → o.mv ≤ other.mv) supplies
-
--- the one of higher voltage of what was found so far and one more
-abbrev pub higher_of : Option Offered → Offered → Option Offered
-higher_of None o = Some o
-higher_of (Some best) o = if nat_lt best.mv o.mv then Some o else Some best
-
--- the fitting one of what was found so far and of some supplies
-abbrev pub fitting_from : ℕ → Option Offered → List Offered → Option Offered
-fitting_from demand_mw best [] = best
-fitting_from demand_mw best (o ∷ os) = fitting_from demand_mw (if is_enough demand_mw o then higher_of best o else best) os
-
--- whether a supply has more power than another, or the same at a lower voltage
-abbrev pub is_greater : Offered → Offered → Bool
-is_greater best o = nat_lt (power_of best) (power_of o) || ((power_of best == power_of o) && nat_lt o.mv best.mv)
-
--- the greater one of what was found so far and one more
-abbrev pub greater_of : Option Offered → Offered → Option Offered
-greater_of None o = Some o
-greater_of (Some best) o = if is_greater best o then Some o else Some best
-
--- the greatest one of what was found so far and of some supplies
-abbrev pub greatest_from : Option Offered → List Offered → Option Offered
-greatest_from best [] = best
-greatest_from best (o ∷ os) = greatest_from (greater_of best o) os
 
 -- the greatest current that an object states, in mA
 abbrev pub greatest_ma : ℕ
@@ -121,18 +93,6 @@ pub record IsAsked (a : Asked) : Type 0 where
   pub position_from_one : 1 ≤ a.position
   pub position_fits : a.position ≤ 7
   pub current_fits : a.ma ≤ greatest_ma
-
--- What is asked of the fitting supply, or else of the greatest one. Where there is neither, the offer has nothing that
--- the sink accepts, and nothing is asked; no offer of a source is so, since it begins with 5 V.
-abbrev pub chosen : SinkData → Option Offered → Option Offered → Option Asked
-chosen sink (Some o) greatest = Some (record { position = o.position; ma = need_of o.mv sink.demand_mw; mismatch = false })
-chosen sink None (Some o) = Some (record { position = o.position; ma = mismatch_ma sink o; mismatch = true })
-chosen sink None None = None
-
--- what a sink asks of an offer
-unfoldable pub asked_of : SinkData → List ℕ → Option Asked
-asked_of sink offer =
-    chosen sink (fitting_from sink.demand_mw None (accepted sink offer)) (greatest_from None (accepted sink offer))
 
 -- where a supply fits, the fitting one is asked for, at what is needed
 pub record AsksTheFitting (sink : SinkData) (supplies : List Offered) (a : Asked) : Type 0 where

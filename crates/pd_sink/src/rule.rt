@@ -1,7 +1,8 @@
 //! What a sink asks of an offer.
 
 ghost use Rattle.std.specs.Prelude.{◌≡◌, ◌≤◌, ◌<◌, ◌++◌, length, All, IfSome, if◌then◌else◌};
-ghost use Rattle.pd_sink.specs.Rule.{need_of, is_accepted, supply_at, accepted, fitting_from, higher_of, greatest_from, greater_of, mismatch_ma, asked_of, IsOffered, IsAsked, Fits};
+ghost use Rattle.pd_sink.specs.Rule.{need_of, is_accepted, supply_at, accepted, mismatch_ma, IsOffered, IsAsked, Fits};
+ghost use Rattle.pd_sink.specs.Choice.{fitting_from, higher_of, greatest_from, greater_of, asked_of};
 
 use crate::{SinkMode, SinkSettings};
 use arrayvec::ArrayVec;
@@ -35,7 +36,7 @@ pub(crate) fn need(mv: u16, demand_mw: u32) -> u64
 }
 
 /// What a sink asks of an offer: the fitting supply, or else the greatest one, with a mismatch.
-#[tactic(auto, unfolding(crate::specs::Rule::asked_of))]
+#[tactic(auto, unfolding(crate::specs::Choice::asked_of))]
 pub(crate) fn request(sink: &SinkSettings, offer: &[u32]) -> Option<Asked>
     requires { length offer.now ≤ 7 }
     ensures value { result ≡ asked_of sink.now offer.now }

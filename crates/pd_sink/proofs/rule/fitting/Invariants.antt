@@ -1,6 +1,7 @@
 use Rattle.std.proofs.Common.{◌≡◌, drop, None}
 use Rattle.std.specs.Option.{IfSome}
-use Rattle.pd_sink.specs.Rule.{fitting_from, Fits}
+use Rattle.pd_sink.specs.Rule.{Fits}
+use Rattle.pd_sink.specs.Choice.{fitting_from}
 use Rattle.pd_sink.proofs.rule.fitting.Given as goal
 
 abbrev pub invariant-loop-supply : goal.invariant-loop-supply

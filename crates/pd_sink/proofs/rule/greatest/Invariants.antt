@@ -1,6 +1,7 @@
 use Rattle.std.proofs.Common.{◌≡◌, drop, None}
 use Rattle.std.specs.Option.{IfSome}
-use Rattle.pd_sink.specs.Rule.{greatest_from, IsOffered}
+use Rattle.pd_sink.specs.Rule.{IsOffered}
+use Rattle.pd_sink.specs.Choice.{greatest_from}
 use Rattle.pd_sink.proofs.rule.greatest.Given as goal
 
 abbrev pub invariant-loop-supply : goal.invariant-loop-supply
