@@ -9,7 +9,7 @@ pub use identity::{Reply, answer, limit_ma, reply_of, request};
 /// What a cable's plug does when it is asked who it is.
 #[derive(Clone, Copy, Debug, PartialEq, Eq)]
 pub enum CablePlug {
-    /// There is no plug that speaks.
+    /// There is no plug.
     Absent,
     Ack,
     Nak,

@@ -1,4 +1,4 @@
--- The budget that ports share, in microwatts.
+-- The budget that ports share, in microwatts: this product's own rule, as docs/TABLES.md has it.
 use Rattle.std.specs.Prelude.{◌≡◌, ℕ, suc, ◌+◌, ◌-◌, ◌<◌, ◌≤◌, ◌^◌, max, List, length, sum, take, drop, slice_index, slice_set}
 
 -- a budget, what each port may not fall below, and what it holds

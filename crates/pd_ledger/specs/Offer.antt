@@ -1,4 +1,4 @@
--- What a port is answered that asks for a share of the budget.
+-- What a port is answered that asks for a share of the budget: this product's own rule, as docs/TABLES.md has it.
 use Rattle.std.specs.Prelude.{ℕ, ◌*◌, ◌/◌, min, map, nat_le}
 use Rattle.pd_objects.specs.Supply.{SupplyData}
 use Rattle.pd_objects.specs.declared.query.Query.{Query}

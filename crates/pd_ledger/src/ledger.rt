@@ -33,7 +33,7 @@ impl<const N: usize> Model for Ledger<N> {
 }
 
 impl<const N: usize> Ledger<N> {
-    /// A ledger of this budget, in which each port holds its floor.
+    /// A ledger of 1 to 8 ports for this budget and these floors, in microwatts; each port holds its floor.
     pub fn new(budget: u64, floors: &[u64]) -> Ledger<N>
         requires some { 1 ≤ N }
         requires few { N ≤ 8 }
@@ -80,7 +80,7 @@ impl<const N: usize> Ledger<N> {
         }
     }
 
-    /// From now on the port holds this much: no more than is free to it, or than it held.
+    /// From now on the port holds this much, in microwatts: no more than is free to it, or than it held.
     pub fn set_hold(&mut self, port: usize, hold: u64)
         requires first { 1 ≤ port }
         requires last { port ≤ N }

@@ -1,4 +1,5 @@
--- What messages are to the engines, and what the engines send and note.
+-- What messages (USB Power Delivery 3.0, sections 6.3 and 6.4, by their types) are to the engines, and what the engines send
+-- and note.
 use Rattle.std.specs.Prelude.{ℕ, ◌==◌, if◌then◌else◌, List, [], ◌∷◌}
 use Rattle.pd_header.specs.Header.{revision_of}
 use Rattle.pd_header.specs.declared.kind.Kind.{Kind}

@@ -1,4 +1,4 @@
-//! What the end of a Hard Reset does to a port.
+//! What the end of a Hard Reset does to a port. `t` is the time of the step, in microseconds.
 
 ghost use Rattle.std.specs.Prelude.{◌≡◌, ℕ, ◌+◌, ◌≤◌, length};
 

@@ -1,4 +1,4 @@
-//! What happens on the line.
+//! What happens on the line. `t` is the time of the step, in microseconds.
 
 ghost use Rattle.std.specs.Prelude.{◌≡◌, ℕ, ◌+◌, ◌<◌, ◌≤◌, length};
 ghost use Rattle.pd_line.specs.Lines.{receiver, channel_for, rest_of_time_out, fate_of};

@@ -1,4 +1,4 @@
-//! A step under way, and what the engines' acts do to a port.
+//! A step under way, and what the engines' acts do to a port. `t` is its time, in microseconds.
 
 ghost use Rattle.std.specs.Prelude.{◌≡◌, ℕ, ◌<◌, ◌≤◌, length};
 

@@ -1,4 +1,4 @@
--- The plug's state table (the states of USB Power Delivery 3.0, chapter 8; the rows are this product's profile).
+-- The plug's state table (the states of USB Power Delivery 3.0, section 8.3.3, PE_CBL_; the rows are this product's profile).
 use Rattle.std.specs.Prelude.{ℕ, Bool, true, false, ◌==◌, ◌&&◌, ◌||◌, if◌then◌else◌, List, [], ◌∷◌, Option, Some, None}
 use Rattle.pd_timers.specs.declared.Timer.{Timer}
 use Rattle.pd_timers.specs.declared.Timer.TheVariants as timer
@@ -49,7 +49,7 @@ pub data Guard : Type 0 where
   WithoutPlug : Guard
   Silent : Guard
 
--- whether a cable is attached that has no plug that speaks
+-- whether a cable is attached that has no plug
 abbrev pub has_no_plug : Option Cable → Bool
 has_no_plug None = false
 has_no_plug (Some cable) = absent cable.plug where

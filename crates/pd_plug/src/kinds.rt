@@ -4,8 +4,8 @@ use arrayvec::ArrayVec;
 use pd_identity::Cable;
 use pd_timers::Timer;
 
-/// The states of the plug's policy engine (USB Power Delivery 3.0, chapter 8), and Off while nothing is attached
-/// or the cable has no plug that speaks.
+/// The states of the plug's policy engine (USB Power Delivery 3.0, section 8.3.3), and Off while nothing is attached
+/// or the cable has no plug.
 #[derive(Clone, Copy, Debug, PartialEq, Eq)]
 pub enum State {
     Off,

@@ -1,4 +1,4 @@
--- The text of the contracts of a run.
+-- The text of the contracts of a run: this product's own format, as docs/FORMATS.md has it under Contracts.
 use Rattle.std.specs.Prelude.{ℕ, List, [], ◌++◌, Option, Some, None, codes, decimal}
 use Rattle.std.specs.List.{flat_map}
 use Rattle.pd_port.specs.declared.entry.ContractChange.{ContractChange}

@@ -1,4 +1,4 @@
--- The text of the faults of a run.
+-- The text of the faults of a run: this product's own format and words, as docs/FORMATS.md has them under Faults.
 use Rattle.std.specs.Prelude.{ℕ, List, ◌++◌, codes, decimal}
 use Rattle.std.specs.List.{flat_map}
 use Rattle.pd_header.specs.Kinds.{name_of}

@@ -1,4 +1,4 @@
--- The text of a transcript.
+-- The text of a transcript: this product's own format, as docs/FORMATS.md has it under Transcript.
 use Rattle.std.specs.Prelude.{ℕ, List, [], ◌++◌, ◌==◌, if◌then◌else◌, Option, Some, None, codes, decimal}
 use Rattle.std.specs.List.{flat_map}
 use Rattle.pd_symbols.specs.Sets.{set_codes}

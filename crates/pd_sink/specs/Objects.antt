@@ -1,4 +1,5 @@
--- The objects that a sink sends.
+-- The objects that a sink sends: its capabilities and requests (USB Power Delivery 3.0, sections 6.4.1.3 and 6.4.2, by their
+-- fields), with the values of this product's own rule.
 use Rattle.std.specs.Prelude.{ℕ, ◌/◌, min, Bool, true, false, nat_lt, if◌then◌else◌, List, [], ◌∷◌}
 use Rattle.pd_objects.specs.RequestObject.{request_word_of, capability_mismatch}
 use Rattle.pd_objects.specs.SinkSupply.{sink_word_of}

@@ -1,4 +1,5 @@
--- The requests of a sink: which of them are valid, the power that they ask for, and the contract that they lead to.
+-- The requests of a sink (USB Power Delivery 3.0, section 6.4.2, by their fields): which of them are valid, the power that
+-- they ask for, and the contract that they lead to, by this product's own rules.
 use Rattle.std.specs.Prelude.{ℕ, ◌-◌, ◌*◌, Bool, false, ◌&&◌, ◌==◌, if◌then◌else◌, nat_le, List, Option, Some, None, slice_get, unwrap_or}
 use Rattle.std.specs.Option.{option_map_or}
 use Rattle.pd_objects.specs.Supply.{SupplyData}

@@ -288,7 +288,7 @@ abbrev pub first : (Guard → Bool) → State → Heard → List Row → Row
 first g s h [] = anything_else
 first g s h (r ∷ rs) = if fits g s h r then r else first g s h rs
 
--- SC: enter Send_Capabilities; caps + 1; draft; send Source_Capabilities
+-- SC: enter Send_Capabilities; CapsCounter + 1; draft; send Source_Capabilities
 abbrev pub sc : List Deed
 sc = deed.Enter state.SendCapabilities ∷ deed.CapsUp ∷ deed.Draft ∷ deed.Send message.SourceCapabilities ∷ []
 
@@ -300,8 +300,8 @@ nc = deed.CableLimit ∷ deed.Note note.CableUnread ∷ sc
 abbrev pub sr : List Deed
 sr = deed.Enter state.SendSoftReset ∷ deed.Close ∷ deed.ResetLayer ∷ deed.Note note.SoftReset ∷ deed.Send message.SoftReset ∷ []
 
--- HR: where the HardResetCounter is at most nHardResetCount, enter Hard_Reset; hard + 1; void; note; send Hard Reset. Else
--- enter Disabled; void; note.
+-- HR: where the HardResetCounter is at most nHardResetCount, enter Hard_Reset; HardResetCounter + 1; void; note; send
+-- Hard Reset. Else enter Disabled; void; note.
 abbrev pub hr : Bool → List Deed
 hr resets_left =
     if resets_left
