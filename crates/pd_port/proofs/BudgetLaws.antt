@@ -52,7 +52,7 @@ unfolding ask
 ask_budget s r d e = ap (λ (b : Bool). if b then Some (query.Keep (hold s r)) else asks (whole s r) (source_told d.what (whole s r))) e
 
 -- the source after a step for it
-source_of_budget : (s : SettingsData) (r : PortRecord) (d : Due) (a : Option Answer) → is_budget d.what ≡ true → (record_after s r d a).source ≡ source_after_told (source_settings s) d.time (told_if_shed a) None r.source
+pub source_of_budget : (s : SettingsData) (r : PortRecord) (d : Due) (a : Option Answer) → is_budget d.what ≡ true → (record_after s r d a).source ≡ source_after_told (source_settings s) d.time (told_if_shed a) None r.source
 source_of_budget s r d a e =
     record_after-source s r d a
     ∙ ap (λ (b : Bool). if b then source_after_told (source_settings s) d.time (told_if_shed a) None r.source

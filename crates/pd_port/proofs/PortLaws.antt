@@ -37,7 +37,7 @@ use Rattle.pd_port.proofs.Later.{record_after-later}
 use Rattle.pd_port.proofs.Pending.{stopped-later, pending_at-few, pending_at-falls, pending_at-line, pending_at-source, pending_at-sink, pending_at-plug}
 
 -- a deadline that is the first one runs
-first_runs : (d : List (Option ℕ)) (at : ℕ) (timer : Timer) → first_of d ≡ Some (at, timer) → deadline d timer ≡ Some at
+pub first_runs : (d : List (Option ℕ)) (at : ℕ) (timer : Timer) → first_of d ≡ Some (at, timer) → deadline d timer ≡ Some at
 first_runs d at timer e = let h = subst (λ (f : Option (ℕ × Timer)). IsFirst d f) e (first_of-IsFirst d) in h.0
 
 -- some deadline is the first one where one runs, and it is no later

@@ -5,5 +5,6 @@ pub mod Happens
 pub mod Laws
 pub mod Meter
 pub mod Port
+pub mod Sheds
 pub mod Sound
 pub mod Told

@@ -2,6 +2,7 @@
 
 ghost use Rattle.pd_port.specs.Laws.{StepsSetLater, DuesAreEarliest, SourceStepsOnce, DetachedAreNew, AnswersMatterOnlyWhereAsked, WaitsWhileBusy, StartsNoTwo, BusyLinesAreLeft};
 ghost use Rattle.pd_port.specs.Budget.{ContractsAreTold, HoldsCoverContracts, RestsAreEmpty, ChangesKeepOrShed, HoldsStayAllowed, EventsComeFirst};
+ghost use Rattle.pd_port.specs.Sheds.{ShedsLast};
 ghost use Rattle.pd_port.specs.Sound.{PortsStaySound, PortsAgree};
 ghost use Rattle.pd_port.specs.Cables.{PortsKnowTheirCables};
 
@@ -49,6 +50,12 @@ pub fn budget()
     ensures changes { ChangesKeepOrShed }
     ensures holds { HoldsStayAllowed }
     ensures events { EventsComeFirst }
+{}
+
+/// A port that sheds at a change of the budget holds its floor alone and has no contract, and so it stays in each step at
+/// that time.
+pub fn sheds()
+    ensures { ShedsLast }
 {}
 
 /// A detached port has no contract, and what a step's entry tells of its change leads from the power of the contract before

@@ -8,6 +8,7 @@ pub mod OneRun
 pub mod Runs
 pub mod Safe
 pub mod Scripts
+pub mod Sheds
 pub mod Sound
 pub mod Steps
 pub mod Within

@@ -5,6 +5,7 @@ use Rattle.pd_run.specs.Run.{Move}
 use Rattle.pd_run.specs.Live.{LiveData, Stands, IsOver}
 use Rattle.pd_run.specs.Shown.{SafeRun}
 use Rattle.pd_run.proofs.Runs.{runs_end}
+use Rattle.pd_run.proofs.Sheds.{sheds_always_last}
 use Rattle.pd_run.proofs.Sound.{runs_are_sound}
 use Rattle.pd_run.proofs.Within.{fits_run}
 
@@ -12,4 +13,4 @@ use Rattle.pd_run.proofs.Within.{fits_run}
 pub safe_end : (n : ℕ) (plan : Plan) (live : LiveData) → IsPlan n plan → IsOver plan live (count plan) → (moves : List Move) → Stands plan moves live → SafeRun plan moves
 safe_end n plan live is over moves stands =
     let run = runs_end plan moves live stands over in
-    record { run = run; within = fits_run n plan moves is run; sound = runs_are_sound plan moves run }
+    record { run = run; within = fits_run n plan moves is run; sound = runs_are_sound plan moves run; shed = sheds_always_last plan moves run }

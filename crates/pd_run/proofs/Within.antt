@@ -331,7 +331,7 @@ record Keeps (plan : Plan) (past : List Move) : Type 0 where
   empty : (q : ℕ) → RestsEmpty (standing plan past q).state
   counts : (at : ℕ) → NoneLater at (count plan) past → NothingBefore plan past at → Counts plan past at
 
-empty_step : (plan : Plan) (past : List Move) (m : Move) → GoesOn plan past m → ((q : ℕ) → RestsEmpty (standing plan past q).state) → (q : ℕ) → RestsEmpty (standing plan (past ++ m ∷ []) q).state
+pub empty_step : (plan : Plan) (past : List Move) (m : Move) → GoesOn plan past m → ((q : ℕ) → RestsEmpty (standing plan past q).state) → (q : ℕ) → RestsEmpty (standing plan (past ++ m ∷ []) q).state
 empty_step plan past m goes empty q =
     ⊎_elim
     (λ (same : m.port ≡ q).

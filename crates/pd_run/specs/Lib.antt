@@ -2,6 +2,7 @@ pub mod Laws
 pub mod Live
 pub mod Order
 pub mod Run
+pub mod Sheds
 pub mod Shown
 pub mod Sound
 pub mod Start

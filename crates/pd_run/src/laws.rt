@@ -1,6 +1,7 @@
 //! What holds of runs.
 
 ghost use Rattle.pd_run.specs.Laws.{OneRun, AlwaysFit, ContractsAlwaysFit};
+ghost use Rattle.pd_run.specs.Sheds.{ShedsAlwaysLast};
 ghost use Rattle.pd_run.specs.Sound.{RunsAreSound};
 
 /// A plan has at most one run.
@@ -17,6 +18,12 @@ pub fn always_fit()
 /// end of each instant of a run.
 pub fn contracts_fit()
     ensures { ContractsAlwaysFit }
+{}
+
+/// A port of a run that sheds at a change of the budget holds its floor alone and has no contract, from that move on to the
+/// end of the instant.
+pub fn sheds_last()
+    ensures { ShedsAlwaysLast }
 {}
 
 /// At each place of a run each contract is of the offer that was delivered before the move that accepted its request: of one of

@@ -13,4 +13,5 @@ pub mod SoundSteps
 pub mod Accepting
 pub mod Agreed
 pub mod Rests
+pub mod Silent
 pub mod Attached

@@ -181,12 +181,12 @@ pub empty-off : (s : SourceSettings) → IsEmptyAtRest (off s)
 empty-off s e = record { draft = refl; accepted = refl; contract = refl }
 
 -- what sheds: a hard reset in all states but Off and Disabled
-shed-deeds : (s : SourceSettings) (r : SourceRecord) (t : State) → deeds_of_row (holds s None r) (row_of (holds s None r) t heard.Shed) ≡ (if among t (state.Off ∷ state.Disabled ∷ []) then [] else hr (holds s None r HardResetsLeft))
+pub shed-deeds : (s : SourceSettings) (r : SourceRecord) (t : State) → deeds_of_row (holds s None r) (row_of (holds s None r) t heard.Shed) ≡ (if among t (state.Off ∷ state.Disabled ∷ []) then [] else hr (holds s None r HardResetsLeft))
 unfolding row_of
 shed-deeds s r state.Off = refl
 shed-deeds s r _ = refl
 
-off-rests : (t : State) → among t (state.Off ∷ state.Disabled ∷ []) ≡ true → is_at_rest t ≡ true
+pub off-rests : (t : State) → among t (state.Off ∷ state.Disabled ∷ []) ≡ true → is_at_rest t ≡ true
 off-rests state.Off e = refl
 off-rests state.Disabled e = refl
 off-rests _ e = no e

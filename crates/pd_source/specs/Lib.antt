@@ -6,4 +6,5 @@ pub mod Acts
 pub mod Step
 pub mod Sound
 pub mod Rest
+pub mod Silent
 pub mod Laws

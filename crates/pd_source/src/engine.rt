@@ -1,10 +1,12 @@
 //! The engine: what it keeps, and its steps.
 
-ghost use Rattle.std.specs.Prelude.{◌≡◌, ◌≤◌, ◌<◌, ◌+◌, ◌++◌, length};
+ghost use Rattle.std.specs.Prelude.{◌≡◌, ◌≤◌, ◌<◌, ◌+◌, ◌++◌, length, false, [], None, option_map, option_to_list};
 ghost use Rattle.arrayvec.specs.ArrayVec.{array_vec_len};
-ghost use Rattle.pd_timers.specs.Deadlines.{first_of};
+ghost use Rattle.pd_timers.specs.Deadlines.{first_of, idle};
 ghost use Rattle.pd_source.specs.Record.{new_source};
-ghost use Rattle.pd_source.specs.Acts.{after, wants, all_after, all_wants, limit_from, sending_of, noise};
+ghost use Rattle.pd_source.specs.Acts.{after, wants, all_after, all_wants, limit_from, kept_from, revision_from, draft_from, sending_of, noise};
+ghost use Rattle.pd_source.specs.Request.{contract_of};
+ghost use Rattle.pd_source.specs.declared.kinds.Revision.TheVariants as spoken;
 ghost use Rattle.pd_source.specs.Step.{before_row, stepped, acts_of, hears_in, is_ready, revision_bits};
 
 use crate::kinds::{Deed, Message};
@@ -213,25 +215,40 @@ impl Source {
         ensures few { array_vec_len acts.new ≤ array_vec_len acts.old + 1 }
         ensures acts { acts.new.items ≡ acts.old.items ++ wants self.old.settings deed self.old.record }
     {
+        if let Some(act) = self.wanted(deed) {
+            acts.push(act);
+        }
+        self.change(deed, now, stimulus, answer);
+    }
+
+    /// What an act of a row wants of the port.
+    fn wanted(&self, deed: Deed) -> Option<Act>
+        ensures { option_to_list result ≡ wants self.now.settings deed self.now.record }
+    {
+        match deed {
+            Deed::Enter(_) | Deed::EnterAgain => Some(Act::DropWaiting),
+            Deed::Send(message) => Some(Act::Send(self.sending(message))),
+            Deed::SendHardReset => Some(Act::SendHardReset),
+            Deed::Note(note) => Some(Act::Note(note)),
+            Deed::On => Some(Act::On),
+            Deed::Off => Some(Act::Off),
+            Deed::ResetLayer => Some(Act::ResetLayer),
+            _ => None,
+        }
+    }
+
+    /// What an act of a row does to the engine.
+    fn change(&mut self, deed: Deed, now: u64, stimulus: &Stimulus, answer: &Option<Answer>)
+        requires { now ≤ 120000000 }
+        ensures { self.new ≡ record self.old { «record» = after self.old.settings deed now stimulus.now answer.now self.old.record } }
+    {
         match deed {
             Deed::Enter(state) => {
                 self.state = state;
-                self.deadlines.stop_all();
-                self.sent = false;
-                acts.push(Act::DropWaiting);
+                self.enter();
             }
-            Deed::EnterAgain => {
-                self.deadlines.stop_all();
-                self.sent = false;
-                acts.push(Act::DropWaiting);
-            }
+            Deed::EnterAgain => self.enter(),
             Deed::Start(timer) => self.deadlines.start(now, timer),
-            Deed::Send(message) => acts.push(Act::Send(self.sending(message))),
-            Deed::SendHardReset => acts.push(Act::SendHardReset),
-            Deed::Note(note) => acts.push(Act::Note(note)),
-            Deed::On => acts.push(Act::On),
-            Deed::Off => acts.push(Act::Off),
-            Deed::ResetLayer => acts.push(Act::ResetLayer),
             Deed::CapsUp => self.caps_counter = self.caps_counter.saturating_add(1),
             Deed::CapsZero => self.caps_counter = 0,
             Deed::IdentUp => {
@@ -241,42 +258,75 @@ impl Source {
             Deed::HardZero => self.hard_reset_counter = 0,
             Deed::LimitFromAnswer => self.limit = limit_from(stimulus, self.limit),
             Deed::CableLimit => self.limit = Some(CABLE_CURRENT_MA),
-            Deed::KeepRequest => {
-                if let Stimulus::Request { object, revision } = stimulus {
-                    self.kept_request = Some(*object);
-                    self.revision = revision_of(*revision);
-                }
-            }
-            Deed::Draft => {
-                if let Some(Answer::Offer(currents)) = answer {
-                    self.draft_offer = copied(currents.as_slice());
-                }
-            }
+            Deed::KeepRequest => self.keep_request(stimulus),
+            Deed::Draft => self.draft(answer),
             Deed::Settle => self.delivered_offer = copied(self.draft_offer.as_slice()),
-            Deed::Close => {
-                self.draft_offer.clear();
-                self.accepted_request = None;
-            }
+            Deed::Close => self.close(),
             Deed::Take => self.accepted_request = self.kept_request,
-            Deed::Commit => {
-                self.contract = match self.accepted_request {
-                    None => None,
-                    Some(object) => Some(contract_of(
-                        self.supplies.as_slice(),
-                        self.delivered_offer.as_slice(),
-                        object,
-                    )),
-                };
-                self.accepted_request = None;
-            }
-            Deed::Void => {
-                self.contract = None;
-                self.accepted_request = None;
-                self.draft_offer.clear();
-                self.delivered_offer.clear();
-                self.revision = Revision::Revision3;
-            }
+            Deed::Commit => self.commit(),
+            Deed::Void => self.void(),
+            _ => {}
         }
+    }
+
+    /// A state is entered: no timer runs, and nothing was sent.
+    fn enter(&mut self)
+        ensures { self.new ≡ record self.old { «record» = record self.old.record { deadlines = idle; sent = false } } }
+    {
+        self.deadlines.stop_all();
+        self.sent = false;
+    }
+
+    /// The request that came is kept, and its revision is spoken.
+    fn keep_request(&mut self, stimulus: &Stimulus)
+        ensures { self.new ≡ record self.old { «record» = record self.old.record { kept_request = kept_from stimulus.now self.old.record.kept_request; revision = revision_from stimulus.now self.old.record.revision } } }
+    {
+        if let Stimulus::Request { object, revision } = stimulus {
+            self.kept_request = Some(*object);
+            self.revision = revision_of(*revision);
+        }
+    }
+
+    /// The answer is the offer that is being made.
+    fn draft(&mut self, answer: &Option<Answer>)
+        ensures { self.new ≡ record self.old { «record» = record self.old.record { draft_offer = draft_from answer.now self.old.record.draft_offer } } }
+    {
+        if let Some(Answer::Offer(currents)) = answer {
+            self.draft_offer = copied(currents.as_slice());
+        }
+    }
+
+    /// No offer is being made, and no request is accepted.
+    fn close(&mut self)
+        ensures { self.new ≡ record self.old { «record» = record self.old.record { draft_offer = []; accepted_request = None } } }
+    {
+        self.draft_offer.clear();
+        self.accepted_request = None;
+    }
+
+    /// The accepted request becomes the contract.
+    fn commit(&mut self)
+        ensures { self.new ≡ record self.old { «record» = record self.old.record { contract = option_map (contract_of self.old.settings.supplies self.old.record.delivered_offer) self.old.record.accepted_request; accepted_request = None } } }
+    {
+        self.contract = match self.accepted_request {
+            None => None,
+            Some(object) => Some(contract_of(
+                self.supplies.as_slice(),
+                self.delivered_offer.as_slice(),
+                object,
+            )),
+        };
+        self.accepted_request = None;
+    }
+
+    /// Contract, accepted request and both offers are dropped, and Revision 3.0 is spoken.
+    fn void(&mut self)
+        ensures { self.new ≡ record self.old { «record» = record self.old.record { contract = None; accepted_request = None; draft_offer = []; delivered_offer = []; revision = spoken.Revision3 } } }
+    {
+        self.close();
+        self.contract = None;
+        self.delivered_offer.clear();
+        self.revision = Revision::Revision3;
     }
 
     /// A message with its objects.

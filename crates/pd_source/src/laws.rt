@@ -2,6 +2,7 @@
 
 ghost use Rattle.pd_source.specs.Laws.{StepsSetLater, StepsReadOnlyTheirAnswer, HoldsKeepTheFloor, HoldsOfDetachedAreFloors, HoldsStayAllowed, OffersAskUnderTheLimit, LimitsAreOfAnswers, TheStartIsSound, StepsStaySound, ContractsAreMade, RequestsAreTaken, OffersAreSettled, AcceptingKeepsTheOffer, ObjectsOfferTheirSupplies, OffStaysOff};
 ghost use Rattle.pd_source.specs.Rest.{TheStartIsEmptyAtRest, StepsStayEmptyAtRest, ShedsFallToTheFloor};
+ghost use Rattle.pd_source.specs.Silent.{OffIsSilent, ShedsAreSilent, SilentStaySilent};
 
 /// Each deadline that a step sets is later than the step, and the timer that fell due no longer runs.
 pub fn later()
@@ -26,6 +27,14 @@ pub fn rests()
     ensures start { TheStartIsEmptyAtRest }
     ensures stepped { StepsStayEmptyAtRest }
     ensures sheds { ShedsFallToTheFloor }
+{}
+
+/// A source that has shed, or is off, sends no message and holds nothing, and it stays so at that time: what it waits for
+/// comes later.
+pub fn silent()
+    ensures off { OffIsSilent }
+    ensures sheds { ShedsAreSilent }
+    ensures stays { SilentStaySilent }
 {}
 
 /// An offer is asked for under the limit that the step leaves, and each limit has its cause.

@@ -276,3 +276,32 @@ fn asked_limit(source: &Source, stimulus: &Stimulus) -> u32 {
         _ => 0,
     }
 }
+
+/// Each state is reached.
+#[test]
+fn states_are_reached(rt: HostRuntime) {
+    for state in ALL_STATES {
+        assert!(rt; at(state).state == state);
+    }
+    assert!(rt; at_ready().contract == Some(contract()));
+}
+
+const ALL_STATES: [State; 17] = [
+    State::Off,
+    State::Startup,
+    State::VdmIdentityRequest,
+    State::SendCapabilities,
+    State::Discovery,
+    State::NegotiateCapability,
+    State::CapabilityResponse,
+    State::TransitionSupply,
+    State::Ready,
+    State::WaitNewCapabilities,
+    State::GetSinkCap,
+    State::SendSoftReset,
+    State::SoftReset,
+    State::HardReset,
+    State::HardResetReceived,
+    State::TransitionToDefault,
+    State::Disabled,
+];
