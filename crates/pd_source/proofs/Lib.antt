@@ -12,5 +12,6 @@ pub mod Limits
 pub mod SoundSteps
 pub mod Accepting
 pub mod Agreed
+pub mod Commits
 pub mod Rests
 pub mod Attached
