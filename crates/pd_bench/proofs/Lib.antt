@@ -1,3 +1,4 @@
 pub mod PendingLemmas
 pub mod Refusals
 pub mod SessionLemmas
+pub mod Traces

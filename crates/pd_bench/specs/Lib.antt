@@ -3,3 +3,4 @@ pub mod Laws
 pub mod Pending
 pub mod Session
 pub mod Stream
+pub mod Traces

@@ -111,3 +111,5 @@ mod scripts;
 mod shows;
 #[cfg(test)]
 mod tests;
+#[cfg(test)]
+mod torn;

@@ -6,6 +6,7 @@ use Rattle.pd_source.specs.Record.{SourceSettings, SourceRecord, off}
 use Rattle.pd_source.specs.Step.{stepped}
 use Rattle.pd_source.specs.Sound.{IsTaken}
 use Rattle.pd_source.proofs.Accepting.{accepting-keeps}
+use Rattle.pd_source.proofs.Commits.{still, switched_off, commits-stepped}
 use Rattle.pd_source.proofs.Agreed.{contract-stepped, accepted-stepped, delivered-stepped}
 use Rattle.pd_line.specs.Record.{PortRecord}
 use Rattle.pd_plan.specs.Settings.{SettingsData}
@@ -18,10 +19,10 @@ use Rattle.pd_port.specs.Sound.{Agrees}
 use Rattle.pd_port.proofs.Asked.{record_after-source}
 
 same : (s : SourceSettings) (a : Option Answer) (r : SourceRecord) → Agrees s a r r
-same s a r = record { contract = inl refl; accepted = inl refl; delivered = inl refl; kept = inl refl }
+same s a r = record { contract = inl refl; accepted = inl refl; delivered = inl refl; kept = inl refl; made = inr (still r) }
 
 nothing : (s : SourceSettings) (a : Option Answer) (r : SourceRecord) → Agrees s a r (off s)
-nothing s a r = record { contract = inr (inl refl); accepted = inr (inl refl); delivered = inr (inl refl); kept = inr (inr refl) }
+nothing s a r = record { contract = inr (inl refl); accepted = inr (inl refl); delivered = inr (inl refl); kept = inr (inr refl); made = inr (switched_off s r) }
 
 step : (s : SourceSettings) (t : ℕ) (x : Stimulus) (a : Option Answer) (r : SourceRecord) → Agrees s a r (stepped s t x a r)
 step s t x a r = record {
@@ -29,6 +30,7 @@ step s t x a r = record {
   accepted = accepted-stepped s t x a r;
   delivered = delivered-stepped s t x a r;
   kept = accepting-keeps s t x a r;
+  made = commits-stepped s t x a r;
 }
 
 -- without an answer nothing is accepted
@@ -38,7 +40,7 @@ none_taken a r new (inr (inl h)) = inr (inl h)
 none_taken a r new (inr (inr h)) = absurd (let e : false ≡ true = h.2 in cc)
 
 unanswered : (s : SourceSettings) (a : Option Answer) (r new : SourceRecord) → Agrees s None r new → Agrees s a r new
-unanswered s a r new h = record { contract = h.contract; accepted = none_taken a r new.accepted_request h.accepted; delivered = h.delivered; kept = h.kept }
+unanswered s a r new h = record { contract = h.contract; accepted = none_taken a r new.accepted_request h.accepted; delivered = h.delivered; kept = h.kept; made = h.made }
 
 after_told : (s : SourceSettings) (t : ℕ) (x : Option Stimulus) (a : Option Answer) (r : SourceRecord) → Agrees s a r (source_after_told s t x a r)
 after_told s t None a r = same s a r

@@ -7,6 +7,7 @@ use Rattle.pd_objects.specs.declared.query.Answer.{Answer}
 use Rattle.pd_objects.specs.declared.query.Query.TheVariants as query
 use Rattle.pd_source.specs.Record.{SourceSettings, SourceRecord}
 use Rattle.pd_source.specs.Sound.{IsSound, IsAnswer, IsMade, IsTaken, IsSettled}
+use Rattle.pd_source.specs.Commits.{MakesOrNot}
 use Rattle.pd_plan.specs.Settings.{SettingsData}
 use Rattle.pd_port.specs.declared.due.Due.{Due}
 use Rattle.pd_port.specs.Port.{PortRecord, detached, source_settings, ask, record_after}
@@ -27,12 +28,14 @@ pub record PortsStaySound : Type 0 where
       ask s r d ≡ Some (query.Offer supplies limit) → supplies.items ≡ s.supplies
 
 -- What becomes of a contract, an accepted request and a delivered offer: a contract is made of the other two; a request is
--- accepted that is kept, valid and fits; the offer is the one that was made, and stays where a request is accepted.
+-- accepted that is kept, valid and fits; the offer is the one that was made, and stays where a request is accepted. A
+-- contract is made in a step from Transition_Supply to Ready alone.
 pub record Agrees (s : SourceSettings) (given : Option Answer) (old new : SourceRecord) : Type 0 where
   pub contract : IsMade s old new.contract
   pub accepted : IsTaken given old new.accepted_request
   pub delivered : IsSettled old new.delivered_offer
   pub kept : (new.delivered_offer ≡ old.delivered_offer) ⊎ ((new.accepted_request ≡ old.accepted_request) ⊎ (new.accepted_request ≡ None))
+  pub made : MakesOrNot s old new
 
 -- So it is in each step of a port.
 abbrev pub PortsAgree : Type 0

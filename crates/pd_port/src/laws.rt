@@ -71,7 +71,8 @@ pub fn sound()
 {}
 
 /// In each step of a port a contract is made of the accepted request and the delivered offer, a request is accepted that is
-/// kept, valid and fits, and the delivered offer is the one that was made, which stays where a request is accepted.
+/// kept, valid and fits, and the delivered offer is the one that was made, which stays where a request is accepted. A
+/// contract is made in each step from Transition_Supply to Ready, and in no other.
 pub fn agreed()
     ensures { PortsAgree }
 {}

@@ -30,8 +30,17 @@ Wrote-more all rest a b c n w more = record {
 pub Wrote-all : (all rest : List ℕ) (a b : Option (List ℕ)) → Wrote all rest a b → rest ≡ [] → Appends a b all
 Wrote-all all rest a b w e = let k : all ≡ w.out = w.whole ∙ ap (λ v. w.out ++ v) e ∙ append-nil w.out in rw k w.appends
 
-pub Wrote-part : (all rest : List ℕ) (a b c : Option (List ℕ)) → Wrote all rest a b → Keeps b c → WrotePart a c all
-Wrote-part all rest a b c w k = record { out = w.out; begins = (rest, w.whole); appends = Appends-kept a b c w.out w.appends k }
+-- a writer that failed after some first bytes of what was left
+pub Wrote-part : (all rest : List ℕ) (a b c : Option (List ℕ)) → Wrote all rest a b → WrotePart b c rest → WrotePart a c all
+Wrote-part all rest a b c w part = record {
+  out = w.out ++ part.out;
+  begins = (part.begins.0, w.whole ∙ ap (λ v. w.out ++ v) part.begins.1 ∙ sym (append_assoc w.out part.out part.begins.0));
+  appends = Appends-trans a b c w.out part.out w.appends part.appends;
+}
+
+-- none is a part of each text
+pub wrote_none : (a b : Option (List ℕ)) (text : List ℕ) → Keeps a b → WrotePart a b text
+wrote_none a b text k = record { out = []; begins = (text, refl); appends = Appends-kept a a b [] (Appends-nil a) k }
 
 -- a part of what follows a text that was written
 pub WrotePart-after : (a b c : Option (List ℕ)) (text more : List ℕ) → Appends a b text → WrotePart b c more → WrotePart a c (text ++ more)

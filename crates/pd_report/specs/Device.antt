@@ -1,5 +1,5 @@
 -- What a call of a device does to its bytes and to its count of failed calls.
-use Rattle.std.specs.Prelude.{◌≡◌, ℕ, ◌+◌, ◌-◌, ◌^◌, ◌<◌, ◌≤◌, min, List, ◌++◌, length, MatchResult, Result, Option}
+use Rattle.std.specs.Prelude.{◌≡◌, ℕ, ◌+◌, ◌-◌, ◌^◌, ◌<◌, ◌≤◌, min, List, ◌++◌, length, take, MatchResult, Result, Option}
 use Rattle.std.specs.Io.KnownBytes.{Appends}
 use Rattle.pd_report.specs.declared.fault.BenchFault.{BenchFault}
 use Rattle.pd_report.specs.declared.fault.BenchFault.TheVariants.{WriteFailed}
@@ -23,6 +23,10 @@ pub record WrotePart (old new : Option (List ℕ)) (text : List ℕ) : Type 0 wh
   pub out : List ℕ
   pub begins : Begins out text
   pub appends : Appends old new out
+
+-- a write appended the bytes that it took; one that failed appended some first bytes of what it was handed, or none
+abbrev pub WritesSome : {E : Type 0} → Option (List ℕ) → Option (List ℕ) → Result ℕ E → List ℕ → Type 0
+WritesSome old new r bytes = MatchResult r (λ n. Appends old new (take n bytes)) (λ _. WrotePart old new bytes)
 
 -- the text was written, or the writer failed after the first bytes of it
 abbrev pub Writes : {T : Type 0} → Option (List ℕ) → Option (List ℕ) → Result T BenchFault → List ℕ → Type 0

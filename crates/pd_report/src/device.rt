@@ -1,8 +1,7 @@
 //! Where text goes.
 
 ghost use Rattle.std.specs.Prelude.{◌≡◌, ◌≢◌, ◌+◌, ℕ, List, length, None, Option};
-ghost use Rattle.std.specs.Io.KnownBytes.{WriteAppends};
-ghost use Rattle.pd_report.specs.Device.{CountsFailure, CountsWrite, Writes};
+ghost use Rattle.pd_report.specs.Device.{CountsFailure, CountsWrite, Writes, WritesSome};
 
 use crate::BenchFault;
 
@@ -21,9 +20,9 @@ pub trait TextOut {
     /// Takes some of the bytes, the first of them, and says how many. To take none of some is a failure too.
     ///
     /// # Errors
-    /// The device failed, and took none.
+    /// The device failed. Some of the bytes may have gone out, the first of them; how many is left open.
     fn write(&mut self, bytes: &[u8]) -> Result<usize, DeviceFault>
-        ensures bytes { WriteAppends (taken self.old) (taken self.new) result bytes.now }
+        ensures bytes { WritesSome (taken self.old) (taken self.new) result bytes.now }
         ensures counts { CountsWrite (failures self.old) (failures self.new) result bytes.now };
 }
 

@@ -2,11 +2,13 @@
 use Rattle.std.proofs.Common.{◌≡◌, ◌≢◌, ◌⊎◌, ⊎_elim, ℕ, ◌-◌, arith, Bool, true, false, ◌&&◌, nat_le, List, [], ◌∷◌, ◌++◌, Option, Some, None, option_map, unwrap_or, refl, sym, ap, subst, ◌∙◌, inl, inr, append_assoc}
 use Rattle.std.specs.Prelude.{slice_get}
 use Rattle.std.proofs.lemmas.Bool.{cases_eq}
+use Rattle.std.proofs.lemmas.List.Elements.{All-nil, All-push}
 use Rattle.std.proofs.lemmas.Option.{same_Some, slice_get_within}
 use Rattle.pd_objects.specs.declared.contract.Contract.{Contract}
 use Rattle.pd_source.specs.Record.{SourceSettings, SourceRecord}
 use Rattle.pd_source.specs.Request.{is_valid, is_at_most, position_of, contract_of}
-use Rattle.pd_source.specs.Sound.{IsSound, IsContract, IsMade, IsTaken, IsSettled}
+use Rattle.pd_source.specs.Sound.{IsSound, IsContract, IsTaken, IsSettled, is_transition}
+use Rattle.pd_source.specs.Commits.{MakesOrNot}
 use Rattle.pd_plan.specs.Settings.{SettingsData}
 use Rattle.pd_line.specs.Record.{nothing_attached}
 use Rattle.pd_port.specs.Port.{PortRecord, source_settings, detached}
@@ -14,17 +16,19 @@ use Rattle.pd_port.specs.Sound.{Agrees}
 use Rattle.pd_port.proofs.Agreed.{ports_agree}
 use Rattle.pd_scenario.specs.Plan.{Plan, settings_of}
 use Rattle.pd_run.specs.Run.{Move, Standing, standing, after, GoesOn}
-use Rattle.pd_run.specs.Sound.{AreSound, Accepts, IsOfOffer, ContractsAreWithinOffers}
+use Rattle.pd_run.specs.Sound.{AreSound, Accepts, Makes, LeavesInForce, StaysAccepted, IsOfOffer, ContractsAreWithinOffers}
 use Rattle.pd_run.proofs.Moves.{standing-same, standing-other}
 
--- one of these moves of the port accepted the request, and the delivered offer is still that of then
+-- one of these moves of the port accepted the request, it has been accepted since, and the delivered offer is still that
+-- of then
 pub record IsAccepted (plan : Plan) (moves : List Move) (p object : ℕ) (offer : List ℕ) : Type 0 where
   pub earlier : List Move
   pub move : Move
-  pub later : List Move
-  pub among : moves ≡ earlier ++ move ∷ later
+  pub between : List Move
+  pub among : moves ≡ earlier ++ move ∷ between
   pub on_port : move.port ≡ p
   pub accepts : Accepts plan move object
+  pub accepted : StaysAccepted plan p object between
   pub still : move.before.source.delivered_offer ≡ offer
 
 -- What is kept on each port: an accepted request was accepted in a move, and a contract is of its offer.
@@ -35,26 +39,38 @@ pub record Traced (plan : Plan) (moves : List Move) (p : ℕ) (r : SourceRecord)
 longer : (earlier later : List Move) (m n : Move) (moves : List Move) → moves ≡ earlier ++ m ∷ later → moves ++ n ∷ [] ≡ earlier ++ m ∷ (later ++ n ∷ [])
 longer earlier later m n moves e = ap (λ (l : List Move). l ++ n ∷ []) e ∙ append_assoc earlier (m ∷ later) (n ∷ [])
 
-accepted_longer : (plan : Plan) (moves : List Move) (n : Move) (p object : ℕ) (offer new : List ℕ) → offer ≡ new → IsAccepted plan moves p object offer → IsAccepted plan (moves ++ n ∷ []) p object new
-accepted_longer plan moves n p object offer new e h = record {
+-- one more move, which leaves the request accepted where it is of the port
+accepted_longer : (plan : Plan) (moves : List Move) (n : Move) (p object : ℕ) (offer new : List ℕ) → offer ≡ new → (n.port ≡ p → (after plan n).source.accepted_request ≡ Some object)
+    → IsAccepted plan moves p object offer → IsAccepted plan (moves ++ n ∷ []) p object new
+accepted_longer plan moves n p object offer new e stays h = record {
   earlier = h.earlier;
   move = h.move;
-  later = h.later ++ n ∷ [];
-  among = longer h.earlier h.later h.move n moves h.among;
+  between = h.between ++ n ∷ [];
+  among = longer h.earlier h.between h.move n moves h.among;
   on_port = h.on_port;
   accepts = h.accepts;
+  accepted = All-push (λ m. m.port ≡ p → (after plan m).source.accepted_request ≡ Some object) h.between n h.accepted stays;
   still = h.still ∙ e;
 }
 
-contract_longer : (plan : Plan) (moves : List Move) (n : Move) (p : ℕ) (c : Contract) → IsOfOffer plan moves p c → IsOfOffer plan (moves ++ n ∷ []) p c
-contract_longer plan moves n p c h = record {
+-- one more move, which leaves the contract in force where it is of the port
+contract_longer : (plan : Plan) (moves : List Move) (n : Move) (p : ℕ) (c : Contract) → (n.port ≡ p → LeavesInForce plan n c) → IsOfOffer plan moves p c → IsOfOffer plan (moves ++ n ∷ []) p c
+contract_longer plan moves n p c leaves h = record {
   earlier = h.earlier;
   move = h.move;
-  later = h.later ++ n ∷ [];
-  among = longer h.earlier h.later h.move n moves h.among;
+  between = h.between;
+  making = h.making;
+  since = h.since ++ n ∷ [];
+  among =
+      longer h.earlier (h.between ++ h.making ∷ h.since) h.move n moves h.among
+      ∙ ap (λ (l : List Move). h.earlier ++ h.move ∷ l) (append_assoc h.between (h.making ∷ h.since) (n ∷ []));
   on_port = h.on_port;
   object = h.object;
   accepts = h.accepts;
+  accepted = h.accepted;
+  made_on_port = h.made_on_port;
+  makes = h.makes;
+  in_force = All-push (λ m. m.port ≡ p → LeavesInForce plan m c) h.since n h.in_force leaves;
   is_of = h.is_of;
   offered = h.offered;
   voltage = h.voltage;
@@ -80,22 +96,28 @@ no_place object h =
     let k = slice_get_within none (position_of object - 1) _ (is_there none object h) in
     absurd (omega arith)
 
--- the contract that an accepted request leads to
-made_now : (plan : Plan) (moves : List Move) (p object : ℕ) (offer : List ℕ) (c : Contract) (limit : ℕ) → c ≡ contract_of (settings_of plan p).supplies offer object → is_valid offer object ≡ true →
-    IsContract limit (settings_of plan p).supplies c → IsAccepted plan moves p object offer → IsOfOffer plan moves p c
+-- the contract that a move makes of an accepted request
+made_now : (plan : Plan) (moves : List Move) (n : Move) (p object : ℕ) (offer : List ℕ) (c : Contract) (limit : ℕ) → c ≡ contract_of (settings_of plan p).supplies offer object → is_valid offer object ≡ true →
+    IsContract limit (settings_of plan p).supplies c → n.port ≡ p → Makes plan n object c → IsAccepted plan moves p object offer → IsOfOffer plan (moves ++ n ∷ []) p c
 unfolding contract_of
-made_now plan moves p object offer c limit e valid contract h =
+made_now plan moves n p object offer c limit e valid contract on_port makes h =
     let of_then : c ≡ contract_of (settings_of plan p).supplies h.move.before.source.delivered_offer object = e ∙ ap (λ (l : List ℕ). contract_of (settings_of plan p).supplies l object) (sym h.still) in
     let place : c.position ≡ position_of object = ap (λ (x : Contract). x.position) e in
     let current : c.offered_ma ≡ unwrap_or (slice_get offer (position_of object - 1)) 0 = ap (λ (x : Contract). x.offered_ma) e in
     record {
       earlier = h.earlier;
       move = h.move;
-      later = h.later;
-      among = h.among;
+      between = h.between;
+      making = n;
+      since = [];
+      among = longer h.earlier h.between h.move n moves h.among;
       on_port = h.on_port;
       object = object;
       accepts = h.accepts;
+      accepted = h.accepted;
+      made_on_port = on_port;
+      makes = makes;
+      in_force = All-nil (λ m. m.port ≡ p → LeavesInForce plan m c);
       is_of = of_then;
       offered = ap (λ (l : List ℕ). slice_get l (c.position - 1)) h.still ∙ ap (λ n. slice_get offer (n - 1)) place ∙ is_there offer object valid ∙ ap Some (sym current);
       voltage = contract.voltage;
@@ -127,14 +149,43 @@ module _ (plan : Plan) (past : List Move) (m : Move) (old_sound : IsSound (sourc
       by_offer (inr (inr h)) = absurd (not_none m.before.source.accepted_request object (old_sound.accepted_in_transition h.1) was)
 
   carried : (object : ℕ) → m.before.source.accepted_request ≡ Some object → (after plan m).source.accepted_request ≡ Some object → IsAccepted plan (past ++ m ∷ []) m.port object (after plan m).source.delivered_offer
-  carried object was now = accepted_longer plan past m m.port object _ _ (stays object was now) (traced.accepted object was)
+  carried object was now = accepted_longer plan past m m.port object _ _ (stays object was now) (λ e. now) (traced.accepted object was)
 
   -- the request is accepted now
   fresh : (object : ℕ) → Accepts plan m object → m.before.source.delivered_offer ≡ (after plan m).source.delivered_offer → IsAccepted plan (past ++ m ∷ []) m.port object (after plan m).source.delivered_offer
-  fresh object accepts same = record { earlier = past; move = m; later = []; among = refl; on_port = refl; accepts = accepts; still = same }
+  fresh object accepts same = record {
+    earlier = past;
+    move = m;
+    between = [];
+    among = refl;
+    on_port = refl;
+    accepts = accepts;
+    accepted = All-nil (λ x. x.port ≡ m.port → (after plan x).source.accepted_request ≡ Some object);
+    still = same;
+  }
+
+  -- a request is accepted in Transition_Supply alone
+  in_transition : (object : ℕ) → m.before.source.accepted_request ≡ Some object → is_transition m.before.source.state ≡ true
+  in_transition object was = by_state (is_transition m.before.source.state) refl
+    where
+      by_state : (b : Bool) → is_transition m.before.source.state ≡ b → b ≡ true
+      by_state true e = refl
+      by_state false e = absurd (not_none m.before.source.accepted_request object (old_sound.accepted_in_transition e) was)
+
+  -- while a request is accepted, none is accepted anew
+  none_anew : (other object : ℕ) → m.before.source.accepted_request ≡ Some other → (after plan m).source.accepted_request ≡ Some object → (after plan m).source.accepted_request ≡ m.before.source.accepted_request
+  none_anew other object was now = by_made agrees.made
+    where
+      by_made : MakesOrNot (source_settings (settings_of plan m.port)) m.before.source (after plan m).source → (after plan m).source.accepted_request ≡ m.before.source.accepted_request
+      by_made (inl h) = absurd (not_none (after plan m).source.accepted_request object h.used now)
+      by_made (inr h) =
+          ⊎_elim
+          (λ (k : (after plan m).source.accepted_request ≡ m.before.source.accepted_request). k)
+          (λ (k : (after plan m).source.accepted_request ≡ None). absurd (not_none (after plan m).source.accepted_request object k now))
+          (h.none_anew (in_transition other was))
 
   accepted_now : (object : ℕ) → (after plan m).source.accepted_request ≡ Some object → IsAccepted plan (past ++ m ∷ []) m.port object (after plan m).source.delivered_offer
-  accepted_now object now = by_taken agrees.accepted
+  accepted_now object now = by_before m.before.source.accepted_request refl
     where
       by_kept : Accepts plan m object → ((after plan m).source.delivered_offer ≡ m.before.source.delivered_offer) ⊎ (((after plan m).source.accepted_request ≡ m.before.source.accepted_request) ⊎ ((after plan m).source.accepted_request ≡ None)) →
           IsAccepted plan (past ++ m ∷ []) m.port object (after plan m).source.delivered_offer
@@ -142,21 +193,29 @@ module _ (plan : Plan) (past : List Move) (m : Move) (old_sound : IsSound (sourc
       by_kept accepts (inr (inl h)) = carried object (sym h ∙ now) now
       by_kept accepts (inr (inr h)) = absurd (not_none (after plan m).source.accepted_request object h now)
 
-      by_taken : IsTaken m.answer m.before.source (after plan m).source.accepted_request → IsAccepted plan (past ++ m ∷ []) m.port object (after plan m).source.delivered_offer
-      by_taken (inl h) = carried object (sym h ∙ now) now
-      by_taken (inr (inl h)) = absurd (not_none (after plan m).source.accepted_request object h now)
-      by_taken (inr (inr h)) = by_kept (record { kept = sym h.0 ∙ now; valid = h.1; fits = h.2; accepted = now }) agrees.kept
+      by_taken : m.before.source.accepted_request ≡ None → IsTaken m.answer m.before.source (after plan m).source.accepted_request → IsAccepted plan (past ++ m ∷ []) m.port object (after plan m).source.delivered_offer
+      by_taken none (inl h) = carried object (sym h ∙ now) now
+      by_taken none (inr (inl h)) = absurd (not_none (after plan m).source.accepted_request object h now)
+      by_taken none (inr (inr h)) = by_kept (record { none_before = none; kept = sym h.0 ∙ now; valid = h.1; fits = h.2; accepted = now }) agrees.kept
+
+      by_before : (o : Option ℕ) → m.before.source.accepted_request ≡ o → IsAccepted plan (past ++ m ∷ []) m.port object (after plan m).source.delivered_offer
+      by_before None e = by_taken e agrees.accepted
+      by_before (Some other) e = carried object (sym (none_anew other object e now) ∙ now) now
 
   contract_now : (c : Contract) → (after plan m).source.contract ≡ Some c → IsOfOffer plan (past ++ m ∷ []) m.port c
-  contract_now c now = by_made agrees.contract
+  contract_now c now = by_made agrees.made
     where
-      by_made : IsMade (source_settings (settings_of plan m.port)) m.before.source (after plan m).source.contract → IsOfOffer plan (past ++ m ∷ []) m.port c
-      by_made (inl h) = contract_longer plan past m m.port c (traced.contract c (sym h ∙ now))
-      by_made (inr (inl h)) = absurd (no_contract (after plan m).source.contract c h now)
-      by_made (inr (inr h)) =
-          let k = mapped (source_settings (settings_of plan m.port)) m.before.source.delivered_offer m.before.source.accepted_request c (sym h ∙ now) in
-          contract_longer plan past m m.port c
-          (made_now plan past m.port k.0 m.before.source.delivered_offer c _ k.2 (old_sound.accepted k.0 k.1) (new_sound.contract c now) (traced.accepted k.0 k.1))
+      by_made : MakesOrNot (source_settings (settings_of plan m.port)) m.before.source (after plan m).source → IsOfOffer plan (past ++ m ∷ []) m.port c
+      by_made (inl h) =
+          let k = mapped (source_settings (settings_of plan m.port)) m.before.source.delivered_offer m.before.source.accepted_request c (sym h.contract ∙ now) in
+          made_now plan past m m.port k.0 m.before.source.delivered_offer c _ k.2 (old_sound.accepted k.0 k.1) (new_sound.contract c now) refl
+          (record { accepted = k.1; ready = h.to_ready; contract = now; used = h.used }) (traced.accepted k.0 k.1)
+      by_made (inr h) =
+          ⊎_elim
+          (λ (same : (after plan m).source.contract ≡ m.before.source.contract).
+          contract_longer plan past m m.port c (λ e. record { contract = now; none_made = λ object was. h.not_ready (in_transition object was) }) (traced.contract c (sym same ∙ now)))
+          (λ (none : (after plan m).source.contract ≡ None). absurd (no_contract (after plan m).source.contract c none now))
+          h.contract
 
   pub traced_now : Traced plan (past ++ m ∷ []) m.port (after plan m).source
   traced_now = record { accepted = accepted_now; contract = contract_now }
@@ -165,10 +224,11 @@ module _ (plan : Plan) (past : List Move) (m : Move) (old_sound : IsSound (sourc
 abbrev pub AllTraced : Plan → List Move → Type 0
 AllTraced plan moves = (p : ℕ) → Traced plan moves p (standing plan moves p).state.source
 
-traced_longer : (plan : Plan) (moves : List Move) (n : Move) (p : ℕ) (r : SourceRecord) → Traced plan moves p r → Traced plan (moves ++ n ∷ []) p r
-traced_longer plan moves n p r h = record {
-  accepted = λ object e. accepted_longer plan moves n p object _ _ refl (h.accepted object e);
-  contract = λ c e. contract_longer plan moves n p c (h.contract c e);
+-- a move of another port
+traced_longer : (plan : Plan) (moves : List Move) (n : Move) (p : ℕ) (r : SourceRecord) → n.port ≢ p → Traced plan moves p r → Traced plan (moves ++ n ∷ []) p r
+traced_longer plan moves n p r other h = record {
+  accepted = λ object e. accepted_longer plan moves n p object _ _ refl (λ k. absurd (other k)) (h.accepted object e);
+  contract = λ c e. contract_longer plan moves n p c (λ k. absurd (other k)) (h.contract c e);
 }
 
 pub traced_step : (plan : Plan) (past : List Move) (m : Move) → GoesOn plan past m → AreSound plan past → AreSound plan (past ++ m ∷ []) → AllTraced plan past → AllTraced plan (past ++ m ∷ [])
@@ -183,7 +243,7 @@ traced_step plan past m goes old new traced q =
     let here : Traced plan (past ++ m ∷ []) m.port (standing plan (past ++ m ∷ []) m.port).state.source = subst (λ (x : Standing). Traced plan (past ++ m ∷ []) m.port x.state.source) (sym (standing-same plan past m m.port refl)) next in
     subst (λ k. Traced plan (past ++ m ∷ []) k (standing plan (past ++ m ∷ []) k).state.source) same here)
     (λ (other : m.port ≢ q).
-    subst (λ (x : Standing). Traced plan (past ++ m ∷ []) q x.state.source) (sym (standing-other plan past m q other)) (traced_longer plan past m q (standing plan past q).state.source (traced q)))
+    subst (λ (x : Standing). Traced plan (past ++ m ∷ []) q x.state.source) (sym (standing-other plan past m q other)) (traced_longer plan past m q (standing plan past q).state.source other (traced q)))
     (cases_eq m.port q)
 
 none_at_start : (s : SettingsData) → ((detached s).source.accepted_request ≡ None) × ((detached s).source.contract ≡ None)

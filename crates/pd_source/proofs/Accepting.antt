@@ -11,7 +11,7 @@ use Rattle.pd_source.specs.Acts.{after, all_after}
 use Rattle.pd_source.specs.Step.{before_row, row_at, deeds_at, stepped}
 use Rattle.pd_source.proofs.Walk.{and-left, and-right, row_of-all, none_of, none_of_row, none_of-deeds}
 
-abbrev is_take : Deed → Bool
+abbrev pub is_take : Deed → Bool
 is_take deed.Take = true
 is_take _ = false
 
@@ -24,7 +24,8 @@ is_settle _ = false
 abbrev does_one : Row → Bool
 does_one r = none_of_row is_settle r || none_of_row is_take r
 
-IsLeft : Option ℕ → Option ℕ → Type 0
+-- the accepted request is left, or falls
+unfoldable pub IsLeft : Option ℕ → Option ℕ → Type 0
 IsLeft old new = (new ≡ old) ⊎ (new ≡ None)
 
 left-after : (s : SourceSettings) (d : Deed) (now : ℕ) (x : Stimulus) (a : Option Answer) (r : SourceRecord) (old : Option ℕ) → not (is_take d) ≡ true → IsLeft old r.accepted_request → IsLeft old (after s d now x a r).accepted_request
@@ -35,7 +36,7 @@ left-after s deed.Commit now x a r old n h = inr refl
 left-after s deed.Void now x a r old n h = inr refl
 left-after s _ now x a r old n h = h
 
-left-all : (s : SourceSettings) (ds : List Deed) (now : ℕ) (x : Stimulus) (a : Option Answer) (r : SourceRecord) (old : Option ℕ) → none_of is_take ds ≡ true → IsLeft old r.accepted_request → IsLeft old (all_after s ds now x a r).accepted_request
+pub left-all : (s : SourceSettings) (ds : List Deed) (now : ℕ) (x : Stimulus) (a : Option Answer) (r : SourceRecord) (old : Option ℕ) → none_of is_take ds ≡ true → IsLeft old r.accepted_request → IsLeft old (all_after s ds now x a r).accepted_request
 left-all s [] now x a r old n h = h
 left-all s (d ∷ ds) now x a r old n h =
     left-all s ds now x a (after s d now x a r) old (and-right (not (is_take d)) (none_of is_take ds) n)

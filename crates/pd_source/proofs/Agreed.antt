@@ -81,14 +81,14 @@ walk-delivered s o (deed.Void ∷ ds) now x a r fresh k e h = walk-delivered s o
 walk-delivered s o (d ∷ ds) now x a r fresh k e h = walk-delivered s o ds now x a (after s d now x a r) fresh k e h
 
 -- each row of the table is so
-abbrev with_guard : (List Deed → Bool) → Row → Bool
+abbrev pub with_guard : (List Deed → Bool) → Row → Bool
 with_guard p r = p (deeds_of_row (λ g. true) r) && p (deeds_of_row (λ g. false) r)
 
 by_reset : (p : List Deed → Bool) (r : Row) (b : Bool) → with_guard p r ≡ true → p (deeds_of_row (λ g. b) r) ≡ true
 by_reset p r true h = and-left (p (deeds_of_row (λ g. true) r)) (p (deeds_of_row (λ g. false) r)) h
 by_reset p r false h = and-right (p (deeds_of_row (λ g. true) r)) (p (deeds_of_row (λ g. false) r)) h
 
-chosen : (p : List Deed → Bool) (g : Guard → Bool) (r : Row) → with_guard p r ≡ true → p (deeds_of_row g r) ≡ true
+pub chosen : (p : List Deed → Bool) (g : Guard → Bool) (r : Row) → with_guard p r ≡ true → p (deeds_of_row g r) ≡ true
 chosen p g r h = ap p (fixed g r.next r) ∙ by_reset p r (g HardResetsLeft) h
 
 abbrev settles_from : State → Row → Bool

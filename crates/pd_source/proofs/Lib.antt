@@ -12,6 +12,7 @@ pub mod Limits
 pub mod SoundSteps
 pub mod Accepting
 pub mod Agreed
+pub mod Commits
 pub mod Rests
 pub mod Silent
 pub mod Attached

@@ -1,6 +1,7 @@
 pub mod Record
 pub mod Request
 pub mod Table
+pub mod Commits
 pub mod Facts
 pub mod Acts
 pub mod Step

@@ -1,6 +1,7 @@
 //! Laws of the engine's steps.
 
 ghost use Rattle.pd_source.specs.Laws.{StepsSetLater, StepsReadOnlyTheirAnswer, HoldsKeepTheFloor, HoldsOfDetachedAreFloors, HoldsStayAllowed, OffersAskUnderTheLimit, LimitsAreOfAnswers, TheStartIsSound, StepsStaySound, ContractsAreMade, RequestsAreTaken, OffersAreSettled, AcceptingKeepsTheOffer, ObjectsOfferTheirSupplies, OffStaysOff};
+ghost use Rattle.pd_source.specs.Commits.{ContractsAreMadeAtReady};
 ghost use Rattle.pd_source.specs.Rest.{TheStartIsEmptyAtRest, StepsStayEmptyAtRest, ShedsFallToTheFloor};
 ghost use Rattle.pd_source.specs.Silent.{OffIsSilent, ShedsAreSilent, SilentStaySilent};
 
@@ -57,6 +58,12 @@ pub fn agreed()
     ensures accepted { RequestsAreTaken }
     ensures delivered { OffersAreSettled }
     ensures kept { AcceptingKeepsTheOffer }
+{}
+
+/// A contract is made in each step that leads from Transition_Supply to Ready, and in no other; and while a request is
+/// accepted, none is accepted anew.
+pub fn commits()
+    ensures { ContractsAreMadeAtReady }
 {}
 
 /// The objects of Source_Capabilities offer the supplies at the currents of the draft offer.
