@@ -106,6 +106,12 @@ impl TextOut for Page {
 }
 
 #[cfg(test)]
+mod damages;
+#[cfg(test)]
+mod failures;
+#[cfg(test)]
+mod memory;
+#[cfg(test)]
 mod scripts;
 #[cfg(test)]
 mod shows;

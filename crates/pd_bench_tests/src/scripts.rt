@@ -37,14 +37,14 @@ fn answers<const N: usize>(
     )
 }
 
-const REFUSED: &[u8] = b"show contracts
+pub(super) const REFUSED: &[u8] = b"show contracts
 insert 1 0 1 detach
 show contracts
 show transcript 2
 mvoe 1 5
 ";
 
-const REFUSED_ANSWER: &[u8] = b"= contracts
+pub(super) const REFUSED_ANSWER: &[u8] = b"= contracts
    193532 port 1 contract 1 5000 mV 3000 mA
 refused 21
 = contracts

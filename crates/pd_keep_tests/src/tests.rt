@@ -1,6 +1,6 @@
 ghost use Rattle.std.specs.Prelude.{◌≤◌};
 
-use crate::texts::{LATE, PAIR, PHONE};
+use crate::texts::{LATE, PAIR, PHONE, SECOND};
 use pd_edit::apply;
 use pd_edit_lines::Line;
 use pd_keep::Kept;
@@ -69,6 +69,10 @@ fn of_an_ignored_event(rt: HostRuntime) -> Result<(), Fail> {
     let back: [&[u8]; 2] = [b"insert 2 100 1 attach thin phone", b"remove 2"];
     let kept = cost::<1, Kept<1>>(rt.alloc(), PHONE, back.as_slice())?;
     assert_eq!(rt; kept, Some((263, 0)));
+    let kept = cost::<1, Kept<1>>(rt.alloc(), SECOND, ignored.as_slice())?;
+    assert_eq!(rt; kept, Some((26, 1)));
+    let kept = cost::<1, Kept<1>>(rt.alloc(), SECOND, back.as_slice())?;
+    assert_eq!(rt; kept, Some((25, 0)));
     Ok(())
 }
 
@@ -78,6 +82,8 @@ fn of_more_power(rt: HostRuntime) -> Result<(), Fail> {
     let more: [&[u8]; 1] = [b"budget 70000"];
     let kept = cost::<1, Kept<1>>(rt.alloc(), PHONE, more.as_slice())?;
     assert_eq!(rt; kept, Some((263, 0)));
+    let kept = cost::<1, Kept<1>>(rt.alloc(), SECOND, more.as_slice())?;
+    assert_eq!(rt; kept, Some((25, 0)));
     Ok(())
 }
 
@@ -103,6 +109,38 @@ fn of_another_cable(rt: HostRuntime) -> Result<(), Fail> {
     Ok(())
 }
 
+/// The times of the moves of the run of `PHONE` up to the first contract.
+const FIRST_MOVES: [u64; 24] = [
+    0, 50_000, 50_630, 51_630, 52_260, 53_260, 53_890, 54_890, 55_520, 55_620, 56_117, 58_117,
+    58_747, 58_847, 59_344, 61_344, 61_841, 61_941, 62_438, 92_438, 192_438, 192_935, 193_035,
+    193_532,
+];
+
+/// The same where the packet that starts at 58,847, the GoodCRC of the request, is lost.
+const MOVES_AFTER_LOSS: [u64; 29] = [
+    0, 50_000, 50_630, 51_630, 52_260, 53_260, 53_890, 54_890, 55_520, 55_620, 56_117, 58_117,
+    58_747, 58_800, 58_847, 59_344, 59_747, 60_377, 60_477, 60_974, 61_344, 61_841, 61_941, 62_438,
+    92_438, 192_438, 192_935, 193_035, 193_532,
+];
+
+/// Whether a runner has so many moves, all of port 1: those at the first times, and then the source's polls.
+fn is_run<T: Runner<1>>(runner: &T, first_times: &[u64], count: usize) -> bool {
+    for i in 0..count {
+        let time = match first_times.get(i) {
+            Some(time) => *time,
+            None => {
+                let polls = (i as u64 + 1).saturating_sub(first_times.len() as u64);
+                polls.saturating_mul(500_000).saturating_add(193_532)
+            }
+        };
+        match runner.entry(i) {
+            Some((1, entry)) if entry.at == time => {}
+            _ => return false,
+        }
+    }
+    runner.len() == count
+}
+
 /// Whether a runner stands for the edited scenario, or, where there is no memory, for the scenario before.
 fn replaces_or_stays<T: Runner<1> + Drop>(alloc: Global) -> bool {
     let Ok(scenario) = scenario_from_text::<1>(alloc, PHONE) else {
@@ -120,12 +158,13 @@ fn replaces_or_stays<T: Runner<1> + Drop>(alloc: Global) -> bool {
         Ok(()) => 263,
         Err(_) => 0,
     };
-    let stands_for_first = runner.len() == first;
-    let then = match runner.replace(alloc, &edited, &mut meter) {
-        Ok(()) => 268,
-        Err(_) => first,
-    };
-    stands_for_first && runner.len() == then
+    if !is_run(&runner, &FIRST_MOVES, first) {
+        return false;
+    }
+    match runner.replace(alloc, &edited, &mut meter) {
+        Ok(()) => is_run(&runner, &MOVES_AFTER_LOSS, 268),
+        Err(_) => is_run(&runner, &FIRST_MOVES, first),
+    }
 }
 
 /// Here each growth may be refused in turn.

@@ -30,7 +30,21 @@ cable = \"thin\"
 sink = \"phone\"
 ";
 
-/// The same with a second cable, through which the phone is attached twice: in the second second, and near the end.
+/// The same to the end of one second.
+pub(super) const SECOND: &[u8] = b"
+version = 1
+end = 1000000
+budget = 60000
+port = [{ floor = 2500, identity_tries = 1, supplies = [[5000, 3000]] }]
+cable = [{ name = \"thin\", plug = \"none\", rating = 3000 }]
+sink = [{ name = \"phone\", max = 5000, demand = 15000 }]
+event = [
+  { id = 1, at = 0, port = 1, kind = \"attach\", cable = \"thin\", sink = \"phone\" },
+]
+";
+
+/// The same to the end of two minutes, with a second cable, through which the phone is attached twice: in the second
+/// second, and near the end.
 pub(super) const LATE: &[u8] = b"
 version = 1
 end = 120000000

@@ -337,13 +337,6 @@ fn another_offered_current_is_no_change(rt: HostRuntime) {
     assert!(rt; change_of(Some(contract), Some(drawn_less)) == Some(made));
 }
 
-#[test]
-fn the_sink_tells_its_capabilities(rt: HostRuntime) {
-    let events = [phone(1, 0), event(2, 500_000, EventKind::GetSink)];
-    let seen = run(&mut port(1), &events, 1_000_000);
-    assert!(rt; seen.starts.as_slice().get(7..9) == Some([500_000, 503_094].as_slice()));
-}
-
 /// When the source makes its first offer through a cable with this plug.
 fn first_offer(plug: CablePlug) -> Option<u64> {
     let cable = Cable {
@@ -396,3 +389,5 @@ fn a_sink_of_revision_2_has_four_tries(rt: HostRuntime) {
     assert!(rt; contract_of_revision_2(3) == Some(198_422));
     assert!(rt; contract_of_revision_2(4) == Some(207_467));
 }
+
+mod steps;
