@@ -1,5 +1,4 @@
 pub mod Contents
-pub mod First
 pub mod Laws
 pub mod Limits
 pub mod Names
