@@ -269,8 +269,5 @@ pub fn apply<const N: usize>(
     if let Some(fault) = first_refusal(scenario, edit) {
         return Err(fault);
     }
-    match edited(alloc, scenario, edit) {
-        Ok(scenario) => Ok(scenario),
-        Err(_) => Err(EditFault::Memory),
-    }
+    Ok(edited(alloc, scenario, edit)?)
 }

@@ -8,12 +8,10 @@ ghost use Rattle.pd_scenario_tables.specs.Values.{whole_of, word_of, truth_of, e
 use crate::fault::ScenarioFault;
 use crate::schema::{EventName, Form, Version};
 use crate::words::{event_named, mode_of, plug_of, rating_of, revision_of, version_of};
-use pd_scenario::{Quantity, is_name};
+use pd_scenario::{FIRST_MV, Quantity, is_name};
 use toml::Value;
 
-/// The first voltage and the most supplies of a port.
-const FIRST_MV: u32 = 5_000;
-
+/// The most supplies of a port.
 const MOST_SUPPLIES: usize = 7;
 
 pub fn whole_of(value: &Value) -> i64
