@@ -1,4 +1,5 @@
--- What an edit is refused for.
+-- What an edit is refused for: this product's own, the table of numbers in docs/FORMATS.md, "Edit script". A heading below
+-- has a row's number; the ranges are those of Limits.antt of pd_scenario.
 use Rattle.std.specs.Prelude.{◌≡◌, ℕ, Bool, true, false, not, ◌||◌, ◌&&◌, ◌==◌, nat_le, nat_lt, List, [], ◌∷◌, length, find, Option, Some, None, Result, Ok, Err, IsOk, is_some, bytes_eq}
 use Rattle.std.specs.List.{list_any, list_all}
 use Rattle.pd_scenario.specs.declared.limits.Quantity.TheVariants as quantity
@@ -18,7 +19,8 @@ use Rattle.pd_edit_lines.specs.declared.edit.EditHappening.TheVariants as happen
 use Rattle.pd_edit_lines.specs.declared.edit.WrittenSupply.{WrittenSupply}
 use Rattle.pd_edit_lines.specs.declared.edit.Edit.{Edit}
 use Rattle.pd_edit_lines.specs.declared.edit.Edit.TheVariants.{Insert, Remove, Move, Change, Cable, DropCable, Sink, DropSink, Caps, Floor, Budget, End}
-use Rattle.pd_edit.specs.Edits.{has_cable, has_sink, rating_of, outcome}
+use Rattle.pd_scenario.specs.Words.{rating_of}
+use Rattle.pd_edit.specs.Edits.{has_cable, has_sink, outcome}
 
 -- ---- 21: no event has the id of a new one
 

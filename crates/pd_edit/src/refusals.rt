@@ -7,12 +7,11 @@ ghost use Rattle.pd_scenario.specs.Limits.{is_port};
 ghost use Rattle.pd_edit.specs.Edits.{changed_from, with_floor, has_cable, has_sink};
 ghost use Rattle.pd_edit.specs.Refusals.{id_is_free, id_is_known, happens_on_port, is_on_port, port_is_known, kind_is_known, happening_is_known, name_is_known, names_cable, names_sink, is_unused, kind_in_range, happening_in_range, supply_in_range, in_range, begin_at, follows, voltages_rise, are_supplies, supplies_rise, stays_funded, has_room, refuses, refusals};
 
-use crate::numbers::is_rating;
 use pd_edit_lines::{Edit, EditFault, EditHappening, EditKind, WrittenSupply};
 use pd_plan::Settings;
 use pd_scenario::{
     FIRST_MV, MOST_EVENTS, MOST_NAMES, Name, Quantity, Scenario, ScenarioEvent, ScenarioEventKind,
-    ScenarioHappening, are_funded, least_budget,
+    ScenarioHappening, are_funded, least_budget, rating_of,
 };
 
 /// What an edit may be refused for, the least number first.
@@ -223,7 +222,7 @@ fn in_range(edit: &Edit) -> bool
         }
         Edit::Move { at, .. } => Quantity::Time.allows(*at),
         Edit::Change { kind, .. } => kind_in_range(kind),
-        Edit::Cable { rating, .. } => is_rating(*rating),
+        Edit::Cable { rating, .. } => rating_of(*rating).is_some(),
         Edit::Sink {
             max_mv,
             demand_mw,

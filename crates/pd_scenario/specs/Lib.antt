@@ -5,3 +5,4 @@ pub mod Names
 pub mod Plan
 pub mod Plans
 pub mod Script
+pub mod Words

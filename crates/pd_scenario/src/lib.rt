@@ -10,6 +10,7 @@ mod name;
 mod order;
 mod parts;
 mod scenario;
+mod words;
 
 pub use budget::{BudgetChange, last_change_by};
 pub use contents::{NamedCable, NamedSink, ScenarioEvent, ScenarioEventKind, ScenarioHappening};
@@ -17,3 +18,4 @@ pub use floors::{are_funded, least_budget};
 pub use limits::{FIRST_MV, MOST_EVENTS, MOST_NAMES, Quantity};
 pub use name::{Name, is_name};
 pub use scenario::Scenario;
+pub use words::{mode_of, plug_of, rating_of};

@@ -114,7 +114,7 @@ impl<const N: usize> Scenario<N> {
         u64::from(self.budget_mw) * 1_000
     }
 
-    /// The changes of the budget, in the order of their making.
+    /// The changes of the shared budget, in the order of their making.
     ///
     /// # Errors
     /// There is no memory.
@@ -126,7 +126,7 @@ impl<const N: usize> Scenario<N> {
         changes_of(alloc, &self.events)
     }
 
-    /// The budget at a time, in microwatts: that of the last change at or before it, else the scenario's.
+    /// The shared budget at a time, in microwatts: that of the last change at or before it, else the scenario's.
     #[tactic(auto, unfolding(crate::specs::Plans::plan_of, crate::specs::Plan::force))]
     pub fn force(&self, at: u64) -> u64
         ensures value { result ≡ force (plan_of self.now) at }
