@@ -1,5 +1,5 @@
 -- What a scenario is after an edit: this product's own, the lines and kinds of docs/FORMATS.md, "Edit script".
-use Rattle.std.specs.Prelude.{◌≡◌, ℕ, ◌≤◌, ◌+◌, Bool, not, ◌==◌, List, [], ◌∷◌, ◌++◌, filter, map, length, slice_get, option_map, Option, Some, None, unwrap_or, bytes_eq, is_some, if◌then◌else◌}
+use Rattle.std.specs.Prelude.{◌≡◌, ℕ, ◌≤◌, ◌+◌, Bool, not, ◌==◌, List, [], ◌∷◌, ◌++◌, filter, map, length, slice_get, option_map, Some, unwrap_or, bytes_eq, is_some, if◌then◌else◌}
 use Rattle.pd_objects.specs.Supply.{SupplyData}
 use Rattle.pd_identity.specs.declared.CablePlug.{CablePlug}
 use Rattle.pd_identity.specs.declared.Rating.TheVariants.{ThreeAmperes}
