@@ -3,13 +3,43 @@ use pd_bench::{Tally, session};
 use pd_port::Meter;
 use pd_report::BenchFault;
 use pd_run::{Plain, Runner};
-use pd_scenario::first;
+use pd_scenario_text::scenario_from_text;
 use std::alloc::Global;
 use std::test::Fail;
 
+/// The scenario `first`: one port of 5 V and 3 A, to which the sink `phone` is attached at 0 through the cable `thin`, for
+/// 52 milliseconds, until its first packets have passed.
+const FIRST: &[u8] = b"version = 1
+end = 52000
+budget = 60000
+
+[[port]]
+floor = 2500
+identity_tries = 0
+supplies = [[5000, 3000]]
+
+[[cable]]
+name = \"thin\"
+plug = \"none\"
+rating = 3000
+
+[[sink]]
+name = \"phone\"
+max = 5000
+demand = 15000
+
+[[event]]
+id = 1
+at = 0
+port = 1
+kind = \"attach\"
+cable = \"thin\"
+sink = \"phone\"
+";
+
 /// A session of the scenario `first`.
 fn run<R: TextIn>(alloc: Global, reader: &mut R, page: &mut Page) -> Result<Tally, BenchFault> {
-    let Ok(scenario) = first(alloc) else {
+    let Ok(scenario) = scenario_from_text::<1>(alloc, FIRST) else {
         return Err(BenchFault::Memory);
     };
     let mut runner = Plain::<1>::empty(alloc);

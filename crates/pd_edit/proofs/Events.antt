@@ -12,14 +12,14 @@ use Rattle.pd_scenario.specs.declared.contents.ScenarioHappening.{ScenarioHappen
 use Rattle.pd_scenario.specs.declared.contents.ScenarioHappening.TheVariants as scenario_happening
 use Rattle.pd_scenario.specs.Names.{is_name}
 use Rattle.pd_scenario.specs.Limits.{allows, is_port}
-use Rattle.pd_scenario.specs.Contents.{Contents, IsValid, has_id, ids_differ, kind_fits, happening_fits, event_fits, names_are_known, kind_is_known as kind_names_are_known, budget_in, budget_of, least_budget}
+use Rattle.pd_scenario.specs.Contents.{Contents, IsValid, floors_mw, has_id, ids_differ, kind_fits, happening_fits, event_fits, names_are_known, kind_is_known as kind_names_are_known, budget_in, budget_of, least_budget}
 use Rattle.pd_edit_lines.specs.declared.edit.EditKind.{EditKind}
 use Rattle.pd_edit_lines.specs.declared.edit.EditKind.TheVariants.{Attach, Detach, Demand, Lose, Damage, GetSource, GetSink}
 use Rattle.pd_edit_lines.specs.declared.edit.EditHappening.{EditHappening}
 use Rattle.pd_edit_lines.specs.declared.edit.EditHappening.TheVariants as happens
 use Rattle.pd_edit_lines.specs.declared.edit.Edit.TheVariants.{Insert, Remove, Move, Change}
 use Rattle.pd_edit.specs.Edits.{event_kind_of, event_happening_of, inserted_event, moved_event, with_kind, changed_event, has_cable, has_sink, outcome}
-use Rattle.pd_edit.specs.Refusals.{IsAccepted, kind_is_known, happening_is_known, kind_in_range, happening_in_range, happens_on_port, floors_mw}
+use Rattle.pd_edit.specs.Refusals.{IsAccepted, kind_is_known, happening_is_known, kind_in_range, happening_in_range, happens_on_port}
 use Rattle.pd_edit.proofs.Floors.{least_append, least_filter, least_map}
 use Rattle.pd_edit.proofs.Listed.{list_all-filter, list_any-filter, length-filter-le, list_all-last}
 use Rattle.pd_edit.proofs.Named.{not_true, some_of, among, name_of}

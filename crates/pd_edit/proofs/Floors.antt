@@ -1,8 +1,7 @@
 -- The least budget, and floors.
-use Rattle.std.proofs.Common.{◌≡◌, ℕ, ◌<◌, ◌≤◌, ◌+◌, Bool, List, [], ◌∷◌, ◌++◌, length, take, get_or, fold, filter, map, refl, ap, sym, ◌∙◌, inl, inr, arith}
+use Rattle.std.proofs.Common.{◌≡◌, ℕ, ◌≤◌, Bool, List, [], ◌∷◌, ◌++◌, fold, filter, map, refl, ap, ◌∙◌, inl, inr, arith}
 use Rattle.std.proofs.lemmas.Bool.{cases_Bool}
 use Rattle.std.proofs.lemmas.Bool.Decides.{nat_tests}
-use Rattle.std.proofs.lemmas.List.{take_more}
 use Rattle.std.specs.Prelude.{min}
 use Rattle.std.specs.List.{filter_map}
 use Rattle.std.proofs.lemmas.List.Elements.{filter_map-append}
@@ -11,7 +10,11 @@ use Rattle.pd_scenario.specs.declared.contents.ScenarioEvent.{ScenarioEvent}
 use Rattle.pd_scenario.specs.declared.contents.ScenarioHappening.{ScenarioHappening}
 use Rattle.pd_scenario.specs.declared.contents.ScenarioHappening.TheVariants.{OnPort, Budget}
 use Rattle.pd_scenario.specs.Contents.{budget_of, least_budget}
-use Rattle.pd_edit.specs.Refusals.{least_with}
+
+-- the less of a budget and the one that an event changes it to
+abbrev pub least_with : ℕ → ScenarioHappening → ℕ
+least_with mw (OnPort port kind) = mw
+least_with mw (Budget other) = min mw other
 
 last : (b id at : ℕ) (h : ScenarioHappening) → least_budget b (record { id = id; at = at; happening = h } ∷ []) ≡ least_with b h
 last b id at (OnPort port kind) = refl
@@ -19,11 +22,6 @@ last b id at (Budget mw) = refl
 
 pub least_append : (b : ℕ) (es : List ScenarioEvent) (e : ScenarioEvent) → least_budget b (es ++ e ∷ []) ≡ least_with (least_budget b es) e.happening
 least_append b es e = ap (fold min b) (filter_map-append budget_of es (e ∷ [])) ∙ fold-append min b (filter_map budget_of es) (filter_map budget_of (e ∷ [])) ∙ last (least_budget b es) e.id e.at e.happening
-
-pub least_more : (b : ℕ) (es : List ScenarioEvent) (i : ℕ) (e : ScenarioEvent) → i < length es → e ≡ get_or es i e
-    → least_budget b (take (i + 1) es) ≡ least_with (least_budget b (take i es)) e.happening
-least_more b es i e below is =
-    ap (least_budget b) (take_more es i e below) ∙ least_append b (take i es) (get_or es i e) ∙ ap (λ (f : ScenarioEvent). least_with (least_budget b (take i es)) f.happening) (sym is)
 
 step : (b id at : ℕ) (h : ScenarioHappening) (es : List ScenarioEvent) → least_budget b (record { id = id; at = at; happening = h } ∷ es) ≡ least_budget (least_with b h) es
 step b id at (OnPort port kind) es = refl

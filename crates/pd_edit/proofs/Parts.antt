@@ -10,8 +10,7 @@ use Rattle.pd_scenario.specs.declared.contents.NamedSink.{NamedSink}
 use Rattle.pd_scenario.specs.declared.contents.ScenarioEvent.{ScenarioEvent}
 use Rattle.pd_scenario.specs.Names.{is_name}
 use Rattle.pd_scenario.specs.Limits.{allows}
-use Rattle.pd_scenario.specs.Contents.{Contents, IsValid, ids_differ, event_fits, names_differ, names_are_known, least_budget}
-use Rattle.pd_edit.specs.Refusals.{floors_mw}
+use Rattle.pd_scenario.specs.Contents.{Contents, IsValid, floors_mw, ids_differ, event_fits, names_differ, names_are_known, least_budget}
 
 pub valid_events : (n : ℕ) (c : Contents) (events : List ScenarioEvent) → length events ≤ 4096 → ids_differ events ≡ true → list_all (event_fits n) events ≡ true
     → list_all (λ (e : ScenarioEvent). names_are_known c.cables c.sinks e.happening) events ≡ true → floors_mw c.settings ≤ least_budget c.budget_mw events → IsValid n c

@@ -11,11 +11,11 @@ use Rattle.pd_objects.specs.Supply.{SupplyData}
 use Rattle.pd_plan.specs.Settings.{SettingsData, IsSettings, AreRising}
 use Rattle.pd_scenario.specs.declared.limits.Quantity.TheVariants as quantity
 use Rattle.pd_scenario.specs.Limits.{allows}
-use Rattle.pd_scenario.specs.Contents.{Contents, IsValid}
+use Rattle.pd_scenario.specs.Contents.{Contents, IsValid, floors_mw}
 use Rattle.pd_edit_lines.specs.declared.edit.WrittenSupply.{WrittenSupply}
 use Rattle.pd_edit_lines.specs.declared.edit.Edit.TheVariants.{Caps, Floor, Budget, End}
 use Rattle.pd_edit.specs.Edits.{changed_from, changed_port, supply_of, AreSupplies, with_supplies, with_floor, outcome}
-use Rattle.pd_edit.specs.Refusals.{IsAccepted, begin_at, voltages_rise, are_supplies, floors_mw}
+use Rattle.pd_edit.specs.Refusals.{IsAccepted, begin_at, voltages_rise, are_supplies}
 use Rattle.pd_edit.proofs.Parts.{valid_settings, valid_budget, valid_end}
 
 at_most : (a b : ℕ) → nat_le a b ≡ true → a ≤ b

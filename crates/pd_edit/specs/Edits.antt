@@ -1,9 +1,8 @@
--- What a scenario is after an edit.
-use Rattle.std.specs.Prelude.{◌≡◌, ℕ, ◌≤◌, ◌+◌, Bool, not, ◌==◌, List, [], ◌∷◌, ◌++◌, filter, map, length, slice_get, option_map, Option, Some, None, unwrap_or, bytes_eq, is_some, if◌then◌else◌}
+-- What a scenario is after an edit: this product's own, the lines and kinds of docs/FORMATS.md, "Edit script".
+use Rattle.std.specs.Prelude.{◌≡◌, ℕ, ◌≤◌, ◌+◌, Bool, not, ◌==◌, List, [], ◌∷◌, ◌++◌, filter, map, length, slice_get, option_map, Some, unwrap_or, bytes_eq, is_some, if◌then◌else◌}
 use Rattle.pd_objects.specs.Supply.{SupplyData}
 use Rattle.pd_identity.specs.declared.CablePlug.{CablePlug}
-use Rattle.pd_identity.specs.declared.Rating.{Rating}
-use Rattle.pd_identity.specs.declared.Rating.TheVariants.{ThreeAmperes, FiveAmperes}
+use Rattle.pd_identity.specs.declared.Rating.TheVariants.{ThreeAmperes}
 use Rattle.pd_sink.specs.declared.settings.SinkMode.{SinkMode}
 use Rattle.pd_sink.specs.declared.settings.SinkRevision.{SinkRevision}
 use Rattle.pd_plan.specs.Settings.{SettingsData, AreRising}
@@ -15,6 +14,7 @@ use Rattle.pd_scenario.specs.declared.contents.ScenarioEventKind.TheVariants as 
 use Rattle.pd_scenario.specs.declared.contents.ScenarioHappening.{ScenarioHappening}
 use Rattle.pd_scenario.specs.declared.contents.ScenarioHappening.TheVariants as scenario_happening
 use Rattle.pd_scenario.specs.Contents.{Contents, cable_named, sink_named}
+use Rattle.pd_scenario.specs.Words.{rating_of}
 use Rattle.pd_edit_lines.specs.declared.edit.EditKind.{EditKind}
 use Rattle.pd_edit_lines.specs.declared.edit.EditKind.TheVariants.{Attach, Detach, Demand, Lose, Damage, GetSource, GetSink}
 use Rattle.pd_edit_lines.specs.declared.edit.EditHappening.{EditHappening}
@@ -23,8 +23,9 @@ use Rattle.pd_edit_lines.specs.declared.edit.WrittenSupply.{WrittenSupply}
 use Rattle.pd_edit_lines.specs.declared.edit.Edit.{Edit}
 use Rattle.pd_edit_lines.specs.declared.edit.Edit.TheVariants.{Insert, Remove, Move, Change, Cable, DropCable, Sink, DropSink, Caps, Floor, Budget, End}
 
--- ---- events
+-- ---- events: the lines `insert`, `move` and `change`
 
+-- the kinds of events of a line are those of a scenario
 abbrev pub event_kind_of : EditKind → ScenarioEventKind
 event_kind_of (Attach cable sink) = scenario_event.Attach cable sink
 event_kind_of Detach = scenario_event.Detach
@@ -34,10 +35,12 @@ event_kind_of (Damage place mask) = scenario_event.Damage (record { place = plac
 event_kind_of GetSource = scenario_event.GetSource
 event_kind_of GetSink = scenario_event.GetSink
 
+-- what a line makes happen
 abbrev pub event_happening_of : EditHappening → ScenarioHappening
 event_happening_of (happens.OnPort port kind) = scenario_happening.OnPort port (event_kind_of kind)
 event_happening_of (happens.Budget mw) = scenario_happening.Budget mw
 
+-- the event of an `insert`
 abbrev pub inserted_event : ℕ → ℕ → EditHappening → ScenarioEvent
 inserted_event id at happening = record { id = id; at = at; happening = event_happening_of happening }
 
@@ -54,25 +57,23 @@ with_kind kind (scenario_happening.Budget mw) = scenario_happening.Budget mw
 abbrev pub changed_event : ℕ → ScenarioEventKind → ScenarioEvent → ScenarioEvent
 changed_event id kind e = if e.id == id then record e { happening = with_kind kind e.happening } else e
 
--- ---- cables and sinks
+-- ---- cables and sinks: the lines `cable` and `sink`
 
+-- some cable, or some sink, has the name
 abbrev pub has_cable : List NamedCable → List ℕ → Bool
 has_cable cables name = is_some (cable_named cables name)
 
 abbrev pub has_sink : List NamedSink → List ℕ → Bool
 has_sink sinks name = is_some (sink_named sinks name)
 
--- the ratings of cables, in mA
-abbrev pub rating_of : ℕ → Option Rating
-rating_of rating = if rating == 3000 then Some ThreeAmperes else if rating == 5000 then Some FiveAmperes else None
-
+-- the cable, and the sink, of a line; a number that is no rating is refused, and stands for 3 A here
 abbrev pub written_cable : List ℕ → CablePlug → ℕ → NamedCable
 written_cable name plug rating = record { name = name; cable = record { plug = plug; rating = unwrap_or (rating_of rating) ThreeAmperes } }
 
 abbrev pub written_sink : List ℕ → ℕ → ℕ → SinkMode → SinkRevision → NamedSink
 written_sink name max_mv demand_mw mode revision = record { name = name; sink = record { max_mv = max_mv; demand_mw = demand_mw; mode = mode; revision = revision } }
 
--- in place of the one of its name, else behind the others
+-- a new one in place of the one of its name, else behind the others
 abbrev pub with_cable : NamedCable → List NamedCable → List NamedCable
 with_cable new cables =
     if has_cable cables new.name then map (λ (old : NamedCable). if bytes_eq old.name new.name then new else old) cables else cables ++ new ∷ []
@@ -81,32 +82,36 @@ abbrev pub with_sink : NamedSink → List NamedSink → List NamedSink
 with_sink new sinks =
     if has_sink sinks new.name then map (λ (old : NamedSink). if bytes_eq old.name new.name then new else old) sinks else sinks ++ new ∷ []
 
+-- all but the one of a name
 abbrev pub without_cable : List ℕ → List NamedCable → List NamedCable
 without_cable name cables = filter (λ (cable : NamedCable). not (bytes_eq cable.name name)) cables
 
 abbrev pub without_sink : List ℕ → List NamedSink → List NamedSink
 without_sink name sinks = filter (λ (sink : NamedSink). not (bytes_eq sink.name name)) sinks
 
--- ---- ports
+-- ---- ports: the lines `caps` and `floor`
 
 -- the settings with those of one port changed; the ports are numbered from a first one
 abbrev pub changed_from : ℕ → ℕ → (SettingsData → SettingsData) → List SettingsData → List SettingsData
 changed_from first port change [] = []
 changed_from first port change (s ∷ settings) = (if first == port then change s else s) ∷ changed_from (first + 1) port change settings
 
+-- the same of all ports, which are numbered from 1
 abbrev pub changed_port : ℕ → (SettingsData → SettingsData) → List SettingsData → List SettingsData
 changed_port port change settings = changed_from 1 port change settings
 
+-- the supply that is written by a voltage in mV and a current in mA
 abbrev pub supply_of : WrittenSupply → SupplyData
 supply_of written = record { mv = written.mv; ma = written.ma }
 
--- what the supplies of each port keep
+-- what the supplies of each port keep: key `supplies` of docs/FORMATS.md, "Scenario file"
 pub record AreSupplies (supplies : List SupplyData) : Type 0 where
   pub some : 1 ≤ length supplies
   pub few : length supplies ≤ 7
   pub first : option_map (λ (supply : SupplyData). supply.mv) (slice_get supplies 0) ≡ Some 5000
   pub rising : AreRising supplies
 
+-- a port with other supplies, and with another floor in mW
 abbrev pub with_supplies : List WrittenSupply → SettingsData → SettingsData
 with_supplies supplies s = record s { supplies = map supply_of supplies }
 

@@ -1,4 +1,4 @@
--- What is proved of the definitions alone.
+-- What is proved of the definitions alone: docs/FORMATS.md, "Edit script", on the least number.
 use Rattle.std.specs.Prelude.{◌≡◌, ℕ, ◌<◌, true, false, Err}
 use Rattle.pd_scenario.specs.Contents.{Contents}
 use Rattle.pd_edit_lines.specs.declared.fault.EditFault.{EditFault}

@@ -1,14 +1,14 @@
--- What an edit is refused for.
-use Rattle.std.specs.Prelude.{◌≡◌, ℕ, Bool, true, false, not, ◌||◌, ◌&&◌, ◌==◌, nat_le, nat_lt, List, [], ◌∷◌, length, find, sum_by, min, Option, Some, None, Result, Ok, Err, IsOk, is_some, bytes_eq}
+-- What an edit is refused for: this product's own, the table of numbers in docs/FORMATS.md, "Edit script". A heading below
+-- has a row's number; the ranges are those of Limits.antt of pd_scenario.
+use Rattle.std.specs.Prelude.{◌≡◌, ℕ, Bool, true, false, not, ◌||◌, ◌&&◌, ◌==◌, nat_le, nat_lt, List, [], ◌∷◌, length, find, Option, Some, None, Result, Ok, Err, IsOk, is_some, bytes_eq}
 use Rattle.std.specs.List.{list_any, list_all}
-use Rattle.pd_plan.specs.Settings.{SettingsData}
 use Rattle.pd_scenario.specs.declared.limits.Quantity.TheVariants as quantity
 use Rattle.pd_scenario.specs.declared.contents.ScenarioEvent.{ScenarioEvent}
 use Rattle.pd_scenario.specs.declared.contents.ScenarioEventKind.{ScenarioEventKind}
 use Rattle.pd_scenario.specs.declared.contents.ScenarioEventKind.TheVariants as scenario_event
 use Rattle.pd_scenario.specs.declared.contents.ScenarioHappening.{ScenarioHappening}
 use Rattle.pd_scenario.specs.declared.contents.ScenarioHappening.TheVariants as scenario_happening
-use Rattle.pd_scenario.specs.Contents.{Contents, has_id, least_budget}
+use Rattle.pd_scenario.specs.Contents.{Contents, has_id, is_funded}
 use Rattle.pd_scenario.specs.Limits.{allows, is_port, most_names, most_events, most_supplies, first_mv}
 use Rattle.pd_edit_lines.specs.declared.fault.EditFault.{EditFault}
 use Rattle.pd_edit_lines.specs.declared.fault.EditFault.TheVariants.{Syntax, IdTaken, NoSuchId, NoSuchPort, NoSuchName, InUse, Range, Supplies, Floors, Limit, Memory}
@@ -19,7 +19,8 @@ use Rattle.pd_edit_lines.specs.declared.edit.EditHappening.TheVariants as happen
 use Rattle.pd_edit_lines.specs.declared.edit.WrittenSupply.{WrittenSupply}
 use Rattle.pd_edit_lines.specs.declared.edit.Edit.{Edit}
 use Rattle.pd_edit_lines.specs.declared.edit.Edit.TheVariants.{Insert, Remove, Move, Change, Cable, DropCable, Sink, DropSink, Caps, Floor, Budget, End}
-use Rattle.pd_edit.specs.Edits.{has_cable, has_sink, rating_of, outcome}
+use Rattle.pd_scenario.specs.Words.{rating_of}
+use Rattle.pd_edit.specs.Edits.{has_cable, has_sink, outcome}
 
 -- ---- 21: no event has the id of a new one
 
@@ -140,17 +141,6 @@ supplies_rise (Caps port supplies) = are_supplies supplies.items
 supplies_rise _ = true
 
 -- ---- 28: the floors then add to no more than the least of the budget and its changes
-
-abbrev pub floors_mw : List SettingsData → ℕ
-floors_mw settings = sum_by (λ (s : SettingsData). s.floor_mw) settings
-
--- the less of a budget and the one that an event changes it to
-abbrev pub least_with : ℕ → ScenarioHappening → ℕ
-least_with mw (scenario_happening.OnPort port kind) = mw
-least_with mw (scenario_happening.Budget other) = min mw other
-
-abbrev pub is_funded : Contents → Bool
-is_funded c = nat_le (floors_mw c.settings) (least_budget c.budget_mw c.events)
 
 abbrev pub stays_funded : Contents → Edit → Bool
 stays_funded c (Insert id at (happens.Budget mw)) = is_funded (outcome c (Insert id at (happens.Budget mw)))

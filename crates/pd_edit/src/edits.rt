@@ -102,6 +102,7 @@ fn cable<const N: usize>(
     requires { IsAccepted N scenario.now (edits.Cable name.now plug rating) }
     ensures { IfOk result (λ s. s ≡ outcome scenario.now (edits.Cable name.now plug rating)) }
 {
+    // Read for the prover alone: that the scenario is valid, and the name a name.
     let _cables = scenario.cables();
     let _text = name.as_str();
     let new = written_cable(name, plug, rating);
@@ -150,6 +151,7 @@ fn sink<const N: usize>(
     requires { IsAccepted N scenario.now (edits.Sink name.now max_mv demand_mw mode revision) }
     ensures { IfOk result (λ s. s ≡ outcome scenario.now (edits.Sink name.now max_mv demand_mw mode revision)) }
 {
+    // Read for the prover alone: that the scenario is valid, and the name a name.
     let _sinks = scenario.sinks();
     let _text = name.as_str();
     let new = written_sink(name, max_mv, demand_mw, mode, revision);
@@ -207,6 +209,7 @@ fn budget<const N: usize>(
     requires { IsAccepted N scenario.now (edits.Budget mw) }
     ensures { IfOk result (λ s. s ≡ outcome scenario.now (edits.Budget mw)) }
 {
+    // Read for the prover alone: that the scenario is valid.
     let _settings = scenario.ports();
     scenario.with_numbers(alloc, mw as u32, scenario.end_us())
 }
@@ -219,6 +222,7 @@ fn end<const N: usize>(
     requires { IsAccepted N scenario.now (edits.End at) }
     ensures { IfOk result (λ s. s ≡ outcome scenario.now (edits.End at)) }
 {
+    // Read for the prover alone: that the scenario is valid.
     let _settings = scenario.ports();
     scenario.with_numbers(alloc, scenario.budget_mw(), at as u32)
 }
@@ -269,8 +273,5 @@ pub fn apply<const N: usize>(
     if let Some(fault) = first_refusal(scenario, edit) {
         return Err(fault);
     }
-    match edited(alloc, scenario, edit) {
-        Ok(scenario) => Ok(scenario),
-        Err(_) => Err(EditFault::Memory),
-    }
+    Ok(edited(alloc, scenario, edit)?)
 }

@@ -5,7 +5,6 @@ mod change;
 mod edits;
 pub mod laws;
 mod made;
-mod numbers;
 mod refusals;
 
 pub use edits::apply;

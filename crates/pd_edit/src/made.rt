@@ -5,10 +5,10 @@ ghost use Rattle.std.specs.List.{list_all};
 ghost use Rattle.pd_sink.specs.Settings.{IsSink};
 ghost use Rattle.pd_scenario.specs.Limits.{allows};
 ghost use Rattle.pd_scenario.specs.declared.limits.Quantity.TheVariants as quantity;
-ghost use Rattle.pd_edit.specs.Edits.{event_kind_of, event_happening_of, inserted_event, changed_event, rating_of, written_cable, written_sink, with_floor, supply_of, AreSupplies};
+ghost use Rattle.pd_scenario.specs.Words.{rating_of};
+ghost use Rattle.pd_edit.specs.Edits.{event_kind_of, event_happening_of, inserted_event, changed_event, written_cable, written_sink, with_floor, supply_of, AreSupplies};
 ghost use Rattle.pd_edit.specs.Refusals.{kind_in_range, happening_in_range, happens_on_port, supply_in_range};
 
-use crate::numbers::rating_of;
 use arrayvec::ArrayVec;
 use pd_edit_lines::{EditHappening, EditKind, WrittenSupply};
 use pd_identity::{Cable, CablePlug};
@@ -16,7 +16,7 @@ use pd_objects::Supply;
 use pd_packet::Damage;
 use pd_plan::Settings;
 use pd_scenario::{
-    Name, NamedCable, NamedSink, ScenarioEvent, ScenarioEventKind, ScenarioHappening,
+    Name, NamedCable, NamedSink, ScenarioEvent, ScenarioEventKind, ScenarioHappening, rating_of,
 };
 use pd_sink::{Demand, SinkMode, SinkRevision, SinkSettings};
 

@@ -1,24 +1,18 @@
 //! What an edit is refused for.
 
-ghost use Rattle.std.specs.Prelude.{◌≡◌, ◌+◌, ◌<◌, ◌^◌, ◌==◌, not, ◌||◌, nat_le, min, length, find};
+ghost use Rattle.std.specs.Prelude.{◌≡◌, ◌+◌, ◌<◌, ◌^◌, ◌==◌, not, ◌||◌, nat_le, length, find};
 ghost use Rattle.std.specs.List.{list_all, list_any};
-ghost use Rattle.pd_scenario.specs.Contents.{least_budget};
+ghost use Rattle.pd_scenario.specs.Contents.{floors_mw};
 ghost use Rattle.pd_scenario.specs.Limits.{is_port};
 ghost use Rattle.pd_edit.specs.Edits.{changed_from, with_floor, has_cable, has_sink};
-ghost use Rattle.pd_edit.specs.Refusals.{id_is_free, id_is_known, happens_on_port, is_on_port, port_is_known, kind_is_known, happening_is_known, name_is_known, names_cable, names_sink, is_unused, kind_in_range, happening_in_range, supply_in_range, in_range, begin_at, follows, voltages_rise, are_supplies, supplies_rise, floors_mw, least_with, stays_funded, has_room, refuses, refusals};
+ghost use Rattle.pd_edit.specs.Refusals.{id_is_free, id_is_known, happens_on_port, is_on_port, port_is_known, kind_is_known, happening_is_known, name_is_known, names_cable, names_sink, is_unused, kind_in_range, happening_in_range, supply_in_range, in_range, begin_at, follows, voltages_rise, are_supplies, supplies_rise, stays_funded, has_room, refuses, refusals};
 
-use crate::numbers::is_rating;
 use pd_edit_lines::{Edit, EditFault, EditHappening, EditKind, WrittenSupply};
 use pd_plan::Settings;
-use pd_scenario::{Name, Quantity, Scenario, ScenarioEvent, ScenarioEventKind, ScenarioHappening};
-
-/// The most events, and the most cables or sinks.
-const MOST_EVENTS: usize = 4_096;
-
-const MOST_NAMES: usize = 64;
-
-/// The voltage of a port's first supply, in mV.
-const FIRST_MV: u64 = 5_000;
+use pd_scenario::{
+    FIRST_MV, MOST_EVENTS, MOST_NAMES, Name, Quantity, Scenario, ScenarioEvent, ScenarioEventKind,
+    ScenarioHappening, are_funded, least_budget, rating_of,
+};
 
 /// What an edit may be refused for, the least number first.
 const REFUSALS: [EditFault; 9] = [
@@ -228,7 +222,7 @@ fn in_range(edit: &Edit) -> bool
         }
         Edit::Move { at, .. } => Quantity::Time.allows(*at),
         Edit::Change { kind, .. } => kind_in_range(kind),
-        Edit::Cable { rating, .. } => is_rating(*rating),
+        Edit::Cable { rating, .. } => rating_of(*rating).is_some(),
         Edit::Sink {
             max_mv,
             demand_mw,
@@ -277,47 +271,14 @@ fn supplies_rise(edit: &Edit) -> bool
     match edit {
         Edit::Caps { supplies, .. } => {
             let supplies = supplies.as_slice();
-            begin_at(FIRST_MV, supplies) && voltages_rise(supplies)
+            begin_at(u64::from(FIRST_MV), supplies) && voltages_rise(supplies)
         }
         _ => true,
     }
 }
 
-/// The less of a budget and the one that an event changes it to, in mW.
-fn least_with(budget_mw: u64, event: &ScenarioEvent) -> u64
-    ensures { result ≡ least_with budget_mw event.now.happening }
-{
-    match &event.happening {
-        ScenarioHappening::OnPort { .. } => budget_mw,
-        ScenarioHappening::Budget { mw } => budget_mw.min(u64::from(*mw)),
-    }
-}
-
-/// The least of a budget and its changes, in mW.
-fn least_budget(budget_mw: u64, events: &[ScenarioEvent]) -> u64
-    ensures { result ≡ least_budget budget_mw events.now }
-{
-    let mut least = budget_mw;
-    for event in events {
-        least = least_with(least, event);
-    }
-    least
-}
-
-/// Whether the floors add to no more than a budget, in mW.
-fn are_funded(settings: &[Settings], budget_mw: u64) -> bool
-    ensures { result ≡ nat_le (floors_mw settings.now) budget_mw }
-{
-    match settings {
-        [] => true,
-        [port, others @ ..] => {
-            let floor = u64::from(port.floor_mw());
-            floor <= budget_mw && are_funded(others, budget_mw - floor)
-        }
-    }
-}
-
-/// The same with another floor of one port, the first of them being numbered so.
+/// Whether the floors add to no more than a budget, in mW, with another floor of one port, the first of the ports being
+/// numbered so.
 fn are_funded_with(settings: &[Settings], first: u64, port: u64, mw: u64, budget_mw: u64) -> bool
     requires { first + length settings.now < 2 ^ 64 }
     ensures { result ≡ nat_le (floors_mw (changed_from first port (with_floor mw) settings.now)) budget_mw }

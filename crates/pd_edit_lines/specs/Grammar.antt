@@ -11,7 +11,8 @@ use Rattle.std.specs.List.{list_all}
 use Rattle.arrayvec.specs.ArrayVec.{ArrayVec}
 use Rattle.pd_sink.specs.declared.settings.SinkRevision.{SinkRevision}
 use Rattle.pd_sink.specs.declared.settings.SinkRevision.TheVariants.{Revision3}
-use Rattle.pd_edit_lines.specs.Keywords.{command_word, kind_word, show_word, plug_word, mode_word, revision_word}
+use Rattle.pd_scenario.specs.Words.{plug_of, mode_of}
+use Rattle.pd_edit_lines.specs.Keywords.{command_word, kind_word, show_word, revision_word}
 use Rattle.pd_edit_lines.specs.Words.{words, number, name, ◌>>=◌}
 use Rattle.pd_edit_lines.specs.declared.fault.EditFault.{EditFault}
 use Rattle.pd_edit_lines.specs.declared.fault.EditFault.TheVariants.{Syntax}
@@ -111,7 +112,7 @@ change_of [] = None
 -- PLUG RATING
 abbrev pub cable_from : List ℕ → List ℕ → Words → Option Edit
 cable_from cable plug (rating ∷ []) = do
-  p ← plug_word plug
+  p ← plug_of plug
   r ← number rating
   Some (edits.Cable cable p r)
 cable_from cable plug _ = None
@@ -134,7 +135,7 @@ abbrev pub sink_from : List ℕ → List ℕ → Words → Option Edit
 sink_from sink max (demand ∷ mode ∷ ws) = do
   x ← number max
   d ← number demand
-  m ← mode_word mode
+  m ← mode_of mode
   r ← revision_of ws
   Some (edits.Sink sink x d m r)
 sink_from sink max _ = None

@@ -1,9 +1,6 @@
--- The words that a command, a kind of event, what is shown, a plug, a mode and a revision are written by.
+-- The words that a command, a kind of event, what is shown and a revision are written by:
+-- docs/FORMATS.md, "Edit script".
 use Rattle.std.specs.Prelude.{ℕ, List, codes, Option, Some, None, bytes_eq, if◌then◌else◌}
-use Rattle.pd_identity.specs.declared.CablePlug.{CablePlug}
-use Rattle.pd_identity.specs.declared.CablePlug.TheVariants.{Absent, Ack, Nak, Busy, Silent}
-use Rattle.pd_sink.specs.declared.settings.SinkMode.{SinkMode}
-use Rattle.pd_sink.specs.declared.settings.SinkMode.TheVariants.{PowerDelivery, Plain, Greedy}
 use Rattle.pd_sink.specs.declared.settings.SinkRevision.{SinkRevision}
 use Rattle.pd_sink.specs.declared.settings.SinkRevision.TheVariants.{Revision2, Revision3}
 use Rattle.pd_edit_lines.specs.declared.keywords.Command.{Command}
@@ -48,24 +45,6 @@ show_word word =
     else if bytes_eq word (codes "contracts") then Some shown.Contracts
     else if bytes_eq word (codes "faults") then Some shown.Faults
     else if bytes_eq word (codes "margins") then Some shown.Margins
-    else None
-
--- the plug of a cable
-abbrev pub plug_word : List ℕ → Option CablePlug
-plug_word word =
-    if bytes_eq word (codes "none") then Some Absent
-    else if bytes_eq word (codes "ack") then Some Ack
-    else if bytes_eq word (codes "nak") then Some Nak
-    else if bytes_eq word (codes "busy") then Some Busy
-    else if bytes_eq word (codes "silent") then Some Silent
-    else None
-
--- the mode of a sink
-abbrev pub mode_word : List ℕ → Option SinkMode
-mode_word word =
-    if bytes_eq word (codes "pd") then Some PowerDelivery
-    else if bytes_eq word (codes "plain") then Some Plain
-    else if bytes_eq word (codes "greedy") then Some Greedy
     else None
 
 -- the revision of a sink

@@ -1,8 +1,10 @@
 //! What keeps a line from being an edit or a show, and an edit from being made.
 
 ghost use Rattle.std.specs.Prelude.{◌≡◌, ℕ};
+ghost use Rattle.pd_edit_lines.specs.declared.fault.EditFault.TheVariants.{Memory};
 ghost use Rattle.pd_edit_lines.specs.Numbers.{number_of};
 
+use std::alloc::AllocError;
 use thiserror::Error;
 
 /// Why a line is refused: the first of these that applies.
@@ -50,5 +52,13 @@ impl EditFault {
             EditFault::Limit => 29,
             EditFault::Memory => 30,
         }
+    }
+}
+
+impl From<AllocError> for EditFault {
+    ghost from_gives = { λ _ fault. fault ≡ Memory };
+
+    fn from(_: AllocError) -> EditFault {
+        Self::Memory
     }
 }

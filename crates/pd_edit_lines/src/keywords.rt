@@ -1,10 +1,9 @@
-//! The words that a command, a kind of event, what is shown, a plug, a mode and a revision are written by.
+//! The words that a command, a kind of event, what is shown and a revision are written by.
 
 ghost use Rattle.std.specs.Prelude.{◌≡◌};
-ghost use Rattle.pd_edit_lines.specs.Keywords.{command_word, kind_word, show_word, plug_word, mode_word, revision_word};
+ghost use Rattle.pd_edit_lines.specs.Keywords.{command_word, kind_word, show_word, revision_word};
 
-use pd_identity::CablePlug;
-use pd_sink::{SinkMode, SinkRevision};
+use pd_sink::SinkRevision;
 
 /// The word that a command begins with.
 #[derive(Clone, Copy)]
@@ -123,44 +122,6 @@ pub(crate) fn show_word(word: &[u8]) -> Option<ShowWord>
     }
     if word == b"margins".as_slice() {
         return Some(ShowWord::Margins);
-    }
-    None
-}
-
-/// The plug of a cable that a word stands for.
-pub(crate) fn plug_word(word: &[u8]) -> Option<CablePlug>
-    ensures { result ≡ plug_word word.now }
-{
-    if word == b"none".as_slice() {
-        return Some(CablePlug::Absent);
-    }
-    if word == b"ack".as_slice() {
-        return Some(CablePlug::Ack);
-    }
-    if word == b"nak".as_slice() {
-        return Some(CablePlug::Nak);
-    }
-    if word == b"busy".as_slice() {
-        return Some(CablePlug::Busy);
-    }
-    if word == b"silent".as_slice() {
-        return Some(CablePlug::Silent);
-    }
-    None
-}
-
-/// The mode of a sink that a word stands for.
-pub(crate) fn mode_word(word: &[u8]) -> Option<SinkMode>
-    ensures { result ≡ mode_word word.now }
-{
-    if word == b"pd".as_slice() {
-        return Some(SinkMode::PowerDelivery);
-    }
-    if word == b"plain".as_slice() {
-        return Some(SinkMode::Plain);
-    }
-    if word == b"greedy".as_slice() {
-        return Some(SinkMode::Greedy);
     }
     None
 }

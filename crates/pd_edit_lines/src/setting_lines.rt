@@ -5,17 +5,17 @@ ghost use Rattle.pd_edit_lines.specs.Words.{words};
 ghost use Rattle.pd_edit_lines.specs.Grammar.{cable_from, cable_of, revision_of, sink_from, sink_of, with_supplies, caps_of, one_number, two_numbers};
 ghost use Rattle.pd_edit_lines.specs.declared.edit.Edit.TheVariants as edits;
 
-use crate::keywords::{mode_word, plug_word, revision_word};
+use crate::keywords::revision_word;
 use crate::words::{end_of, name_at, next, number, number_at};
 use crate::{Edit, WrittenSupply};
 use arrayvec::ArrayVec;
-use pd_scenario::Name;
+use pd_scenario::{Name, mode_of, plug_of};
 use pd_sink::SinkRevision;
 
 fn cable_from(name: Name, plug: &[u8], line: &[u8]) -> Option<Edit>
     ensures { result ≡ cable_from name plug.now (words line.now) }
 {
-    let plug = plug_word(plug)?;
+    let plug = plug_of(plug)?;
     let (rating, line) = number_at(line)?;
     end_of(line)?;
     Some(Edit::Cable { name, plug, rating })
@@ -49,7 +49,7 @@ fn sink_from(name: Name, max: &[u8], line: &[u8]) -> Option<Edit>
     let max_mv = number(max)?;
     let (demand_mw, line) = number_at(line)?;
     let (mode, line) = next(line)?;
-    let mode = mode_word(mode)?;
+    let mode = mode_of(mode)?;
     let revision = revision_of(line)?;
     Some(Edit::Sink {
         name,

@@ -1,5 +1,6 @@
 pub mod Entries
 pub mod Forces
+pub mod Least
 pub mod Lists
 pub mod Ordered
 pub mod Plans

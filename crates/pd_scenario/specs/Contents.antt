@@ -1,5 +1,5 @@
 -- What a scenario holds, and what each keeps.
-use Rattle.std.specs.Prelude.{◌≡◌, ℕ, ◌≤◌, Bool, true, not, ◌&&◌, ◌==◌, List, [], ◌∷◌, length, map, find, fold, min, sum_by, Option, Some, None, option_map, is_some, bytes_eq, All}
+use Rattle.std.specs.Prelude.{◌≡◌, ℕ, ◌≤◌, Bool, true, not, ◌&&◌, ◌==◌, nat_le, List, [], ◌∷◌, length, map, find, fold, min, sum_by, Option, Some, None, option_map, is_some, bytes_eq, All}
 use Rattle.std.specs.List.{list_any, list_all, filter_map}
 use Rattle.pd_identity.specs.declared.Cable.{Cable}
 use Rattle.pd_sink.specs.Settings.{SinkData, IsSink}
@@ -89,6 +89,18 @@ budget_of e = budget_in e.happening
 abbrev pub least_budget : ℕ → List ScenarioEvent → ℕ
 least_budget mw events = fold min mw (filter_map budget_of events)
 
+-- the floors of ports together, in mW
+abbrev pub floors_mw : List SettingsData → ℕ
+floors_mw settings = sum_by (λ (s : SettingsData). s.floor_mw) settings
+
+-- the floors add to no more than a budget, in mW
+abbrev pub are_funded : List SettingsData → ℕ → Bool
+are_funded settings mw = nat_le (floors_mw settings) mw
+
+-- the floors add to no more than the least of the budget and its changes
+abbrev pub is_funded : Contents → Bool
+is_funded c = are_funded c.settings (least_budget c.budget_mw c.events)
+
 -- what every scenario of n ports keeps
 pub record IsValid (n : ℕ) (c : Contents) : Type 0 where
   pub some_port : 1 ≤ n
@@ -107,5 +119,5 @@ pub record IsValid (n : ℕ) (c : Contents) : Type 0 where
   pub events_fit : list_all (event_fits n) c.events ≡ true
   pub names_known : list_all (λ (e : ScenarioEvent). names_are_known c.cables c.sinks e.happening) c.events ≡ true
   pub budget_fits : allows quantity.Budget c.budget_mw ≡ true
-  pub funded : sum_by (λ (s : SettingsData). s.floor_mw) c.settings ≤ least_budget c.budget_mw c.events
+  pub funded : floors_mw c.settings ≤ least_budget c.budget_mw c.events
   pub end_fits : allows quantity.Time c.end_us ≡ true

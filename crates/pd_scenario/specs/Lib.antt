@@ -1,8 +1,8 @@
 pub mod Contents
-pub mod First
 pub mod Laws
 pub mod Limits
 pub mod Names
 pub mod Plan
 pub mod Plans
 pub mod Script
+pub mod Words

@@ -1,4 +1,4 @@
--- What a scenario asks of a charger.
+-- A plan, which is what a scenario asks of a charger, and what each plan keeps: this product's own.
 use Rattle.std.specs.Prelude.{◌≡◌, ℕ, ◌≤◌, ◌<◌, ◌⊎◌, ◌+◌, Bool, true, false, ◌&&◌, ◌||◌, ◌==◌, nat_le, nat_lt, List, [], length, map, fold, sum, Option, Some, None, slice_get, slice_index_or, Contains, if◌then◌else◌}
 use Rattle.pd_plan.specs.Settings.{SettingsData, floor_of}
 use Rattle.pd_plan.specs.Events.{EventData}
@@ -6,7 +6,8 @@ use Rattle.pd_plan.specs.declared.event.Happening.{Happening}
 use Rattle.pd_plan.specs.declared.event.Happening.TheVariants.{Port, Budget}
 use Rattle.pd_scenario.specs.declared.budget.BudgetChange.{BudgetChange}
 
--- the settings and the events of each port, the shared budget in microwatts, its changes, and the end in microseconds
+-- the settings and the events of each port, the shared budget in microwatts, its changes (`forces`), and the end in
+-- microseconds
 pub record Plan : Type 0 where
   pub settings : List SettingsData
   pub scripts : List (List EventData)
@@ -64,7 +65,7 @@ abbrev pub budget_after : ℕ → Option BudgetChange → ℕ
 budget_after budget None = budget
 budget_after budget (Some change) = change.budget
 
--- the budget at a time, in microwatts: that of the last change at or before it, else the plan's
+-- the shared budget at a time, in microwatts: that of the last change at or before it, else the plan's
 unfoldable pub force : Plan → ℕ → ℕ
 force plan at = budget_after plan.budget (last_change plan.forces at)
 

@@ -1,4 +1,5 @@
--- What a scenario asks of a charger.
+-- The plan that a scenario's contents give, and what its scripts and its budget at a time are, said without computing
+-- them: this product's own.
 use Rattle.std.specs.Prelude.{◌≡◌, ℕ, ◌*◌, ◌+◌, ◌≤◌, ◌<◌, ◌⊎◌, ◌↔◌, List, map, length, Option, Some, None, slice_get, Contains}
 use Rattle.std.specs.List.{filter_map, range_with_len}
 use Rattle.pd_plan.specs.Events.{EventData}
@@ -10,7 +11,7 @@ use Rattle.pd_scenario.specs.declared.contents.ScenarioHappening.TheVariants.{On
 use Rattle.pd_scenario.specs.declared.contents.ScenarioEvent.{ScenarioEvent}
 use Rattle.pd_scenario.specs.declared.budget.BudgetChange.{BudgetChange}
 
--- the change of the budget that an event is, in microwatts
+-- the change of the shared budget that an event is, in microwatts
 abbrev pub change_in : ℕ → ℕ → ScenarioHappening → Option BudgetChange
 change_in id at (OnPort port kind) = None
 change_in id at (Budget mw) = Some (record { id = id; at = at; budget = mw * 1000 })

@@ -3,6 +3,15 @@
 ghost use Rattle.std.specs.Prelude.{◌≡◌, ◌<◌, ◌&&◌, ◌%◌, ◌==◌, nat_le};
 ghost use Rattle.pd_scenario.specs.Limits.{allows};
 
+/// The most cables of a scenario, and the most sinks.
+pub const MOST_NAMES: usize = 64;
+
+/// The most events of a scenario.
+pub const MOST_EVENTS: usize = 4_096;
+
+/// The voltage of a port's first supply, in mV.
+pub const FIRST_MV: u32 = 5_000;
+
 /// A number of a scenario that has limits.
 #[derive(Clone, Copy, Debug, PartialEq, Eq)]
 pub enum Quantity {

@@ -124,10 +124,7 @@ impl<const N: usize> Scenario<N> {
     }
 }
 
-pub(crate) fn copy_settings(
-    alloc: Global,
-    settings: &[Settings],
-) -> Result<Vec<Settings>, AllocError>
+fn copy_settings(alloc: Global, settings: &[Settings]) -> Result<Vec<Settings>, AllocError>
     ensures { IfOk result (λ v. v.items ≡ settings.now) }
 {
     let mut copies = Vec::new(alloc);
@@ -137,10 +134,7 @@ pub(crate) fn copy_settings(
     Ok(copies)
 }
 
-pub(crate) fn copy_cables(
-    alloc: Global,
-    cables: &[NamedCable],
-) -> Result<Vec<NamedCable>, AllocError>
+fn copy_cables(alloc: Global, cables: &[NamedCable]) -> Result<Vec<NamedCable>, AllocError>
     ensures { IfOk result (λ v. v.items ≡ cables.now) }
 {
     let mut copies = Vec::new(alloc);
@@ -150,7 +144,7 @@ pub(crate) fn copy_cables(
     Ok(copies)
 }
 
-pub(crate) fn copy_sinks(alloc: Global, sinks: &[NamedSink]) -> Result<Vec<NamedSink>, AllocError>
+fn copy_sinks(alloc: Global, sinks: &[NamedSink]) -> Result<Vec<NamedSink>, AllocError>
     ensures { IfOk result (λ v. v.items ≡ sinks.now) }
 {
     let mut copies = Vec::new(alloc);
@@ -160,10 +154,7 @@ pub(crate) fn copy_sinks(alloc: Global, sinks: &[NamedSink]) -> Result<Vec<Named
     Ok(copies)
 }
 
-pub(crate) fn copy_events(
-    alloc: Global,
-    events: &[ScenarioEvent],
-) -> Result<Vec<ScenarioEvent>, AllocError>
+fn copy_events(alloc: Global, events: &[ScenarioEvent]) -> Result<Vec<ScenarioEvent>, AllocError>
     ensures { IfOk result (λ v. v.items ≡ events.now) }
 {
     let mut copies = Vec::new(alloc);

@@ -7,12 +7,11 @@ ghost use Rattle.pd_scenario.specs.Plans.{plan_of, changes_of};
 
 use crate::budget::{BudgetChange, change_of, last_change};
 use crate::order::script;
-use crate::parts::{copy_cables, copy_events, copy_settings, copy_sinks};
 use crate::{Name, NamedCable, NamedSink, ScenarioEvent};
 use pd_identity::Cable;
 use pd_plan::{Event, Settings};
 use pd_sink::SinkSettings;
-use std::alloc::{AllocError, Allocator, Global};
+use std::alloc::{AllocError, Allocator};
 use std::marker::Model;
 
 /// What the ports of a charger are set to, with cables, sinks and events, the budget that the ports share, and the
@@ -54,7 +53,7 @@ impl<const N: usize> Model for Scenario<N> {
 }
 
 impl<const N: usize> Scenario<N> {
-    /// The scenario of these parts: a budget in mW and an end in microseconds.
+    /// The scenario of these parts: a budget in mW, 500 to 1,000,000, and an end in microseconds, up to 120,000,000.
     pub fn new(
         settings: Vec<Settings>,
         cables: Vec<NamedCable>,
@@ -74,29 +73,6 @@ impl<const N: usize> Scenario<N> {
             budget_mw,
             end_us,
         }
-    }
-
-    /// The scenario of these parts: a budget in mW, 500 to 1,000,000, and an end in microseconds, up to 120,000,000.
-    ///
-    /// # Errors
-    /// There is no memory.
-    pub fn of(
-        alloc: Global,
-        settings: &[Settings],
-        cables: &[NamedCable],
-        sinks: &[NamedSink],
-        events: &[ScenarioEvent],
-        budget_mw: u32,
-        end_us: u32,
-    ) -> Result<Scenario<N>, AllocError>
-        requires { IsValid N (record { settings = settings.now; cables = cables.now; sinks = sinks.now; events = events.now; budget_mw = budget_mw; end_us = end_us }) }
-        ensures { IfOk result (λ s. s ≡ record { settings = settings.now; cables = cables.now; sinks = sinks.now; events = events.now; budget_mw = budget_mw; end_us = end_us }) }
-    {
-        let settings = copy_settings(alloc, settings)?;
-        let cables = copy_cables(alloc, cables)?;
-        let sinks = copy_sinks(alloc, sinks)?;
-        let events = copy_events(alloc, events)?;
-        Ok(Scenario::new(settings, cables, sinks, events, budget_mw, end_us))
     }
 
     /// What a port is set to, the ports being numbered from 1.
@@ -138,7 +114,7 @@ impl<const N: usize> Scenario<N> {
         u64::from(self.budget_mw) * 1_000
     }
 
-    /// The changes of the budget, in the order of their making.
+    /// The changes of the shared budget, in the order of their making.
     ///
     /// # Errors
     /// There is no memory.
@@ -150,7 +126,7 @@ impl<const N: usize> Scenario<N> {
         changes_of(alloc, &self.events)
     }
 
-    /// The budget at a time, in microwatts: that of the last change at or before it, else the scenario's.
+    /// The shared budget at a time, in microwatts: that of the last change at or before it, else the scenario's.
     #[tactic(auto, unfolding(crate::specs::Plans::plan_of, crate::specs::Plan::force))]
     pub fn force(&self, at: u64) -> u64
         ensures value { result ≡ force (plan_of self.now) at }

@@ -18,8 +18,9 @@ use Rattle.pd_scenario_tables.specs.declared.schema.EventName.{EventName}
 use Rattle.pd_scenario_tables.specs.declared.schema.EventName.TheVariants as event
 use Rattle.pd_scenario_tables.specs.declared.schema.Key.TheVariants as key
 use Rattle.pd_scenario_tables.specs.Schema.{port_rules, cable_rules, sink_rules, any_event, on_port, event_rules}
-use Rattle.pd_scenario_tables.specs.Words.{plug_of, rating_of, revision_of}
-use Rattle.pd_scenario_tables.specs.Values.{supply_of}
+use Rattle.pd_scenario.specs.Words.{plug_of, rating_of}
+use Rattle.pd_scenario_tables.specs.Words.{revision_of}
+use Rattle.pd_scenario_tables.specs.Values.{natural, supply_of}
 use Rattle.pd_scenario_tables.specs.Tables.{whole_at, number_at, truth_at, word_at, elements_at, mode_at, event_at}
 
 abbrev pub settings_of : Members → SettingsData
@@ -35,7 +36,7 @@ cable_of t = record {
   name = word_at key.Name t;
   cable = record {
     plug = unwrap_or (plug_of (word_at key.Plug t)) Absent;
-    rating = unwrap_or (rating_of (whole_at cable_rules key.Rating t)) ThreeAmperes;
+    rating = unwrap_or (rating_of (natural (whole_at cable_rules key.Rating t))) ThreeAmperes;
   };
 }
 

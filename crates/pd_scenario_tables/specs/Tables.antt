@@ -17,7 +17,8 @@ use Rattle.pd_scenario_tables.specs.declared.schema.Rule.{Rule}
 use Rattle.pd_scenario_tables.specs.declared.fault.ScenarioFault.{ScenarioFault}
 use Rattle.pd_scenario_tables.specs.declared.fault.ScenarioFault.TheVariants as fault
 use Rattle.pd_scenario_tables.specs.Schema.{text_of, rules_of}
-use Rattle.pd_scenario_tables.specs.Words.{version_of, mode_of, event_named}
+use Rattle.pd_scenario.specs.Words.{mode_of}
+use Rattle.pd_scenario_tables.specs.Words.{version_of, event_named}
 use Rattle.pd_scenario_tables.specs.Values.{whole_of, word_of, truth_of, small, elements_of, passes}
 
 -- ---- what stands at a key, or for it where it is absent

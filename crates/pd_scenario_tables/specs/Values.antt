@@ -7,7 +7,8 @@ use Rattle.pd_scenario.specs.Names.{is_name}
 use Rattle.pd_scenario.specs.Limits.{allows, is_port, most_supplies, first_mv}
 use Rattle.pd_scenario.specs.declared.limits.Quantity.{Quantity}
 use Rattle.pd_scenario.specs.declared.limits.Quantity.TheVariants.{Voltage, Current}
-use Rattle.pd_scenario_tables.specs.Words.{plug_of, mode_of, rating_of, revision_of, version_of, event_named}
+use Rattle.pd_scenario.specs.Words.{plug_of, mode_of, rating_of}
+use Rattle.pd_scenario_tables.specs.Words.{revision_of, version_of, event_named}
 use Rattle.pd_scenario_tables.specs.declared.schema.Version.{Version}
 use Rattle.pd_scenario_tables.specs.declared.schema.EventName.{EventName}
 use Rattle.pd_scenario_tables.specs.declared.schema.EventName.TheVariants.{Attach, Detach, Demand, Lose, Damage, GetSource, GetSink, Budget, Unknown}
@@ -128,7 +129,7 @@ abbrev pub in_range : Version → ℕ → Form → Data → Bool
 in_range version ports (Number quantity) d = is_within quantity (whole_of d)
 in_range version ports VersionNumber d = is_some (version_of (whole_of d))
 in_range version ports PortNumber d = is_port_number ports (whole_of d)
-in_range version ports RatingNumber d = is_some (rating_of (whole_of d))
+in_range version ports RatingNumber d = is_some (rating_of (natural (whole_of d)))
 in_range version ports RevisionNumber d = is_some (revision_of (whole_of d))
 in_range version ports Name d = true
 in_range version ports PlugWord d = is_some (plug_of (word_of d))

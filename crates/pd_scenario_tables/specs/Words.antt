@@ -1,40 +1,12 @@
--- The words of a scenario file, and the numbers that stand for a choice.
+-- The words of a scenario file alone, and its numbers that stand for a choice: docs/FORMATS.md, "Scenario file".
 use Rattle.std.specs.Prelude.{ℕ, ℤ, pos, List, Option, Some, None, codes, bytes_eq, if◌then◌else◌}
 use Rattle.std.specs.Ordering.{int_eq}
-use Rattle.pd_identity.specs.declared.CablePlug.{CablePlug}
-use Rattle.pd_identity.specs.declared.CablePlug.TheVariants.{Absent, Ack, Nak, Busy, Silent}
-use Rattle.pd_identity.specs.declared.Rating.{Rating}
-use Rattle.pd_identity.specs.declared.Rating.TheVariants.{ThreeAmperes, FiveAmperes}
-use Rattle.pd_sink.specs.declared.settings.SinkMode.{SinkMode}
-use Rattle.pd_sink.specs.declared.settings.SinkMode.TheVariants.{PowerDelivery, Plain, Greedy}
 use Rattle.pd_sink.specs.declared.settings.SinkRevision.{SinkRevision}
 use Rattle.pd_sink.specs.declared.settings.SinkRevision.TheVariants.{Revision2, Revision3}
 use Rattle.pd_scenario_tables.specs.declared.schema.Version.{Version}
 use Rattle.pd_scenario_tables.specs.declared.schema.Version.TheVariants.{One, Two}
 use Rattle.pd_scenario_tables.specs.declared.schema.EventName.{EventName}
 use Rattle.pd_scenario_tables.specs.declared.schema.EventName.TheVariants.{Attach, Detach, Demand, Lose, Damage, GetSource, GetSink, Budget, Unknown}
-
-abbrev pub plug_of : List ℕ → Option CablePlug
-plug_of word =
-    if bytes_eq word (codes "none") then Some Absent
-    else if bytes_eq word (codes "ack") then Some Ack
-    else if bytes_eq word (codes "nak") then Some Nak
-    else if bytes_eq word (codes "busy") then Some Busy
-    else if bytes_eq word (codes "silent") then Some Silent
-    else None
-
-abbrev pub mode_of : List ℕ → Option SinkMode
-mode_of word =
-    if bytes_eq word (codes "pd") then Some PowerDelivery
-    else if bytes_eq word (codes "plain") then Some Plain
-    else if bytes_eq word (codes "greedy") then Some Greedy
-    else None
-
-abbrev pub rating_of : ℤ → Option Rating
-rating_of number =
-    if int_eq number (pos 3000) then Some ThreeAmperes
-    else if int_eq number (pos 5000) then Some FiveAmperes
-    else None
 
 abbrev pub revision_of : ℤ → Option SinkRevision
 revision_of number =

@@ -10,15 +10,16 @@ ghost use Rattle.pd_scenario_tables.specs.Convert.{settings_of, cable_of, sink_o
 
 use crate::schema::{EventName, Key, TableKind, Version};
 use crate::tables::{elements_at, event_at, truth_at, whole_at, word_at};
-use crate::values::{numbers_of, small};
-use crate::words::{mode_of, plug_of, rating_of, revision_of};
+use crate::values::{natural, numbers_of, small};
+use crate::words::revision_of;
 use arrayvec::ArrayVec;
 use pd_identity::{Cable, CablePlug, Rating};
 use pd_objects::Supply;
 use pd_packet::Damage;
 use pd_plan::Settings;
 use pd_scenario::{
-    Name, NamedCable, NamedSink, ScenarioEvent, ScenarioEventKind, ScenarioHappening,
+    Name, NamedCable, NamedSink, ScenarioEvent, ScenarioEventKind, ScenarioHappening, mode_of,
+    plug_of, rating_of,
 };
 use pd_sink::{Demand, SinkMode, SinkRevision, SinkSettings};
 use toml::{Table, Value};
@@ -75,8 +76,9 @@ pub fn cable_of(table: &Table) -> NamedCable
     ensures { result ≡ cable_of (table_view table.now) }
 {
     let name = word_at(table, Key::Name);
-    let plug = plug_of(word_at(table, Key::Plug)).unwrap_or(CablePlug::Absent);
-    let rating = rating_of(whole_at(table, Key::Rating, 0)).unwrap_or(Rating::ThreeAmperes);
+    let plug = plug_of(word_at(table, Key::Plug).as_bytes()).unwrap_or(CablePlug::Absent);
+    let rating_ma = natural(whole_at(table, Key::Rating, 0));
+    let rating = rating_of(rating_ma).unwrap_or(Rating::ThreeAmperes);
     NamedCable {
         name: Name::new(name),
         cable: Cable { plug, rating },
@@ -91,7 +93,7 @@ pub fn sink_of(table: &Table) -> NamedSink
     let name = word_at(table, Key::Name);
     let max_mv = number_at(table, Key::Max);
     let demand_mw = number_at(table, Key::Demand);
-    let mode = mode_of(word_at(table, Key::Mode)).unwrap_or(SinkMode::PowerDelivery);
+    let mode = mode_of(word_at(table, Key::Mode).as_bytes()).unwrap_or(SinkMode::PowerDelivery);
     let number = whole_at(table, Key::Revision, 3);
     let revision = revision_of(number).unwrap_or(SinkRevision::Revision3);
     NamedSink {

@@ -1,8 +1,10 @@
 //! Why a scenario file is refused.
 
 ghost use Rattle.std.specs.Prelude.{◌≡◌, ℕ};
+ghost use Rattle.pd_scenario_tables.specs.declared.fault.ScenarioFault.TheVariants.{Memory};
 ghost use Rattle.pd_scenario_tables.specs.Numbers.{number_of};
 
+use std::alloc::AllocError;
 use thiserror::Error;
 
 /// Why a scenario file is refused: the first of these that applies anywhere in it.
@@ -53,5 +55,13 @@ impl ScenarioFault {
             ScenarioFault::Limit => 11,
             ScenarioFault::Memory => 12,
         }
+    }
+}
+
+impl From<AllocError> for ScenarioFault {
+    ghost from_gives = { λ _ fault. fault ≡ Memory };
+
+    fn from(_: AllocError) -> ScenarioFault {
+        Self::Memory
     }
 }

@@ -153,56 +153,55 @@ macro_rules! rules {
     };
 }
 
+/// The keys of each event, after those of its kind.
+macro_rules! any_event {
+    ($($rules:tt)*) => {
+        rules! {
+            $($rules)*
+            Id, Need::Required, Form::Number(Quantity::EventId);
+            At, Need::Required, Form::Number(Quantity::Time);
+            Kind, Need::Required, Form::EventWord;
+        }
+    };
+}
+
+/// The keys of each event of a port, after those of its kind.
+macro_rules! on_port {
+    ($($rules:tt)*) => {
+        any_event! {
+            $($rules)*
+            Port, Need::Required, Form::PortNumber;
+        }
+    };
+}
+
 /// The keys of an event.
 pub fn event_rules(name: EventName) -> &'static [Rule]
     ensures { result.now ≡ event_rules name }
 {
     match name {
-        EventName::Attach => rules! {
+        EventName::Attach => on_port! {
             Cable, Need::Required, Form::Name;
             Sink, Need::Required, Form::Name;
-            Port, Need::Required, Form::PortNumber;
-            Id, Need::Required, Form::Number(Quantity::EventId);
-            At, Need::Required, Form::Number(Quantity::Time);
-            Kind, Need::Required, Form::EventWord;
         },
-        EventName::Demand => rules! {
+        EventName::Demand => on_port! {
             Mw, Need::Required, Form::Number(Quantity::Demand);
-            Port, Need::Required, Form::PortNumber;
-            Id, Need::Required, Form::Number(Quantity::EventId);
-            At, Need::Required, Form::Number(Quantity::Time);
-            Kind, Need::Required, Form::EventWord;
         },
-        EventName::Damage => rules! {
+        EventName::Damage => on_port! {
             Place, Need::Required, Form::Number(Quantity::DamagePlace);
             Mask, Need::Required, Form::Number(Quantity::DamageMask);
-            Port, Need::Required, Form::PortNumber;
-            Id, Need::Required, Form::Number(Quantity::EventId);
-            At, Need::Required, Form::Number(Quantity::Time);
-            Kind, Need::Required, Form::EventWord;
         },
-        EventName::Detach | EventName::Lose | EventName::GetSource | EventName::GetSink => rules! {
-            Port, Need::Required, Form::PortNumber;
-            Id, Need::Required, Form::Number(Quantity::EventId);
-            At, Need::Required, Form::Number(Quantity::Time);
-            Kind, Need::Required, Form::EventWord;
-        },
-        EventName::Budget => rules! {
+        EventName::Detach | EventName::Lose | EventName::GetSource | EventName::GetSink =>
+            on_port! {},
+        EventName::Budget => any_event! {
             Mw, Need::Required, Form::Number(Quantity::Budget);
-            Id, Need::Required, Form::Number(Quantity::EventId);
-            At, Need::Required, Form::Number(Quantity::Time);
-            Kind, Need::Required, Form::EventWord;
         },
-        EventName::Unknown => rules! {
+        EventName::Unknown => on_port! {
             Cable, Need::Nothing, Form::Name;
             Sink, Need::Nothing, Form::Name;
             Mw, Need::Nothing, Form::Number(Quantity::Demand);
             Place, Need::Nothing, Form::Number(Quantity::DamagePlace);
             Mask, Need::Nothing, Form::Number(Quantity::DamageMask);
-            Port, Need::Required, Form::PortNumber;
-            Id, Need::Required, Form::Number(Quantity::EventId);
-            At, Need::Required, Form::Number(Quantity::Time);
-            Kind, Need::Required, Form::EventWord;
         },
     }
 }

@@ -7,13 +7,11 @@ ghost use Rattle.pd_scenario_tables.specs.Values.{whole_of, word_of, truth_of, e
 
 use crate::fault::ScenarioFault;
 use crate::schema::{EventName, Form, Version};
-use crate::words::{event_named, mode_of, plug_of, rating_of, revision_of, version_of};
-use pd_scenario::{Quantity, is_name};
+use crate::words::{event_named, revision_of, version_of};
+use pd_scenario::{FIRST_MV, Quantity, is_name, mode_of, plug_of, rating_of};
 use toml::Value;
 
-/// The first voltage and the most supplies of a port.
-const FIRST_MV: u32 = 5_000;
-
+/// The most supplies of a port.
 const MOST_SUPPLIES: usize = 7;
 
 pub fn whole_of(value: &Value) -> i64
@@ -66,7 +64,7 @@ fn pair_of(value: &Value) -> (i64, i64)
 }
 
 /// The number, or 0 where it is negative.
-fn natural(number: i64) -> u64
+pub fn natural(number: i64) -> u64
     ensures { result ≡ natural number }
 {
     if number < 0 { 0 } else { number as u64 }
@@ -177,10 +175,10 @@ fn in_range(version: Version, ports: u64, form: Form, value: &Value) -> bool
         Form::Number(quantity) => is_within(quantity, whole_of(value)),
         Form::VersionNumber => version_of(whole_of(value)).is_some(),
         Form::PortNumber => is_port_number(ports, whole_of(value)),
-        Form::RatingNumber => rating_of(whole_of(value)).is_some(),
+        Form::RatingNumber => rating_of(natural(whole_of(value))).is_some(),
         Form::RevisionNumber => revision_of(whole_of(value)).is_some(),
-        Form::PlugWord => plug_of(word_of(value)).is_some(),
-        Form::ModeWord => mode_of(word_of(value)).is_some(),
+        Form::PlugWord => plug_of(word_of(value).as_bytes()).is_some(),
+        Form::ModeWord => mode_of(word_of(value).as_bytes()).is_some(),
         Form::EventWord => is_known(event_named(version, word_of(value))),
         Form::Supplies => all_are_supplies(elements_of(value)),
         Form::Name | Form::Truth | Form::Tables => true,

@@ -1,50 +1,10 @@
-//! The words of a scenario file, and the numbers that stand for a choice.
+//! The words of a scenario file alone, and its numbers that stand for a choice.
 
 ghost use Rattle.std.specs.Prelude.{◌≡◌};
-ghost use Rattle.pd_scenario_tables.specs.Words.{plug_of, mode_of, rating_of, revision_of, version_of, event_named};
+ghost use Rattle.pd_scenario_tables.specs.Words.{revision_of, version_of, event_named};
 
 use crate::schema::{EventName, Version};
-use pd_identity::{CablePlug, Rating};
-use pd_sink::{SinkMode, SinkRevision};
-
-/// The plug of a word.
-pub fn plug_of(word: &str) -> Option<CablePlug>
-    ensures { result ≡ plug_of word.now }
-{
-    match word {
-        "none" => Some(CablePlug::Absent),
-        "ack" => Some(CablePlug::Ack),
-        "nak" => Some(CablePlug::Nak),
-        "busy" => Some(CablePlug::Busy),
-        "silent" => Some(CablePlug::Silent),
-        _ => None,
-    }
-}
-
-/// The mode of a word.
-pub fn mode_of(word: &str) -> Option<SinkMode>
-    ensures { result ≡ mode_of word.now }
-{
-    match word {
-        "pd" => Some(SinkMode::PowerDelivery),
-        "plain" => Some(SinkMode::Plain),
-        "greedy" => Some(SinkMode::Greedy),
-        _ => None,
-    }
-}
-
-/// The rating of a number in mA.
-pub fn rating_of(number: i64) -> Option<Rating>
-    ensures { result ≡ rating_of number }
-{
-    if number == 3_000 {
-        return Some(Rating::ThreeAmperes);
-    }
-    if number == 5_000 {
-        return Some(Rating::FiveAmperes);
-    }
-    None
-}
+use pd_sink::SinkRevision;
 
 /// The revision of a number.
 pub fn revision_of(number: i64) -> Option<SinkRevision>

@@ -1,5 +1,8 @@
 use linked_list_allocator::LocalHeap;
+use pd_identity::{Cable, CablePlug, Rating};
+use pd_plan::{Event, EventKind, Happening};
 use pd_scenario_text::{port_count, scenario_from_text};
+use pd_sink::{SinkMode, SinkRevision, SinkSettings};
 use std::alloc::AllocError;
 use std::test::Fail;
 
@@ -80,6 +83,8 @@ fn second_version(rt: HostRuntime) -> Result<(), Fail> {
     assert_eq!(rt; changed(&rt, "phone\"\nmax", revision)?, 2);
     let budget = "[[event]]\nid = 2\nat = 7\nkind = \"budget\"\nmw = 2500\n[[event]]";
     assert_eq!(rt; changed(&rt, "[[event]]", budget)?, 4);
+    let ported = "[[event]]\nid = 2\nat = 7\nport = 1\nkind = \"budget\"\nmw = 2500\n[[event]]";
+    assert_eq!(rt; changed(&rt, "[[event]]", ported)?, 5);
     let base = joined(&rt, &ONE_PORT)?;
     let two = base
         .as_str()
@@ -87,12 +92,18 @@ fn second_version(rt: HostRuntime) -> Result<(), Fail> {
     let both = two.as_str().replace(rt.alloc(), "[[event]]", budget)?;
     let both = both.as_str().replace(rt.alloc(), "phone\"\nmax", revision)?;
     assert_eq!(rt; read(&rt, both.as_bytes()), 0);
-    let low = both.as_str().replace(rt.alloc(), "mw = 2500", "mw = 2499")?;
-    assert_eq!(rt; read(&rt, low.as_bytes()), 9);
-    let ported = both
-        .as_str()
-        .replace(rt.alloc(), "mw = 2500", "mw = 2500\nport = 1")?;
-    assert_eq!(rt; read(&rt, ported.as_bytes()), 2);
+    for (old, new, number) in [
+        ("mw = 2500", "mw = 2500\nport = 1", 2),
+        ("mw = 2500", "mw = 499", 5),
+        ("mw = 2500", "mw = 1000001", 5),
+        ("revision = 2", "revision = 1", 5),
+        ("revision = 2", "revision = 3", 0),
+        ("revision = 2", "revision = 4", 5),
+        ("mw = 2500", "mw = 2499", 9),
+    ] {
+        let text = both.as_str().replace(rt.alloc(), old, new)?;
+        assert_eq!(rt; read(&rt, text.as_bytes()), number, "{old} as {new}");
+    }
     Ok(())
 }
 
@@ -146,10 +157,10 @@ const TWO_PORTS: [&str; 10] = [
     "[[event]]\nid = 3\nat = 500000\nport = 1\nkind = \"detach\"\n",
 ];
 
-/// The number of the refusal for two ports, and 0 where there is none.
-fn read_two(rt: &impl AllocGlobal, text: &[u8]) -> u8 {
+/// The number of the refusal for two ports, and 0 where there is none and the scenario has so many events.
+fn read_two(rt: &impl AllocGlobal, text: &[u8], events: usize) -> u8 {
     match scenario_from_text::<2>(rt.alloc(), text) {
-        Ok(scenario) if scenario.budget_mw() == 60_000 && scenario.events().len() == 3 => 0,
+        Ok(scenario) if scenario.budget_mw() == 60_000 && scenario.events().len() == events => 0,
         Ok(_) => 100,
         Err(fault) => fault.number(),
     }
@@ -159,20 +170,72 @@ fn read_two(rt: &impl AllocGlobal, text: &[u8]) -> u8 {
 fn two_ports(rt: HostRuntime) -> Result<(), Fail> {
     let text = joined(&rt, &TWO_PORTS)?;
     assert_eq!(rt; counted(&rt, text.as_bytes()), 2);
-    assert_eq!(rt; read_two(&rt, text.as_bytes()), 0);
+    assert_eq!(rt; read_two(&rt, text.as_bytes(), 3), 0);
     assert_eq!(rt; read(&rt, text.as_bytes()), 5);
     Ok(())
 }
 
-/// Where a growth is refused, each reader answers 12 and nothing else.
+/// A file of two ports, to each of which one sink is attached through one cable.
+const TWO_ATTACHES: &str = "version = 1
+end = 2000000
+budget = 60000
+
+[[port]]
+floor = 2500
+identity_tries = 1
+supplies = [[5000, 3000], [20000, 5000]]
+
+[[port]]
+floor = 2500
+identity_tries = 1
+supplies = [[5000, 3000]]
+
+[[cable]]
+name = \"thick\"
+plug = \"ack\"
+rating = 5000
+
+[[cable]]
+name = \"thin\"
+plug = \"none\"
+rating = 3000
+
+[[sink]]
+name = \"big\"
+max = 20000
+demand = 60000
+
+[[sink]]
+name = \"phone\"
+max = 5000
+demand = 15000
+
+[[event]]
+id = 1
+at = 0
+port = 1
+kind = \"attach\"
+cable = \"thick\"
+sink = \"big\"
+
+[[event]]
+id = 2
+at = 200000
+port = 2
+kind = \"attach\"
+cable = \"thin\"
+sink = \"phone\"
+";
+
+/// Where a growth is refused, each reader answers 12 and nothing else. In the gate no growth fails, and both read the file;
+/// by hand each growth fails in turn: `rt try --test --fail-alloc N` for N from 1 on.
 #[test]
 fn two_ports_or_no_memory(rt: HostRuntime) {
-    if let Ok(text) = joined(&rt, &TWO_PORTS) {
-        let ports = counted(&rt, text.as_bytes());
-        assert!(rt; ports == 2 || ports == 112);
-        let number = read_two(&rt, text.as_bytes());
-        assert!(rt; number == 0 || number == 12);
-    }
+    let text = TWO_ATTACHES.as_bytes();
+    let ports = counted(&rt, text);
+    assert!(rt; ports == 2 || ports == 112);
+    let number = read_two(&rt, text, 2);
+    assert!(rt; number == 0 || number == 12);
 }
 
 /// A script has the events of its port in their order, or its heap is too small for it.
@@ -189,6 +252,39 @@ fn scripts_on_small_heaps(rt: HostRuntime) -> Result<(), Fail> {
                 made = true;
                 assert_eq!(rt; script.len(), 2, "on {units}");
                 assert_eq!(rt; (script[0].at(), script[1].at()), (0, 500_000));
+            }
+            Err(_) => refused = true,
+        }
+    }
+    assert!(rt; refused && made);
+    Ok(())
+}
+
+/// Port 1's script is its attach alone, with the cable and the sink in place of their names.
+#[test]
+fn scripts_have_cables_and_sinks(rt: HostRuntime) -> Result<(), Fail> {
+    let scenario = scenario_from_text::<2>(rt.alloc(), TWO_ATTACHES.as_bytes())?;
+    let cable = Cable {
+        plug: CablePlug::Ack,
+        rating: Rating::FiveAmperes,
+    };
+    let sink = SinkSettings::new(
+        20_000,
+        60_000,
+        SinkMode::PowerDelivery,
+        SinkRevision::Revision3,
+    );
+    let kind = EventKind::Attach { cable, sink };
+    let attach = Event::new(0, Happening::Port { id: 1, kind });
+    let mut refused = false;
+    let mut made = false;
+    for units in 1..64usize {
+        let heap = LocalHeap::new(rt.alloc(), 64 * units)?;
+        match scenario.script(&heap, 1) {
+            Ok(script) => {
+                made = true;
+                assert_eq!(rt; script.len(), 1, "on {units}");
+                assert!(rt; script[0].same(&attach), "on {units}");
             }
             Err(_) => refused = true,
         }

@@ -1,10 +1,8 @@
 -- Which refusal is answered.
-use Rattle.std.proofs.Common.{◌≡◌, ℕ, ◌+◌, ◌<◌, Bool, true, false, not, ◌||◌, ◌&&◌, cond, List, ◌++◌, length, take, get_or, fold, find, refl, sym, ap, subst, ◌∙◌, Some, None, Ok, Err}
-use Rattle.std.specs.Prelude.{Option, Result, min, nat_lt, sum_by}
-use Rattle.std.specs.Option.{option_to_list}
-use Rattle.std.specs.List.{list_all, filter_map}
-use Rattle.std.proofs.lemmas.List.Sums.{fold-append}
-use Rattle.pd_scenario.specs.Contents.{Contents, IsValid, names_differ, ids_differ, names_are_known, budget_of, least_budget}
+use Rattle.std.proofs.Common.{◌≡◌, ℕ, Bool, true, false, not, ◌||◌, ◌&&◌, cond, List, find, refl, sym, ap, subst, ◌∙◌, Some, None, Ok, Err}
+use Rattle.std.specs.Prelude.{Option, Result}
+use Rattle.std.specs.List.{list_all}
+use Rattle.pd_scenario.specs.Contents.{Contents, IsValid, names_differ, ids_differ, names_are_known, least_budget, are_funded}
 use Rattle.pd_plan.specs.Settings.{SettingsData}
 use Rattle.pd_scenario.specs.declared.contents.NamedCable.{NamedCable}
 use Rattle.pd_scenario.specs.declared.contents.NamedSink.{NamedSink}
@@ -15,7 +13,6 @@ use Rattle.pd_scenario_text.specs.Names.{cable_names, sink_names, name_check}
 use Rattle.pd_scenario_text.specs.Contents.{Tables, contents_of}
 use Rattle.pd_scenario_text.specs.Refusals.{fails_somewhere, table_refusals, has_duplicate, has_unknown_name, exceeds_budget, exceed_limits, exceeds_limit, refusal}
 use Rattle.pd_scenario_text.specs.Reading.{Answers, answered}
-use Rattle.pd_scenario_tables.proofs.Members.{filter_map-more}
 
 -- no refusal of single tables applies, up to the names
 pub record Clean (ports : ℕ) (d : Tables) : Type 0 where
@@ -143,10 +140,10 @@ pub same_check : (c : Contents) (cables : List NamedCable) (sinks : List NamedSi
     → r ≡ name_check cables sinks events → name_check c.cables c.sinks c.events ≡ r
 same_check c cables sinks events r a b e is = sym (is ∙ rw (a, b, e) refl)
 
-pub same_exceed : (c : Contents) (settings : List SettingsData) (events : List ScenarioEvent) (mw least : ℕ) (r : Bool) → settings ≡ c.settings → events ≡ c.events → mw ≡ c.budget_mw
-    → least ≡ least_budget mw events → r ≡ nat_lt least (sum_by (λ (s : SettingsData). s.floor_mw) settings) → exceeds_budget c ≡ r
+pub same_funded : (c : Contents) (settings : List SettingsData) (events : List ScenarioEvent) (mw least : ℕ) (r : Bool) → settings ≡ c.settings → events ≡ c.events → mw ≡ c.budget_mw
+    → least ≡ least_budget mw events → r ≡ are_funded settings least → exceeds_budget c ≡ not r
 unfolding exceeds_budget
-same_exceed c settings events mw least r a b e is_least is = sym (is ∙ rw (is_least, a, b, e) refl)
+same_funded c settings events mw least r a b e is_least is = ap not (sym (is ∙ rw (is_least, a, b, e) refl))
 
 pub same_limit : (ports : ℕ) (c : Contents) (settings : List SettingsData) (cables : List NamedCable) (sinks : List NamedSink) (events : List ScenarioEvent) (r : Bool) → settings ≡ c.settings → cables ≡ c.cables
     → sinks ≡ c.sinks → events ≡ c.events → r ≡ exceed_limits ports settings cables sinks events → exceeds_limit ports c ≡ r
@@ -162,13 +159,3 @@ same_valid ports c k is h = let P : Contents → Type 0 = λ x. IsValid ports x 
 
 pub same_answer : (o : Option ScenarioFault) (c k : Contents) → o ≡ None → c ≡ k → answered o c ≡ Ok k
 same_answer o c k none is = rw (none, is) refl
-
--- ---- one more event
-
-pub least_more : (mw : ℕ) (es : List ScenarioEvent) (i : ℕ) (e : ScenarioEvent) → i < length es → e ≡ get_or es i e
-    → least_budget mw (take (i + 1) es) ≡ fold min (least_budget mw (take i es)) (option_to_list (budget_of e))
-least_more mw es i e below is =
-    let more : filter_map budget_of (take (i + 1) es) ≡ filter_map budget_of (take i es) ++ option_to_list (budget_of e) =
-    filter_map-more budget_of es i e below ∙ ap (λ (x : ScenarioEvent). filter_map budget_of (take i es) ++ option_to_list (budget_of x)) (sym is)
-    in
-    ap (fold min mw) more ∙ fold-append min mw (filter_map budget_of (take i es)) (option_to_list (budget_of e))

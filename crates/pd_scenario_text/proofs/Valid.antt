@@ -1,6 +1,6 @@
 -- A file to which no refusal applies gives a scenario that keeps every limit.
 use Rattle.std.proofs.Common.{◌≡◌, ℕ, ◌≤◌, Bool, true, false, not, ◌||◌, ◌==◌, List, [], ◌∷◌, length, map, refl, arith, lit<, Bor, BTreeMap, String, Global}
-use Rattle.std.specs.Prelude.{nat_lt, sum_by, All}
+use Rattle.std.specs.Prelude.{nat_lt, nat_le, All}
 use Rattle.std.specs.List.{list_any, list_all}
 use Rattle.std.proofs.lemmas.Bool.{and_parts, or_parts, not-false}
 use Rattle.std.proofs.lemmas.Bool.Decides.{nat_tests}
@@ -9,9 +9,9 @@ use Rattle.toml.specs.Data.{Members}
 use Rattle.toml.specs.View.{table_view}
 use Rattle.toml.specs.declared.value.Value.{Value}
 use Rattle.pd_sink.specs.Settings.{IsSink}
-use Rattle.pd_plan.specs.Settings.{SettingsData, IsSettings}
+use Rattle.pd_plan.specs.Settings.{IsSettings}
 use Rattle.pd_scenario.specs.Names.{is_name}
-use Rattle.pd_scenario.specs.Contents.{Contents, IsValid, event_fits, names_differ, ids_differ, names_are_known, least_budget}
+use Rattle.pd_scenario.specs.Contents.{Contents, IsValid, event_fits, names_differ, ids_differ, names_are_known, least_budget, floors_mw, is_funded}
 use Rattle.pd_scenario.specs.declared.limits.Quantity.TheVariants as quantity
 use Rattle.pd_scenario.specs.declared.contents.NamedCable.{NamedCable}
 use Rattle.pd_scenario.specs.declared.contents.NamedSink.{NamedSink}
@@ -184,16 +184,16 @@ single_is c h =
     let b = or_parts (not y) (not z) a.1 in
     record { cables = not-false x a.0; sinks = not-false y b.0; events = not-false z b.1 }
 
-at_most : (a b : ℕ) → nat_lt a b ≡ false → b ≤ a
-at_most a b h = grind (arith, nat_tests)
-
 known_is : (c : Contents) → has_unknown_name c ≡ false → list_all (λ (e : ScenarioEvent). names_are_known c.cables c.sinks e.happening) c.events ≡ true
 unfolding has_unknown_name
 known_is c h = not-false (list_all (λ (e : ScenarioEvent). names_are_known c.cables c.sinks e.happening) c.events) h
 
-funded_is : (c : Contents) → exceeds_budget c ≡ false → sum_by (λ (s : SettingsData). s.floor_mw) c.settings ≤ least_budget c.budget_mw c.events
+reached : (a b : ℕ) → nat_le a b ≡ true → a ≤ b
+reached a b h = grind (arith, nat_tests)
+
+funded_is : (c : Contents) → exceeds_budget c ≡ false → floors_mw c.settings ≤ least_budget c.budget_mw c.events
 unfolding exceeds_budget
-funded_is c h = at_most (least_budget c.budget_mw c.events) (sum_by (λ (s : SettingsData). s.floor_mw) c.settings) h
+funded_is c h = reached (floors_mw c.settings) (least_budget c.budget_mw c.events) (not-false (is_funded c) h)
 
 pub valid : (ports : ℕ) (d : Tables) → 1 ≤ ports → ports ≤ 8 → Last ports d → exceeds_limit ports (contents_of d) ≡ false → IsValid ports (contents_of d)
 valid ports d some eight l limits =

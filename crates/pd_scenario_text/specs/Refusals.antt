@@ -1,9 +1,9 @@
 -- The refusals of a whole file.
-use Rattle.std.specs.Prelude.{ℕ, Bool, false, not, ◌||◌, ◌==◌, nat_lt, List, [], ◌∷◌, length, map, find, sum_by, Option}
+use Rattle.std.specs.Prelude.{ℕ, Bool, false, not, ◌||◌, ◌==◌, nat_lt, List, [], ◌∷◌, length, map, find, Option}
 use Rattle.std.specs.List.{list_any, list_all}
 use Rattle.pd_plan.specs.Settings.{SettingsData}
 use Rattle.pd_scenario.specs.Limits.{most_names, most_events}
-use Rattle.pd_scenario.specs.Contents.{Contents, names_differ, ids_differ, names_are_known, least_budget}
+use Rattle.pd_scenario.specs.Contents.{Contents, names_differ, ids_differ, names_are_known, is_funded}
 use Rattle.pd_scenario.specs.declared.contents.NamedCable.{NamedCable}
 use Rattle.pd_scenario.specs.declared.contents.NamedSink.{NamedSink}
 use Rattle.pd_scenario.specs.declared.contents.ScenarioEvent.{ScenarioEvent}
@@ -30,7 +30,7 @@ has_duplicate c =
 
 -- the floors add to more than the least of the budget and its changes
 unfoldable pub exceeds_budget : Contents → Bool
-exceeds_budget c = nat_lt (least_budget c.budget_mw c.events) (sum_by (λ (s : SettingsData). s.floor_mw) c.settings)
+exceeds_budget c = not (is_funded c)
 
 -- an event names a cable or a sink that isn't there
 unfoldable pub has_unknown_name : Contents → Bool

@@ -1,8 +1,7 @@
 //! A file as its tables, and the refusals that apply to it.
 
-ghost use Rattle.std.specs.Prelude.{◌≡◌, ◌≤◌, pos, find, nat_lt, sum_by, IfOk};
+ghost use Rattle.std.specs.Prelude.{◌≡◌, ◌≤◌, pos, find, IfOk};
 ghost use Rattle.toml.specs.View.{table_view};
-ghost use Rattle.pd_scenario.specs.Contents.{budget_of, least_budget};
 ghost use Rattle.pd_scenario_tables.specs.Values.{small};
 ghost use Rattle.pd_scenario_tables.specs.Tables.{value_at, whole_in};
 ghost use Rattle.pd_scenario_text.specs.Contents.{tables_of, contents_of};
@@ -12,17 +11,15 @@ ghost use Rattle.pd_scenario_text.specs.Reading.{answered, Answers};
 use crate::distinct::check_names;
 use crate::lists::{all_cables, all_events, all_settings, all_sinks, some_event_fails, some_fails};
 use pd_plan::Settings;
-use pd_scenario::{NamedCable, NamedSink, Scenario, ScenarioEvent, ScenarioHappening};
+use pd_scenario::{
+    MOST_EVENTS, MOST_NAMES, NamedCable, NamedSink, Scenario, ScenarioEvent, are_funded,
+    least_budget,
+};
 use pd_scenario_tables::{
     Key, ScenarioFault, TableKind, Version, fails, number_at, tables_at, version_at,
 };
 use std::alloc::{AllocError, Global};
 use toml::Table;
-
-/// The most cables or sinks, and the most events.
-const MOST_NAMES: usize = 64;
-
-const MOST_EVENTS: usize = 4_096;
 
 /// The refusals that are those of single tables, up to the names.
 const TABLE_REFUSALS: [ScenarioFault; 5] = [
@@ -112,31 +109,21 @@ impl<'a> Document<'a> {
         if let Some(fault) = self.first_refusal(ports) {
             return Err(fault);
         }
-        let Ok(cables) = all_cables(alloc, &self.cables) else {
-            return Err(ScenarioFault::Memory);
-        };
-        let Ok(sinks) = all_sinks(alloc, &self.sinks) else {
-            return Err(ScenarioFault::Memory);
-        };
-        let Ok(events) = all_events(alloc, self.version, &self.events) else {
-            return Err(ScenarioFault::Memory);
-        };
-        let Ok(checked) = check_names(alloc, &cables, &sinks, &events) else {
-            return Err(ScenarioFault::Memory);
-        };
+        let cables = all_cables(alloc, &self.cables)?;
+        let sinks = all_sinks(alloc, &self.sinks)?;
+        let events = all_events(alloc, self.version, &self.events)?;
+        let checked = check_names(alloc, &cables, &sinks, &events)?;
         let Some(are_known) = checked else {
             return Err(ScenarioFault::Duplicate);
         };
         if self.fails_somewhere(ScenarioFault::Supplies, ports) {
             return Err(ScenarioFault::Supplies);
         }
-        let Ok(settings) = all_settings(alloc, &self.ports) else {
-            return Err(ScenarioFault::Memory);
-        };
+        let settings = all_settings(alloc, &self.ports)?;
         let budget_mw = self.top_number(Key::Budget);
         let end_us = self.top_number(Key::End);
-        let least_mw = least_budget(&events, budget_mw);
-        if exceed(&settings, least_mw) {
+        let least_mw = least_budget(u64::from(budget_mw), &events);
+        if !are_funded(&settings, least_mw) {
             return Err(ScenarioFault::Floors);
         }
         if !are_known {
@@ -147,44 +134,6 @@ impl<'a> Document<'a> {
         }
         Ok(Scenario::new(settings, cables, sinks, events, budget_mw, end_us))
     }
-}
-
-/// The budget that an event changes to, in mW.
-fn budget_of(event: &ScenarioEvent) -> Option<u32>
-    ensures { result ≡ budget_of event.now }
-{
-    match &event.happening {
-        ScenarioHappening::OnPort { .. } => None,
-        ScenarioHappening::Budget { mw } => Some(*mw),
-    }
-}
-
-/// The least of a budget and its changes, in mW.
-fn least_budget(events: &[ScenarioEvent], budget_mw: u32) -> u32
-    ensures { result ≡ least_budget budget_mw events.now }
-{
-    let mut least = budget_mw;
-    for event in events {
-        if let Some(mw) = budget_of(event) {
-            least = least.min(mw);
-        }
-    }
-    least
-}
-
-/// Whether the floors add to more than a budget in mW.
-fn exceed(settings: &[Settings], budget_mw: u32) -> bool
-    ensures { result ≡ nat_lt budget_mw (sum_by (λ s. s.floor_mw) settings.now) }
-{
-    let mut left = budget_mw;
-    for port in settings {
-        let floor = port.floor_mw();
-        if floor > left {
-            return true;
-        }
-        left -= floor;
-    }
-    false
 }
 
 /// Whether there are other than so many ports, or more events, cables or sinks than may be.

@@ -30,9 +30,7 @@ pub fn scenario_from_text<const N: usize>(
             });
         }
     };
-    let Ok(document) = Document::new(alloc, &table) else {
-        return Err(ScenarioFault::Memory);
-    };
+    let document = Document::new(alloc, &table)?;
     document.scenario(alloc)
 }
 

@@ -1,7 +1,7 @@
 use Rattle.std.proofs.Common.{◌∙◌, sym}
-use Rattle.pd_scenario_text.proofs.Decided.{least_more}
-use Rattle.pd_scenario_text.proofs.document.least_budget.Goals as goal
-use Rattle.pd_scenario_text.proofs.document.least_budget.Goals.{in-Some, in_default}
+use Rattle.pd_scenario.proofs.Least.{least_more}
+use Rattle.pd_scenario.proofs.floors.least_budget.Goals as goal
+use Rattle.pd_scenario.proofs.floors.least_budget.Goals.{in-Some, in_default}
 
 pub loop-event-preserved : goal.loop-event-preserved
 loop-event-preserved c =

@@ -1,6 +1,0 @@
-use Rattle.std.proofs.Common.{◌≡◌, take}
-use Rattle.pd_scenario.specs.Contents.{least_budget}
-use Rattle.pd_scenario_text.proofs.document.least_budget.Given as goal
-
-abbrev pub invariant-loop-event : goal.invariant-loop-event
-invariant-loop-event l = l.least ≡ least_budget l.budget_mw (take l.event-index l.events)
