@@ -11,8 +11,8 @@ use pd_run::{Plain, Runner};
 use pd_scenario_text::scenario_from_text;
 use std::alloc::Global;
 
-/// A session of the phone's scenario.
-fn run<T: Runner<1> + Drop>(
+/// A session of the phone's scenario with a new runner.
+pub(super) fn phone_session<T: Runner<1> + Drop>(
     alloc: Global,
     reader: &mut Script,
     page: &mut Page,
@@ -36,7 +36,7 @@ fn run<T: Runner<1> + Drop>(
 fn ends_at_read<T: Runner<1> + Drop>(alloc: Global, most: usize, fails_at: u32) -> bool {
     let mut reader = Script::new(REFUSED, most, fails_at);
     let mut page = Page::new(600, 0, false);
-    let answer = run::<T>(alloc, &mut reader, &mut page);
+    let answer = phone_session::<T>(alloc, &mut reader, &mut page);
     answer == Err(BenchFault::ReadFailed) && REFUSED_ANSWER.starts_with(page.text())
 }
 
@@ -49,7 +49,7 @@ fn ends_at_write<T: Runner<1> + Drop>(
     takes_none: bool,
 ) -> bool {
     let mut page = Page::new(most, fails_at, takes_none);
-    let answer = run::<T>(alloc, &mut Script::new(REFUSED, 600, 0), &mut page);
+    let answer = phone_session::<T>(alloc, &mut Script::new(REFUSED, 600, 0), &mut page);
     answer == Err(BenchFault::WriteFailed) && REFUSED_ANSWER.starts_with(page.text())
 }
 
@@ -57,7 +57,7 @@ fn ends_at_write<T: Runner<1> + Drop>(
 fn goes_on<T: Runner<1> + Drop>(alloc: Global, most: usize, read: u32, write: u32) -> bool {
     let mut reader = Script::new(REFUSED, most, read);
     let mut page = Page::new(most, write, false);
-    let answer = run::<T>(alloc, &mut reader, &mut page);
+    let answer = phone_session::<T>(alloc, &mut reader, &mut page);
     answer.is_ok() && page.text() == REFUSED_ANSWER
 }
 

@@ -1,13 +1,11 @@
 //! Sessions in which some growth is refused.
 
-use super::shows::PHONE;
+use super::failures::phone_session;
 use super::*;
-use pd_bench::{Tally, session};
+use pd_bench::Tally;
 use pd_keep::Kept;
-use pd_port::Meter;
 use pd_report::BenchFault;
 use pd_run::{Plain, Runner};
-use pd_scenario_text::scenario_from_text;
 use std::alloc::Global;
 
 const LOSS: &[u8] = b"show transcript 1
@@ -49,18 +47,7 @@ const SHOWN_WITH_LOSS: &[u8] = b"= transcript 1
 
 /// A session over an edit between two shows.
 fn run<T: Runner<1> + Drop>(alloc: Global, page: &mut Page) -> Result<Tally, BenchFault> {
-    let Ok(scenario) = scenario_from_text::<1>(alloc, PHONE) else {
-        return Err(BenchFault::Memory);
-    };
-    let mut runner = T::empty(alloc);
-    session(
-        alloc,
-        scenario,
-        &mut runner,
-        &mut Script::new(LOSS, 600, 0),
-        page,
-        &mut Meter::new(),
-    )
+    phone_session::<T>(alloc, &mut Script::new(LOSS, 600, 0), page)
 }
 
 /// Whether a text is made of these parts.

@@ -11,6 +11,7 @@ pub mod Scripts
 pub mod Sheds
 pub mod Sound
 pub mod Steps
+pub mod Passing
 pub mod Within
 pub mod Work
 pub mod Timetables
