@@ -1,4 +1,5 @@
 pub mod PendingLemmas
 pub mod Refusals
 pub mod SessionLemmas
+pub mod TakenOut
 pub mod Traces

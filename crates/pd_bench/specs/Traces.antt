@@ -1,6 +1,6 @@
 -- A refused line leaves no trace in a session.
-use Rattle.std.specs.Prelude.{◌≡◌, ℕ, ◌+◌, zero, suc, List, [], ◌∷◌, ◌++◌, length, slice_get, Some}
-use Rattle.std.specs.Str.Lines.{lines}
+use Rattle.std.specs.Prelude.{◌≡◌, ◌==◌, ℕ, ◌+◌, ◌<◌, zero, suc, false, List, [], ◌∷◌, ◌++◌, length, map, All, slice_get, Some}
+use Rattle.std.specs.Str.Lines.{lines, strip_carriage_return}
 use Rattle.pd_scenario.specs.Contents.{Contents}
 use Rattle.pd_edit_lines.specs.Grammar.{line_of}
 use Rattle.pd_bench.specs.declared.tally.Tally.{Tally}
@@ -13,6 +13,21 @@ use Rattle.pd_bench.specs.Laws.{RefusedAs}
 pub record IsWithoutLine (bytes others : List ℕ) (before : List (List ℕ)) (line : List ℕ) (after : List (List ℕ)) : Type 0 where
   pub with_line : lines bytes ≡ before ++ line ∷ after
   pub without_line : lines others ≡ before ++ after
+
+-- these lines, each with the line feed that ends it
+abbrev pub ended : List (List ℕ) → List ℕ
+ended [] = []
+ended (line ∷ more) = line ++ 10 ∷ ended more
+
+abbrev pub HasNoLineFeed : List ℕ → Type 0
+HasNoLineFeed line = All (λ b. (b == 10) ≡ false) line
+
+-- Each line can be taken out, with the line feed that ends it; and so can a last one that none ends.
+pub record LinesCanBeTakenOut : Type 0 where
+  pub ended_line : (front : List (List ℕ)) (line rest : List ℕ) → All HasNoLineFeed front → HasNoLineFeed line
+      → IsWithoutLine (ended front ++ (line ++ 10 ∷ rest)) (ended front ++ rest) (map strip_carriage_return front) (strip_carriage_return line) (lines rest)
+  pub last_line : (front : List (List ℕ)) (line : List ℕ) → All HasNoLineFeed front → HasNoLineFeed line → 0 < length line
+      → IsWithoutLine (ended front ++ line) (ended front) (map strip_carriage_return front) line []
 
 -- the scenario as edited by the first so many of these lines
 abbrev pub edited_by : (n : ℕ) (s : Contents) (ls : List (List ℕ)) (text : List ℕ) (outcomes : List Outcome) → Replies n s ls text outcomes → ℕ → Contents

@@ -1,7 +1,7 @@
 //! What is proved of the definitions alone.
 
 ghost use Rattle.pd_bench.specs.Laws.{RefusedChangesNothing, RefusalsAreShown};
-ghost use Rattle.pd_bench.specs.Traces.{RefusalsLeaveNoTrace, RefusedLeavesNoTrace};
+ghost use Rattle.pd_bench.specs.Traces.{LinesCanBeTakenOut, RefusalsLeaveNoTrace, RefusedLeavesNoTrace};
 
 /// A refused line changes nothing but its own reply and the count.
 pub fn refused_changes_nothing()
@@ -22,4 +22,9 @@ pub fn refused_leaves_no_trace()
 /// wherever it stands, and leaves no trace.
 pub fn refusals_leave_no_trace()
     ensures { RefusalsLeaveNoTrace }
+{}
+
+/// The bytes of a script without one of its lines have the other lines: so those two laws speak of each line of each script.
+pub fn lines_can_be_taken_out()
+    ensures { LinesCanBeTakenOut }
 {}
