@@ -6,6 +6,7 @@ use crate::record::{Disturbance, Line, Record, Waiting};
 use arrayvec::ArrayVec;
 use pd_header::Side;
 use pd_objects::Supply;
+use pd_packet::{Fate, Packet};
 use pd_plug::Plug;
 use pd_protocol::Layer;
 use pd_sink::Sink;
@@ -38,69 +39,105 @@ impl Waiting {
 }
 
 impl Line {
+    ghost use Rattle.pd_line.specs.declared.record.Line.TheVariants as lines;
+
     /// Whether both are the same.
     fn same(&self, other: &Line) -> bool
         ensures { IsTrue result ↔ (self.now ≡ other.now) }
     {
-        match (self, other) {
-            (Line::Idle, Line::Idle) => true,
-            (
-                Line::Message {
-                    side: a,
-                    packet: p,
-                    fate: f,
-                    end: t,
-                },
-                Line::Message {
-                    side: b,
-                    packet: q,
-                    fate: g,
-                    end: u,
-                },
-            ) => a == b && p == q && f.same(g) && t == u,
-            (
-                Line::Pause {
-                    side: a,
-                    packet: p,
-                    end: t,
-                },
-                Line::Pause {
-                    side: b,
-                    packet: q,
-                    end: u,
-                },
-            ) => a == b && p == q && t == u,
-            (
-                Line::GoodCrc {
-                    side: a,
-                    packet: p,
-                    answer: c,
-                    fate: f,
-                    end: t,
-                },
-                Line::GoodCrc {
-                    side: b,
-                    packet: q,
-                    answer: d,
-                    fate: g,
-                    end: u,
-                },
-            ) => a == b && p == q && c == d && f.same(g) && t == u,
-            (
-                Line::NoAnswer {
-                    side: a,
-                    packet: p,
-                    end: t,
-                },
-                Line::NoAnswer {
-                    side: b,
-                    packet: q,
-                    end: u,
-                },
-            ) => a == b && p == q && t == u,
-            (Line::HardReset { side: a, end: t }, Line::HardReset { side: b, end: u }) => {
-                a == b && t == u
+        match self {
+            Line::Idle => matches!(other, Line::Idle),
+            Line::Message {
+                side,
+                packet,
+                fate,
+                end,
+            } => other.is_message(*side, packet, fate, *end),
+            Line::Pause { side, packet, end } => other.is_pause(*side, packet, *end),
+            Line::GoodCrc {
+                side,
+                packet,
+                answer,
+                fate,
+                end,
+            } => other.is_good_crc(*side, packet, answer, fate, *end),
+            Line::NoAnswer { side, packet, end } => other.is_no_answer(*side, packet, *end),
+            Line::HardReset { side, end } => other.is_hard_reset(*side, *end),
+        }
+    }
+
+    /// Whether it is this message, which is sent.
+    fn is_message(&self, from: Side, sent: &Packet, its: &Fate, until: u64) -> bool
+        ensures { IsTrue result ↔ (lines.Message from sent.now its.now until ≡ self.now) }
+    {
+        match self {
+            Line::Message {
+                side,
+                packet,
+                fate,
+                end,
+            } => *side == from && packet == sent && fate.same(its) && *end == until,
+            _ => false,
+        }
+    }
+
+    /// Whether it is the pause after this message.
+    fn is_pause(&self, from: Side, sent: &Packet, until: u64) -> bool
+        ensures { IsTrue result ↔ (lines.Pause from sent.now until ≡ self.now) }
+    {
+        match self {
+            Line::Pause { side, packet, end } => *side == from && packet == sent && *end == until,
+            _ => false,
+        }
+    }
+
+    /// Whether it is this GoodCRC for this message.
+    fn is_good_crc(
+        &self,
+        from: Side,
+        sent: &Packet,
+        good_crc: &Packet,
+        its: &Fate,
+        until: u64,
+    ) -> bool
+        ensures { IsTrue result ↔ (lines.GoodCrc from sent.now good_crc.now its.now until ≡ self.now) }
+    {
+        match self {
+            Line::GoodCrc {
+                side,
+                packet,
+                answer,
+                fate,
+                end,
+            } => {
+                *side == from
+                    && packet == sent
+                    && answer == good_crc
+                    && fate.same(its)
+                    && *end == until
             }
+            _ => false,
+        }
+    }
+
+    /// Whether no GoodCRC comes for this message.
+    fn is_no_answer(&self, from: Side, sent: &Packet, until: u64) -> bool
+        ensures { IsTrue result ↔ (lines.NoAnswer from sent.now until ≡ self.now) }
+    {
+        match self {
+            Line::NoAnswer { side, packet, end } => *side == from
+                && packet == sent
+                && *end == until,
+            _ => false,
+        }
+    }
+
+    /// Whether it is this side's Hard Reset.
+    fn is_hard_reset(&self, from: Side, until: u64) -> bool
+        ensures { IsTrue result ↔ (lines.HardReset from until ≡ self.now) }
+    {
+        match self {
+            Line::HardReset { side, end } => *side == from && *end == until,
             _ => false,
         }
     }
