@@ -2,8 +2,8 @@
 use Rattle.std.proofs.Common.{◌≡◌, ℕ, ◌≤◌, true, List, length, map}
 use Rattle.std.specs.Prelude.{All}
 use Rattle.std.specs.List.{list_all}
-use Rattle.pd_sink.specs.Settings.{IsSink}
-use Rattle.pd_plan.specs.Settings.{SettingsData, IsSettings}
+use Rattle.pd_setup.specs.Sinks.{IsSink}
+use Rattle.pd_setup.specs.Settings.{SettingsData, IsSettings}
 use Rattle.pd_scenario.specs.declared.limits.Quantity.TheVariants as quantity
 use Rattle.pd_scenario.specs.declared.contents.NamedCable.{NamedCable}
 use Rattle.pd_scenario.specs.declared.contents.NamedSink.{NamedSink}

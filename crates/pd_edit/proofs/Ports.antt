@@ -1,7 +1,7 @@
 -- The settings with those of one port changed.
 use Rattle.std.proofs.Common.{◌≡◌, ℕ, suc, ◌<◌, ◌+◌, ◌==◌, cond, List, [], ◌∷◌, ◌++◌, length, take, get_or, ap, sym, ◌∙◌, arith, length-take}
 use Rattle.std.proofs.lemmas.List.{take_more}
-use Rattle.pd_plan.specs.Settings.{SettingsData}
+use Rattle.pd_setup.specs.Settings.{SettingsData}
 use Rattle.pd_edit.specs.Edits.{changed_from, changed_port}
 
 moved_on : (a n : ℕ) → (a + 1) + n ≡ a + suc n

@@ -8,7 +8,7 @@ use Rattle.std.proofs.lemmas.List.Elements.{All-nil, All-cons, All-head, All-tai
 use Rattle.std.proofs.lemmas.List.Sums.{sum_by-cons}
 use Rattle.arrayvec.specs.ArrayVec.{ArrayVec}
 use Rattle.pd_objects.specs.Supply.{SupplyData}
-use Rattle.pd_plan.specs.Settings.{SettingsData, IsSettings, AreRising}
+use Rattle.pd_setup.specs.Settings.{SettingsData, IsSettings, AreRising}
 use Rattle.pd_scenario.specs.declared.limits.Quantity.TheVariants as quantity
 use Rattle.pd_scenario.specs.Limits.{allows}
 use Rattle.pd_scenario.specs.Contents.{Contents, IsValid, floors_mw}

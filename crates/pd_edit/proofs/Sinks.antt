@@ -7,9 +7,9 @@ use Rattle.std.proofs.lemmas.Bool.Decides.{nat_tests}
 use Rattle.std.proofs.lemmas.List.{length-map, length-append}
 use Rattle.std.proofs.lemmas.List.Folds.{list_all-map}
 use Rattle.std.proofs.lemmas.List.Elements.{All-nil, All-cons, All-head, All-tail, All-append, All-filter}
-use Rattle.pd_sink.specs.Settings.{IsSink}
-use Rattle.pd_sink.specs.declared.settings.SinkMode.{SinkMode}
-use Rattle.pd_sink.specs.declared.settings.SinkRevision.{SinkRevision}
+use Rattle.pd_setup.specs.Sinks.{IsSink}
+use Rattle.pd_setup.specs.declared.sink.SinkMode.{SinkMode}
+use Rattle.pd_setup.specs.declared.sink.SinkRevision.{SinkRevision}
 use Rattle.pd_scenario.specs.declared.contents.NamedCable.{NamedCable}
 use Rattle.pd_scenario.specs.declared.contents.NamedSink.{NamedSink}
 use Rattle.pd_scenario.specs.declared.contents.ScenarioEvent.{ScenarioEvent}

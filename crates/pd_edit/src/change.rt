@@ -8,8 +8,8 @@ use crate::made::{changed_event, with_floor_at, with_supplies_at};
 use arrayvec::ArrayVec;
 use pd_edit_lines::EditKind;
 use pd_objects::Supply;
-use pd_plan::Settings;
 use pd_scenario::{Name, NamedCable, NamedSink, ScenarioEvent};
+use pd_setup::Settings;
 use std::alloc::{AllocError, Global};
 
 /// The events and one more.

@@ -16,7 +16,7 @@ use arrayvec::ArrayVec;
 use pd_edit_lines::{Edit, EditFault, EditHappening, EditKind, WrittenSupply};
 use pd_identity::CablePlug;
 use pd_scenario::{Name, NamedCable, NamedSink, Scenario};
-use pd_sink::{SinkMode, SinkRevision};
+use pd_setup::{SinkMode, SinkRevision};
 use std::alloc::{AllocError, Global};
 
 fn insert<const N: usize>(

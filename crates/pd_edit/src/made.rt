@@ -2,7 +2,7 @@
 
 ghost use Rattle.std.specs.Prelude.{◌≡◌, ◌==◌, ◌≤◌, true, map, is_some, if◌then◌else◌};
 ghost use Rattle.std.specs.List.{list_all};
-ghost use Rattle.pd_sink.specs.Settings.{IsSink};
+ghost use Rattle.pd_setup.specs.Sinks.{IsSink};
 ghost use Rattle.pd_scenario.specs.Limits.{allows};
 ghost use Rattle.pd_scenario.specs.declared.limits.Quantity.TheVariants as quantity;
 ghost use Rattle.pd_scenario.specs.Words.{rating_of};
@@ -14,11 +14,10 @@ use pd_edit_lines::{EditHappening, EditKind, WrittenSupply};
 use pd_identity::{Cable, CablePlug};
 use pd_objects::Supply;
 use pd_packet::Damage;
-use pd_plan::Settings;
 use pd_scenario::{
     Name, NamedCable, NamedSink, ScenarioEvent, ScenarioEventKind, ScenarioHappening, rating_of,
 };
-use pd_sink::{Demand, SinkMode, SinkRevision, SinkSettings};
+use pd_setup::{Demand, Settings, SinkMode, SinkRevision, SinkSettings};
 
 fn event_kind_of(kind: &EditKind) -> ScenarioEventKind
     requires { kind_in_range kind.now ≡ true }

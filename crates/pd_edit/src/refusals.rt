@@ -8,11 +8,11 @@ ghost use Rattle.pd_edit.specs.Edits.{changed_from, with_floor, has_cable, has_s
 ghost use Rattle.pd_edit.specs.Refusals.{id_is_free, id_is_known, happens_on_port, is_on_port, port_is_known, kind_is_known, happening_is_known, name_is_known, names_cable, names_sink, is_unused, kind_in_range, happening_in_range, supply_in_range, in_range, begin_at, follows, voltages_rise, are_supplies, supplies_rise, stays_funded, has_room, refuses, refusals};
 
 use pd_edit_lines::{Edit, EditFault, EditHappening, EditKind, WrittenSupply};
-use pd_plan::Settings;
 use pd_scenario::{
     FIRST_MV, MOST_EVENTS, MOST_NAMES, Name, Quantity, Scenario, ScenarioEvent, ScenarioEventKind,
     ScenarioHappening, are_funded, least_budget, rating_of,
 };
+use pd_setup::Settings;
 
 /// What an edit may be refused for, the least number first.
 const REFUSALS: [EditFault; 9] = [

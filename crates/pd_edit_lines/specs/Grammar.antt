@@ -9,8 +9,8 @@
 use Rattle.std.specs.Prelude.{ℕ, Bool, false, ◌&&◌, ◌==◌, ◌||◌, nat_lt, nat_le, List, [], ◌∷◌, ◌++◌, length, codes, Option, Some, None, option_map, ok_or, Result, Ok, Err, bytes_eq, if◌then◌else◌}
 use Rattle.std.specs.List.{list_all}
 use Rattle.arrayvec.specs.ArrayVec.{ArrayVec}
-use Rattle.pd_sink.specs.declared.settings.SinkRevision.{SinkRevision}
-use Rattle.pd_sink.specs.declared.settings.SinkRevision.TheVariants.{Revision3}
+use Rattle.pd_setup.specs.declared.sink.SinkRevision.{SinkRevision}
+use Rattle.pd_setup.specs.declared.sink.SinkRevision.TheVariants.{Revision3}
 use Rattle.pd_scenario.specs.Words.{plug_of, mode_of}
 use Rattle.pd_edit_lines.specs.Keywords.{command_word, kind_word, show_word, revision_word}
 use Rattle.pd_edit_lines.specs.Words.{words, number, name, ◌>>=◌}

@@ -1,8 +1,8 @@
 -- The words that a command, a kind of event, what is shown and a revision are written by:
 -- docs/FORMATS.md, "Edit script".
 use Rattle.std.specs.Prelude.{ℕ, List, codes, Option, Some, None, bytes_eq, if◌then◌else◌}
-use Rattle.pd_sink.specs.declared.settings.SinkRevision.{SinkRevision}
-use Rattle.pd_sink.specs.declared.settings.SinkRevision.TheVariants.{Revision2, Revision3}
+use Rattle.pd_setup.specs.declared.sink.SinkRevision.{SinkRevision}
+use Rattle.pd_setup.specs.declared.sink.SinkRevision.TheVariants.{Revision2, Revision3}
 use Rattle.pd_edit_lines.specs.declared.keywords.Command.{Command}
 use Rattle.pd_edit_lines.specs.declared.keywords.Command.TheVariants as command
 use Rattle.pd_edit_lines.specs.declared.keywords.KindWord.{KindWord}

@@ -3,7 +3,7 @@
 use arrayvec::ArrayVec;
 use pd_identity::CablePlug;
 use pd_scenario::Name;
-use pd_sink::{SinkMode, SinkRevision};
+use pd_setup::{SinkMode, SinkRevision};
 
 /// What an event is to do to its port.
 #[derive(Drop)]

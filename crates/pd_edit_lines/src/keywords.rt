@@ -3,7 +3,7 @@
 ghost use Rattle.std.specs.Prelude.{◌≡◌};
 ghost use Rattle.pd_edit_lines.specs.Keywords.{command_word, kind_word, show_word, revision_word};
 
-use pd_sink::SinkRevision;
+use pd_setup::SinkRevision;
 
 /// The word that a command begins with.
 #[derive(Clone, Copy)]

@@ -10,7 +10,7 @@ use crate::words::{end_of, name_at, next, number, number_at};
 use crate::{Edit, WrittenSupply};
 use arrayvec::ArrayVec;
 use pd_scenario::{Name, mode_of, plug_of};
-use pd_sink::SinkRevision;
+use pd_setup::SinkRevision;
 
 fn cable_from(name: Name, plug: &[u8], line: &[u8]) -> Option<Edit>
     ensures { result ≡ cable_from name plug.now (words line.now) }

@@ -3,7 +3,7 @@ use Rattle.std.proofs.Common.{◌≡◌, ℕ, ◌+◌, ◌-◌, ◌<◌, ◌≤�
 use Rattle.std.proofs.lemmas.List.{get_or_default, length-map}
 use Rattle.std.proofs.Math.ListN as list_map
 use Rattle.pd_objects.specs.declared.query.Answer.{Answer}
-use Rattle.pd_plan.specs.Settings.{SettingsData}
+use Rattle.pd_setup.specs.Settings.{SettingsData}
 use Rattle.pd_port.specs.declared.due.Due.{Due}
 use Rattle.pd_port.specs.Meter.{raised}
 use Rattle.pd_port.specs.Port.{PortData, PortRecord}

@@ -22,7 +22,7 @@ use Rattle.pd_source.specs.declared.kinds.Act.TheVariants as source_act_is
 use Rattle.pd_source.specs.declared.kinds.Sent.{Sent}
 use Rattle.pd_source.specs.declared.kinds.Sent.TheVariants as sent
 use Rattle.pd_source.specs.declared.kinds.Stimulus.TheVariants as source_told
-use Rattle.pd_sink.specs.Settings.{SinkData}
+use Rattle.pd_setup.specs.Sinks.{SinkData}
 use Rattle.pd_sink.specs.Step as sink
 use Rattle.pd_sink.specs.declared.kinds.Act.{Act as SinkAct}
 use Rattle.pd_sink.specs.declared.kinds.Act.TheVariants as sink_act_is

@@ -18,7 +18,7 @@ use Rattle.pd_source.specs.declared.kinds.Act.{Act as SourceAct}
 use Rattle.pd_source.specs.declared.kinds.Stimulus.{Stimulus as SourceStimulus}
 use Rattle.pd_source.specs.declared.kinds.Stimulus.TheVariants as source_told
 use Rattle.pd_source.specs.declared.kinds.Sent.{Sent}
-use Rattle.pd_sink.specs.Settings.{SinkData}
+use Rattle.pd_setup.specs.Sinks.{SinkData}
 use Rattle.pd_sink.specs.Step as sink
 use Rattle.pd_sink.specs.declared.kinds.Act.TheVariants as sink_act_is
 use Rattle.pd_sink.specs.declared.kinds.Act.{Act as SinkAct}

@@ -9,7 +9,7 @@ use Rattle.pd_source.proofs.Accepting.{accepting-keeps}
 use Rattle.pd_source.proofs.Commits.{still, switched_off, commits-stepped}
 use Rattle.pd_source.proofs.Agreed.{contract-stepped, accepted-stepped, delivered-stepped}
 use Rattle.pd_line.specs.Record.{PortRecord}
-use Rattle.pd_plan.specs.Settings.{SettingsData}
+use Rattle.pd_setup.specs.Settings.{SettingsData}
 use Rattle.pd_port.specs.declared.due.Due.{Due}
 use Rattle.pd_port.specs.Happens.{is_budget, is_detach}
 use Rattle.pd_port.specs.Laws.{source_after_told}

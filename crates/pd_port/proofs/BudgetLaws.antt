@@ -12,8 +12,8 @@ use Rattle.pd_source.specs.Step.{hold_of}
 use Rattle.pd_source.specs.declared.kinds.Stimulus.{Stimulus}
 use Rattle.pd_source.proofs.Rests.{empty-off, empty-stepped, hold_of-shed}
 use Rattle.pd_line.specs.Record.{PortRecord, nothing_attached}
-use Rattle.pd_plan.specs.Events.{EventData}
-use Rattle.pd_plan.specs.Settings.{SettingsData, floor_of}
+use Rattle.pd_setup.specs.Events.{EventData}
+use Rattle.pd_setup.specs.Settings.{SettingsData, floor_of}
 use Rattle.pd_port.specs.declared.due.Due.{Due}
 use Rattle.pd_port.specs.declared.due.What.{What}
 use Rattle.pd_port.specs.declared.due.What.TheVariants as what

@@ -5,7 +5,7 @@ use Rattle.pd_objects.specs.declared.contract.Contract.{Contract}
 use Rattle.pd_objects.specs.declared.query.Answer.{Answer}
 use Rattle.pd_source.specs.Step.{contracted}
 use Rattle.pd_line.specs.Record.{PortRecord, nothing_attached}
-use Rattle.pd_plan.specs.Settings.{SettingsData}
+use Rattle.pd_setup.specs.Settings.{SettingsData}
 use Rattle.pd_port.specs.declared.due.Due.{Due}
 use Rattle.pd_port.specs.declared.entry.ContractChange.TheVariants.{Made}
 use Rattle.pd_port.specs.Budget.{contract_power, ContractsAreTold}

@@ -3,7 +3,7 @@ use Rattle.std.proofs.Common.{◌≡◌, ◌⊎◌, ℕ, ◌≤◌, Bool, true, 
 use Rattle.std.proofs.lemmas.Bool.Decides.{nat_tests}
 use Rattle.pd_line.specs.Record.{PortRecord}
 use Rattle.pd_port.specs.declared.due.Due.{Due}
-use Rattle.pd_plan.specs.Events.{EventData}
+use Rattle.pd_setup.specs.Events.{EventData}
 use Rattle.pd_port.specs.Laws.{IsOneOf, IsEarliest}
 use Rattle.pd_port.specs.Port.{rank, is_before, earlier, earliest, dues, due}
 

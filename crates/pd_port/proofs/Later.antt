@@ -10,11 +10,11 @@ use Rattle.pd_source.specs.Step as source
 use Rattle.pd_source.specs.declared.kinds.Stimulus.TheVariants as source_told
 use Rattle.pd_sink.specs.Step as sink
 use Rattle.pd_sink.specs.declared.kinds.Stimulus.TheVariants as sink_told
-use Rattle.pd_plan.specs.declared.event.EventKind.{EventKind}
-use Rattle.pd_plan.specs.declared.event.EventKind.TheVariants.{Attach, Detach, Demand, Lose, Damage, GetSource, GetSink}
-use Rattle.pd_plan.specs.declared.event.Happening.{Happening}
-use Rattle.pd_plan.specs.declared.event.Happening.TheVariants.{Port, Budget}
-use Rattle.pd_plan.specs.Settings.{SettingsData}
+use Rattle.pd_setup.specs.declared.event.EventKind.{EventKind}
+use Rattle.pd_setup.specs.declared.event.EventKind.TheVariants.{Attach, Detach, Demand, Lose, Damage, GetSource, GetSink}
+use Rattle.pd_setup.specs.declared.event.Happening.{Happening}
+use Rattle.pd_setup.specs.declared.event.Happening.TheVariants.{Port, Budget}
+use Rattle.pd_setup.specs.Settings.{SettingsData}
 use Rattle.pd_line.specs.declared.notes.Fault.TheVariants.{Ignored}
 use Rattle.pd_line.specs.declared.record.Disturbance.{Disturbance}
 use Rattle.pd_line.specs.declared.record.Disturbance.TheVariants.{Lost, Damaged}

@@ -24,8 +24,8 @@ use Rattle.pd_line.specs.Later.{Times, times_of, Later, line_end}
 use Rattle.pd_port.specs.declared.due.Due.{Due}
 use Rattle.pd_port.specs.declared.due.What.{What}
 use Rattle.pd_port.specs.declared.due.What.TheVariants as what
-use Rattle.pd_plan.specs.Events.{EventData}
-use Rattle.pd_plan.specs.Settings.{SettingsData, floor_of}
+use Rattle.pd_setup.specs.Events.{EventData}
+use Rattle.pd_setup.specs.Settings.{SettingsData, floor_of}
 use Rattle.pd_port.specs.Budget.{contract_power}
 use Rattle.pd_port.specs.Laws.{NotBefore, pending_at, pending, without, IsOneOf, IsEarliest, source_after_told}
 use Rattle.pd_port.specs.Happens.{is_budget, is_detach}

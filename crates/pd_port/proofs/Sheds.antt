@@ -26,12 +26,12 @@ use Rattle.pd_line.specs.Told.{source_hears_as}
 use Rattle.pd_line.specs.declared.record.Record.{Record}
 use Rattle.pd_line.specs.declared.record.Line.{Line}
 use Rattle.pd_line.specs.declared.record.Line.TheVariants.{GoodCrc, NoAnswer, HardReset}
-use Rattle.pd_plan.specs.declared.event.EventKind.{EventKind}
-use Rattle.pd_plan.specs.declared.event.EventKind.TheVariants.{Attach, GetSink}
-use Rattle.pd_plan.specs.declared.event.Happening.{Happening}
-use Rattle.pd_plan.specs.declared.event.Happening.TheVariants.{Port, Budget}
-use Rattle.pd_plan.specs.Events.{EventData}
-use Rattle.pd_plan.specs.Settings.{SettingsData, floor_of}
+use Rattle.pd_setup.specs.declared.event.EventKind.{EventKind}
+use Rattle.pd_setup.specs.declared.event.EventKind.TheVariants.{Attach, GetSink}
+use Rattle.pd_setup.specs.declared.event.Happening.{Happening}
+use Rattle.pd_setup.specs.declared.event.Happening.TheVariants.{Port, Budget}
+use Rattle.pd_setup.specs.Events.{EventData}
+use Rattle.pd_setup.specs.Settings.{SettingsData, floor_of}
 use Rattle.pd_port.specs.declared.due.Due.{Due}
 use Rattle.pd_port.specs.declared.due.What.{What}
 use Rattle.pd_port.specs.declared.due.What.TheVariants as what

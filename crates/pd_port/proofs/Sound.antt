@@ -17,7 +17,7 @@ use Rattle.pd_source.specs.Step.{before_row, row_at, deeds_at, query_of, offer_q
 use Rattle.pd_source.specs.Sound.{IsSound, IsAnswer}
 use Rattle.pd_source.proofs.SoundSteps.{sound-off, sound-stepped}
 use Rattle.pd_line.specs.Record.{PortRecord, nothing_attached}
-use Rattle.pd_plan.specs.Settings.{SettingsData}
+use Rattle.pd_setup.specs.Settings.{SettingsData}
 use Rattle.pd_port.specs.declared.due.Due.{Due}
 use Rattle.pd_port.specs.Happens.{is_budget, is_detach}
 use Rattle.pd_port.specs.Laws.{source_after_told}

@@ -14,7 +14,7 @@ use Rattle.pd_line.specs.Lines.{line_starts}
 use Rattle.pd_port.specs.declared.due.Due.{Due}
 use Rattle.pd_port.specs.declared.entry.ContractChange.{ContractChange}
 use Rattle.pd_port.specs.declared.entry.Entry.{Entry}
-use Rattle.pd_plan.specs.Settings.{SettingsData}
+use Rattle.pd_setup.specs.Settings.{SettingsData}
 use Rattle.pd_port.proofs.Later.{portstep-settings}
 use Rattle.pd_port.specs.Changes.{contract_change}
 use Rattle.pd_port.specs.Port.{PortData, earlier, begun, happens, portstep, whole, source_settings, ask, record_after, entry_of}

@@ -22,14 +22,14 @@ use Rattle.pd_source.specs.Step as source
 use Rattle.pd_source.specs.declared.kinds.Sent.TheVariants as sent
 use Rattle.pd_source.specs.declared.kinds.Stimulus.{Stimulus}
 use Rattle.pd_source.specs.declared.kinds.Stimulus.TheVariants as told
-use Rattle.pd_sink.specs.Settings.{SinkData}
+use Rattle.pd_setup.specs.Sinks.{SinkData}
 use Rattle.pd_sink.specs.Step as sink
 use Rattle.pd_sink.specs.declared.kinds.Stimulus.TheVariants as sink_told
-use Rattle.pd_plan.specs.declared.event.EventKind.{EventKind}
-use Rattle.pd_plan.specs.declared.event.EventKind.TheVariants.{Attach, Detach, Demand, Lose, Damage, GetSource, GetSink}
-use Rattle.pd_plan.specs.declared.event.Happening.{Happening}
-use Rattle.pd_plan.specs.declared.event.Happening.TheVariants.{Port, Budget}
-use Rattle.pd_plan.specs.Settings.{SettingsData}
+use Rattle.pd_setup.specs.declared.event.EventKind.{EventKind}
+use Rattle.pd_setup.specs.declared.event.EventKind.TheVariants.{Attach, Detach, Demand, Lose, Damage, GetSource, GetSink}
+use Rattle.pd_setup.specs.declared.event.Happening.{Happening}
+use Rattle.pd_setup.specs.declared.event.Happening.TheVariants.{Port, Budget}
+use Rattle.pd_setup.specs.Settings.{SettingsData}
 use Rattle.pd_line.specs.declared.notes.Fault.TheVariants.{NoGoodCrc, Ignored}
 use Rattle.pd_line.specs.declared.record.Disturbance.{Disturbance}
 use Rattle.pd_line.specs.declared.record.Disturbance.TheVariants.{Lost, Damaged}

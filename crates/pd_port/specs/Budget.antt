@@ -5,8 +5,8 @@ use Rattle.pd_objects.specs.declared.query.Answer.{Answer}
 use Rattle.pd_objects.specs.declared.query.Answer.TheVariants as answer
 use Rattle.pd_source.specs.Rest.{IsEmptyAtRest}
 use Rattle.pd_source.specs.Step.{contracted}
-use Rattle.pd_plan.specs.Events.{EventData}
-use Rattle.pd_plan.specs.Settings.{SettingsData, floor_of}
+use Rattle.pd_setup.specs.Events.{EventData}
+use Rattle.pd_setup.specs.Settings.{SettingsData, floor_of}
 use Rattle.pd_port.specs.declared.due.Due.{Due}
 use Rattle.pd_port.specs.declared.due.What.TheVariants as what
 use Rattle.pd_port.specs.Happens.{is_budget}

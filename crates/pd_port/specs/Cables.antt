@@ -6,7 +6,7 @@ use Rattle.pd_objects.specs.declared.query.Answer.{Answer}
 use Rattle.pd_source.specs.declared.kinds.State.TheVariants as state
 use Rattle.pd_source.specs.Record.{cable_current}
 use Rattle.pd_source.specs.Sound.{limit_in}
-use Rattle.pd_plan.specs.Settings.{SettingsData}
+use Rattle.pd_setup.specs.Settings.{SettingsData}
 use Rattle.pd_line.specs.Cables.{TellsOfCable, wire}
 use Rattle.pd_port.specs.declared.due.Due.{Due}
 use Rattle.pd_port.specs.Port.{PortRecord, detached, record_after}

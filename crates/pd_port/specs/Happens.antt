@@ -2,10 +2,10 @@
 use Rattle.std.specs.Prelude.{ℕ, nat_lt, Bool, true, false, if◌then◌else◌, is_some, [], ◌∷◌, ◌++◌, length, Option, Some, None}
 use Rattle.pd_objects.specs.declared.query.Answer.{Answer}
 use Rattle.pd_objects.specs.declared.query.Answer.TheVariants as answer
-use Rattle.pd_plan.specs.declared.event.EventKind.{EventKind}
-use Rattle.pd_plan.specs.declared.event.EventKind.TheVariants.{Attach, Detach, Demand, Lose, Damage, GetSource, GetSink}
-use Rattle.pd_plan.specs.declared.event.Happening.{Happening}
-use Rattle.pd_plan.specs.declared.event.Happening.TheVariants.{Port, Budget}
+use Rattle.pd_setup.specs.declared.event.EventKind.{EventKind}
+use Rattle.pd_setup.specs.declared.event.EventKind.TheVariants.{Attach, Detach, Demand, Lose, Damage, GetSource, GetSink}
+use Rattle.pd_setup.specs.declared.event.Happening.{Happening}
+use Rattle.pd_setup.specs.declared.event.Happening.TheVariants.{Port, Budget}
 use Rattle.pd_source.specs.Step as source
 use Rattle.pd_source.specs.declared.kinds.Stimulus.TheVariants as source_told
 use Rattle.pd_sink.specs.Step as sink

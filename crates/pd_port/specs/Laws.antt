@@ -14,8 +14,8 @@ use Rattle.pd_line.specs.Later.{Times, times_of, Later}
 use Rattle.pd_port.specs.declared.due.Due.{Due}
 use Rattle.pd_port.specs.declared.due.What.{What}
 use Rattle.pd_port.specs.declared.due.What.TheVariants as what
-use Rattle.pd_plan.specs.Events.{EventData}
-use Rattle.pd_plan.specs.Settings.{SettingsData}
+use Rattle.pd_setup.specs.Events.{EventData}
+use Rattle.pd_setup.specs.Settings.{SettingsData}
 use Rattle.pd_port.specs.Happens.{is_budget, is_detach}
 use Rattle.pd_port.specs.Told.{source_told, told_if_shed}
 use Rattle.pd_port.specs.Port.{dues, due, is_before, begun, happens, portstep, whole, detached, source_settings, ask, record_after, entry_of}

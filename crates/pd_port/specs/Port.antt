@@ -11,8 +11,8 @@ use Rattle.pd_timers.specs.Deadlines.{first_of}
 use Rattle.pd_source.specs.Record.{SourceSettings}
 use Rattle.pd_source.specs.Step as source
 use Rattle.pd_source.specs.declared.kinds.Stimulus.{Stimulus}
-use Rattle.pd_plan.specs.Events.{EventData}
-use Rattle.pd_plan.specs.Settings.{SettingsData, floor_of}
+use Rattle.pd_setup.specs.Events.{EventData}
+use Rattle.pd_setup.specs.Settings.{SettingsData, floor_of}
 use Rattle.pd_line.specs.declared.record.Record.{Record}
 use Rattle.pd_line.specs.declared.work.Work.{Work}
 pub use Rattle.pd_line.specs.Record.{PortRecord}

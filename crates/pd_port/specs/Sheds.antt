@@ -3,8 +3,8 @@ use Rattle.std.specs.Prelude.{◌≡◌, ℕ, true, false, Option, Some, None}
 use Rattle.pd_objects.specs.declared.query.Answer.{Answer}
 use Rattle.pd_objects.specs.declared.query.Answer.TheVariants as answer
 use Rattle.pd_source.specs.Silent.{IsSilentAt}
-use Rattle.pd_plan.specs.Events.{EventData}
-use Rattle.pd_plan.specs.Settings.{SettingsData, floor_of}
+use Rattle.pd_setup.specs.Events.{EventData}
+use Rattle.pd_setup.specs.Settings.{SettingsData, floor_of}
 use Rattle.pd_port.specs.declared.due.Due.{Due}
 use Rattle.pd_port.specs.Budget.{RestsEmpty}
 use Rattle.pd_port.specs.Happens.{is_budget}

@@ -8,7 +8,7 @@ use Rattle.pd_objects.specs.declared.query.Query.TheVariants as query
 use Rattle.pd_source.specs.Record.{SourceSettings, SourceRecord}
 use Rattle.pd_source.specs.Sound.{IsSound, IsAnswer, IsMade, IsTaken, IsSettled}
 use Rattle.pd_source.specs.Commits.{MakesOrNot}
-use Rattle.pd_plan.specs.Settings.{SettingsData}
+use Rattle.pd_setup.specs.Settings.{SettingsData}
 use Rattle.pd_port.specs.declared.due.Due.{Due}
 use Rattle.pd_port.specs.Port.{PortRecord, detached, source_settings, ask, record_after}
 

@@ -19,10 +19,10 @@ use Rattle.pd_source.specs.Step as source
 use Rattle.pd_source.specs.declared.kinds.Sent.TheVariants as sent
 use Rattle.pd_source.specs.declared.kinds.Stimulus.{Stimulus}
 use Rattle.pd_source.specs.declared.kinds.Stimulus.TheVariants as told
-use Rattle.pd_plan.specs.declared.event.EventKind.{EventKind}
-use Rattle.pd_plan.specs.declared.event.EventKind.TheVariants.{Attach, GetSink}
-use Rattle.pd_plan.specs.declared.event.Happening.{Happening}
-use Rattle.pd_plan.specs.declared.event.Happening.TheVariants.{Port, Budget}
+use Rattle.pd_setup.specs.declared.event.EventKind.{EventKind}
+use Rattle.pd_setup.specs.declared.event.EventKind.TheVariants.{Attach, GetSink}
+use Rattle.pd_setup.specs.declared.event.Happening.{Happening}
+use Rattle.pd_setup.specs.declared.event.Happening.TheVariants.{Port, Budget}
 use Rattle.pd_line.specs.Told.{sent_as, source_hears_as}
 use Rattle.pd_line.specs.declared.record.Record.{Record}
 use Rattle.pd_line.specs.declared.record.Line.{Line}

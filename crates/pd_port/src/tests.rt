@@ -8,7 +8,7 @@ use arrayvec::ArrayVec;
 use pd_header::{Kind, Side, header_kind};
 use pd_identity::{Cable, CablePlug, Rating};
 use pd_objects::{Answer, Contract, Query, Supply};
-use pd_sink::{SinkMode, SinkRevision, SinkSettings};
+use pd_setup::{SinkMode, SinkRevision, SinkSettings};
 
 /// What was seen of a run: the times at which messages started, GoodCRCs apart, and how many did; the times of Hard
 /// Resets; the first contract's time; the last change of the contract that was told, and when; the faults; and the

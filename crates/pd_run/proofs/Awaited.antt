@@ -7,8 +7,8 @@ use Rattle.std.proofs.lemmas.List.{length-map}
 use Rattle.std.proofs.Math.ListN as list_map
 use Rattle.std.proofs.lemmas.List.Sums.{sum_by-cons}
 use Rattle.std.proofs.lemmas.Bool.Decides.{nat_tests}
-use Rattle.pd_plan.specs.Settings.{floor_of}
-use Rattle.pd_plan.specs.Events.{EventData}
+use Rattle.pd_setup.specs.Settings.{floor_of}
+use Rattle.pd_setup.specs.Events.{EventData}
 use Rattle.pd_port.specs.Happens.{changes_budget}
 use Rattle.pd_port.specs.Port.{hold}
 use Rattle.pd_port.proofs.PortLaws.{hold_floor}

@@ -9,7 +9,7 @@ use Rattle.pd_source.specs.Record.{SourceSettings, SourceRecord}
 use Rattle.pd_source.specs.Request.{is_valid, is_at_most, position_of, contract_of}
 use Rattle.pd_source.specs.Sound.{IsSound, IsContract, IsTaken, IsSettled, is_transition}
 use Rattle.pd_source.specs.Commits.{MakesOrNot}
-use Rattle.pd_plan.specs.Settings.{SettingsData}
+use Rattle.pd_setup.specs.Settings.{SettingsData}
 use Rattle.pd_line.specs.Record.{nothing_attached}
 use Rattle.pd_port.specs.Port.{PortRecord, source_settings, detached}
 use Rattle.pd_port.specs.Sound.{Agrees}

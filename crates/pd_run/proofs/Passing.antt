@@ -8,8 +8,8 @@ use Rattle.std.proofs.lemmas.Option.{same_Some}
 use Rattle.pd_objects.specs.Answers.{IsAllowed}
 use Rattle.pd_objects.specs.declared.query.Answer.{Answer}
 use Rattle.pd_objects.specs.declared.query.Answer.TheVariants as answers
-use Rattle.pd_plan.specs.Settings.{floor_of}
-use Rattle.pd_plan.specs.Events.{EventData}
+use Rattle.pd_setup.specs.Settings.{floor_of}
+use Rattle.pd_setup.specs.Events.{EventData}
 use Rattle.pd_port.specs.declared.due.Due.{Due}
 use Rattle.pd_port.specs.declared.due.What.TheVariants as what
 use Rattle.pd_port.specs.Budget.{RestsEmpty}

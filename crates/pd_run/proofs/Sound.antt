@@ -7,7 +7,7 @@ use Rattle.pd_objects.specs.Supply.{SupplyData}
 use Rattle.pd_objects.specs.declared.query.Query.{Query}
 use Rattle.pd_objects.specs.declared.query.Query.TheVariants as query
 use Rattle.pd_source.specs.Sound.{AreOffered, IsAnswer}
-use Rattle.pd_plan.specs.Settings.{SettingsData}
+use Rattle.pd_setup.specs.Settings.{SettingsData}
 use Rattle.pd_port.specs.Port.{source_settings, ask}
 use Rattle.pd_port.specs.Sound.{IsSoundPort, IsAnswerTo}
 use Rattle.pd_port.specs.Cables.{KnowsCable}

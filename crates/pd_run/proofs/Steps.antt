@@ -7,8 +7,8 @@ use Rattle.std.proofs.lemmas.Option.{slice_get_within}
 use Rattle.std.proofs.lemmas.List.FromFn.{get_or-map-range_with_len, length-map-range_with_len}
 use Rattle.std.proofs.lemmas.Bool.{cases_eq}
 use Rattle.pd_objects.specs.declared.query.Answer.{Answer}
-use Rattle.pd_plan.specs.Settings.{floor_of}
-use Rattle.pd_plan.specs.Events.{EventData}
+use Rattle.pd_setup.specs.Settings.{floor_of}
+use Rattle.pd_setup.specs.Events.{EventData}
 use Rattle.pd_port.specs.declared.due.Due.{Due}
 use Rattle.pd_port.specs.declared.due.What.{What}
 use Rattle.pd_port.specs.declared.due.What.TheVariants as what

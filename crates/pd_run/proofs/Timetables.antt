@@ -1,7 +1,7 @@
 -- A plan that is put together again from its parts.
 use Rattle.std.proofs.Common.{◌≡◌, ℕ, List, sym, subst}
-use Rattle.pd_plan.specs.Settings.{SettingsData}
-use Rattle.pd_plan.specs.Events.{EventData}
+use Rattle.pd_setup.specs.Settings.{SettingsData}
+use Rattle.pd_setup.specs.Events.{EventData}
 use Rattle.pd_scenario.specs.declared.budget.BudgetChange.{BudgetChange}
 use Rattle.pd_scenario.specs.Plan.{Plan, IsPlan}
 

@@ -1,6 +1,6 @@
 -- What holds of runs.
 use Rattle.std.specs.Prelude.{◌≡◌, ℕ, ◌<◌, ◌≤◌, List, [], ◌∷◌, ◌++◌, All, sum, slice_index}
-use Rattle.pd_plan.specs.Settings.{floor_of}
+use Rattle.pd_setup.specs.Settings.{floor_of}
 use Rattle.pd_scenario.specs.Plan.{Plan, count, IsPlan, settings_of, force}
 use Rattle.pd_run.specs.Order.{EachAfter}
 use Rattle.pd_run.specs.Run.{Move, Run, holds_after, contract_powers}

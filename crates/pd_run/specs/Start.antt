@@ -1,5 +1,5 @@
 -- Ports at the start of a run.
-use Rattle.pd_plan.specs.Settings.{SettingsData}
+use Rattle.pd_setup.specs.Settings.{SettingsData}
 use Rattle.pd_port.specs.Port.{PortData, detached}
 use Rattle.pd_scenario.specs.Plan.{no_settings}
 

@@ -6,9 +6,9 @@ ghost use Rattle.pd_scenario.specs.Plan.{Plan, IsPlan, settings_of, script_of, f
 ghost use Rattle.pd_scenario.specs.Plans.{plan_of};
 ghost use Rattle.pd_run.specs.Start.{start_of};
 
-use pd_plan::{Event, Settings};
 use pd_port::Port;
 use pd_scenario::{BudgetChange, Scenario, last_change_by};
+use pd_setup::{Event, Settings};
 use std::alloc::{AllocError, Global};
 use std::marker::Model;
 

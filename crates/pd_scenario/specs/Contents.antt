@@ -2,8 +2,8 @@
 use Rattle.std.specs.Prelude.{◌≡◌, ℕ, ◌≤◌, Bool, true, not, ◌&&◌, ◌==◌, nat_le, List, [], ◌∷◌, length, map, find, fold, min, sum_by, Option, Some, None, option_map, is_some, bytes_eq, All}
 use Rattle.std.specs.List.{list_any, list_all, filter_map}
 use Rattle.pd_identity.specs.declared.Cable.{Cable}
-use Rattle.pd_sink.specs.Settings.{SinkData, IsSink}
-use Rattle.pd_plan.specs.Settings.{SettingsData, IsSettings}
+use Rattle.pd_setup.specs.Sinks.{SinkData, IsSink}
+use Rattle.pd_setup.specs.Settings.{SettingsData, IsSettings}
 use Rattle.pd_scenario.specs.Names.{is_name}
 use Rattle.pd_scenario.specs.Limits.{allows, is_port, most_ports, most_names, most_events}
 use Rattle.pd_scenario.specs.declared.limits.Quantity.TheVariants as quantity

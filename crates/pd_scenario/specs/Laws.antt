@@ -1,6 +1,6 @@
 -- What is proved of the definitions alone.
 use Rattle.std.specs.Prelude.{◌≡◌, ℕ, ◌+◌, ◌<◌, List}
-use Rattle.pd_plan.specs.Events.{EventData}
+use Rattle.pd_setup.specs.Events.{EventData}
 use Rattle.pd_scenario.specs.Plan.{Plan, IsPlan, script_of, force}
 use Rattle.pd_scenario.specs.Contents.{Contents, IsValid}
 use Rattle.pd_scenario.specs.Plans.{plan_of, IsScript, IsForce}

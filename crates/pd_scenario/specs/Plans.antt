@@ -2,7 +2,7 @@
 -- them: this product's own.
 use Rattle.std.specs.Prelude.{◌≡◌, ℕ, ◌*◌, ◌+◌, ◌≤◌, ◌<◌, ◌⊎◌, ◌↔◌, List, map, length, Option, Some, None, slice_get, Contains}
 use Rattle.std.specs.List.{filter_map, range_with_len}
-use Rattle.pd_plan.specs.Events.{EventData}
+use Rattle.pd_setup.specs.Events.{EventData}
 use Rattle.pd_scenario.specs.Plan.{Plan, ComesBefore}
 use Rattle.pd_scenario.specs.Contents.{Contents}
 use Rattle.pd_scenario.specs.Script.{script, events_for}

@@ -4,14 +4,14 @@ use Rattle.std.specs.List.{filter_map}
 use Rattle.pd_identity.specs.declared.Cable.{Cable}
 use Rattle.pd_identity.specs.declared.CablePlug.TheVariants.{Absent}
 use Rattle.pd_identity.specs.declared.Rating.TheVariants.{ThreeAmperes}
-use Rattle.pd_sink.specs.Settings.{SinkData}
-use Rattle.pd_sink.specs.declared.settings.SinkMode.TheVariants.{PowerDelivery}
-use Rattle.pd_sink.specs.declared.settings.SinkRevision.TheVariants.{Revision3}
-use Rattle.pd_plan.specs.Events.{EventData}
-use Rattle.pd_plan.specs.declared.event.EventKind.{EventKind}
-use Rattle.pd_plan.specs.declared.event.EventKind.TheVariants as port_event
-use Rattle.pd_plan.specs.declared.event.Happening.{Happening}
-use Rattle.pd_plan.specs.declared.event.Happening.TheVariants as happens
+use Rattle.pd_setup.specs.Sinks.{SinkData}
+use Rattle.pd_setup.specs.declared.sink.SinkMode.TheVariants.{PowerDelivery}
+use Rattle.pd_setup.specs.declared.sink.SinkRevision.TheVariants.{Revision3}
+use Rattle.pd_setup.specs.Events.{EventData}
+use Rattle.pd_setup.specs.declared.event.EventKind.{EventKind}
+use Rattle.pd_setup.specs.declared.event.EventKind.TheVariants as port_event
+use Rattle.pd_setup.specs.declared.event.Happening.{Happening}
+use Rattle.pd_setup.specs.declared.event.Happening.TheVariants as happens
 use Rattle.pd_scenario.specs.declared.contents.NamedCable.{NamedCable}
 use Rattle.pd_scenario.specs.declared.contents.NamedSink.{NamedSink}
 use Rattle.pd_scenario.specs.declared.contents.ScenarioEventKind.{ScenarioEventKind}

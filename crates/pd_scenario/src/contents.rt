@@ -5,7 +5,7 @@ ghost use Rattle.std.specs.Prelude.{◌≡◌};
 use crate::Name;
 use pd_identity::Cable;
 use pd_packet::Damage;
-use pd_sink::{Demand, SinkSettings};
+use pd_setup::{Demand, SinkSettings};
 
 /// A cable and its name.
 #[derive(Drop)]

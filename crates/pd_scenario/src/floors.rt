@@ -4,7 +4,7 @@ ghost use Rattle.std.specs.Prelude.{◌≡◌};
 ghost use Rattle.pd_scenario.specs.Contents.{are_funded, budget_of, least_budget};
 
 use crate::{ScenarioEvent, ScenarioHappening};
-use pd_plan::Settings;
+use pd_setup::Settings;
 
 /// The budget that an event changes to, in mW.
 fn budget_of(event: &ScenarioEvent) -> Option<u64>

@@ -9,7 +9,7 @@ ghost use Rattle.pd_scenario.specs.Script.{resolved, event_for, script};
 
 use crate::scenario::{cable_named, sink_named};
 use crate::{NamedCable, NamedSink, ScenarioEvent, ScenarioEventKind, ScenarioHappening};
-use pd_plan::{Event, EventKind, Happening};
+use pd_setup::{Event, EventKind, Happening};
 use std::alloc::{AllocError, Allocator};
 use std::collections::BTreeMap;
 

@@ -4,7 +4,7 @@ ghost use Rattle.std.specs.Prelude.{◌≡◌, IfOk};
 ghost use Rattle.pd_scenario.specs.Contents.{IsValid};
 
 use crate::{NamedCable, NamedSink, Scenario, ScenarioEvent};
-use pd_plan::Settings;
+use pd_setup::Settings;
 use std::alloc::{AllocError, Global};
 
 impl<const N: usize> Scenario<N> {

@@ -9,8 +9,7 @@ use crate::budget::{BudgetChange, change_of, last_change};
 use crate::order::script;
 use crate::{Name, NamedCable, NamedSink, ScenarioEvent};
 use pd_identity::Cable;
-use pd_plan::{Event, Settings};
-use pd_sink::SinkSettings;
+use pd_setup::{Event, Settings, SinkSettings};
 use std::alloc::{AllocError, Allocator};
 use std::marker::Model;
 

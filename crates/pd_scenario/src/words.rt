@@ -4,7 +4,7 @@ ghost use Rattle.std.specs.Prelude.{◌≡◌};
 ghost use Rattle.pd_scenario.specs.Words.{mode_of, plug_of, rating_of};
 
 use pd_identity::{CablePlug, Rating};
-use pd_sink::SinkMode;
+use pd_setup::SinkMode;
 
 /// The plug of a cable that a word stands for.
 pub fn plug_of(word: &[u8]) -> Option<CablePlug>

@@ -7,8 +7,8 @@ use Rattle.std.proofs.lemmas.Bool.Decides.{nat_tests}
 use Rattle.toml.specs.Data.{Data, Members}
 use Rattle.pd_objects.specs.Supply.{SupplyData, IsSupply}
 use Rattle.pd_packet.specs.Damage.{IsDamage}
-use Rattle.pd_sink.specs.Settings.{SinkData, IsSink, IsDemand}
-use Rattle.pd_plan.specs.Settings.{SettingsData, IsSettings, AreRising}
+use Rattle.pd_setup.specs.Sinks.{SinkData, IsSink, IsDemand}
+use Rattle.pd_setup.specs.Settings.{SettingsData, IsSettings, AreRising}
 use Rattle.pd_scenario.specs.Names.{is_name}
 use Rattle.pd_scenario.specs.Limits.{allows}
 use Rattle.pd_scenario.specs.declared.limits.Quantity.TheVariants as quantity

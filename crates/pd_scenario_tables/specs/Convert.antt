@@ -3,8 +3,8 @@ use Rattle.std.specs.Prelude.{map, unwrap_or}
 use Rattle.toml.specs.Data.{Members}
 use Rattle.pd_identity.specs.declared.CablePlug.TheVariants.{Absent}
 use Rattle.pd_identity.specs.declared.Rating.TheVariants.{ThreeAmperes}
-use Rattle.pd_sink.specs.declared.settings.SinkRevision.TheVariants.{Revision3}
-use Rattle.pd_plan.specs.Settings.{SettingsData}
+use Rattle.pd_setup.specs.declared.sink.SinkRevision.TheVariants.{Revision3}
+use Rattle.pd_setup.specs.Settings.{SettingsData}
 use Rattle.pd_scenario.specs.declared.contents.NamedCable.{NamedCable}
 use Rattle.pd_scenario.specs.declared.contents.NamedSink.{NamedSink}
 use Rattle.pd_scenario.specs.declared.contents.ScenarioEventKind.{ScenarioEventKind}

@@ -1,7 +1,7 @@
 -- The format of a scenario file: one line for each key of each kind of table, with what stands where it is absent and
 -- what its value has to be.
 use Rattle.std.specs.Prelude.{ℕ, pos, false, List, [], ◌∷◌, codes}
-use Rattle.pd_sink.specs.declared.settings.SinkMode.TheVariants.{PowerDelivery}
+use Rattle.pd_setup.specs.declared.sink.SinkMode.TheVariants.{PowerDelivery}
 use Rattle.pd_scenario.specs.declared.limits.Quantity.TheVariants as quantity
 use Rattle.pd_scenario_tables.specs.declared.schema.Version.{Version}
 use Rattle.pd_scenario_tables.specs.declared.schema.Version.TheVariants.{One, Two}

@@ -2,8 +2,8 @@
 use Rattle.std.specs.Prelude.{◌≡◌, ℕ, ℤ, pos, Bool, true, false, not, ◌&&◌, List, [], ◌∷◌, Option, Some, None, is_none, unwrap_or, bytes_eq, if◌then◌else◌}
 use Rattle.std.specs.List.{list_any, filter_map}
 use Rattle.toml.specs.Data.{Data, Members, no_members, member, get_member, as_table}
-use Rattle.pd_sink.specs.declared.settings.SinkMode.{SinkMode}
-use Rattle.pd_sink.specs.declared.settings.SinkMode.TheVariants.{PowerDelivery}
+use Rattle.pd_setup.specs.declared.sink.SinkMode.{SinkMode}
+use Rattle.pd_setup.specs.declared.sink.SinkMode.TheVariants.{PowerDelivery}
 use Rattle.pd_scenario_tables.specs.declared.schema.Version.{Version}
 use Rattle.pd_scenario_tables.specs.declared.schema.Version.TheVariants.{One}
 use Rattle.pd_scenario_tables.specs.declared.schema.EventName.{EventName}

@@ -1,8 +1,8 @@
 -- The words of a scenario file alone, and its numbers that stand for a choice: docs/FORMATS.md, "Scenario file".
 use Rattle.std.specs.Prelude.{ℕ, ℤ, pos, List, Option, Some, None, codes, bytes_eq, if◌then◌else◌}
 use Rattle.std.specs.Ordering.{int_eq}
-use Rattle.pd_sink.specs.declared.settings.SinkRevision.{SinkRevision}
-use Rattle.pd_sink.specs.declared.settings.SinkRevision.TheVariants.{Revision2, Revision3}
+use Rattle.pd_setup.specs.declared.sink.SinkRevision.{SinkRevision}
+use Rattle.pd_setup.specs.declared.sink.SinkRevision.TheVariants.{Revision2, Revision3}
 use Rattle.pd_scenario_tables.specs.declared.schema.Version.{Version}
 use Rattle.pd_scenario_tables.specs.declared.schema.Version.TheVariants.{One, Two}
 use Rattle.pd_scenario_tables.specs.declared.schema.EventName.{EventName}

@@ -16,12 +16,11 @@ use arrayvec::ArrayVec;
 use pd_identity::{Cable, CablePlug, Rating};
 use pd_objects::Supply;
 use pd_packet::Damage;
-use pd_plan::Settings;
 use pd_scenario::{
     Name, NamedCable, NamedSink, ScenarioEvent, ScenarioEventKind, ScenarioHappening, mode_of,
     plug_of, rating_of,
 };
-use pd_sink::{Demand, SinkMode, SinkRevision, SinkSettings};
+use pd_setup::{Demand, Settings, SinkMode, SinkRevision, SinkSettings};
 use toml::{Table, Value};
 
 /// The number at a key; 0 where there is none of 32 bits.

@@ -5,7 +5,7 @@ ghost use Rattle.std.specs.Prelude.{◌≡◌};
 ghost use Rattle.pd_scenario_tables.specs.Schema.{text_of, event_rules, sink_rules, rules_of};
 
 use pd_scenario::Quantity;
-use pd_sink::SinkMode;
+use pd_setup::SinkMode;
 
 /// The version of a file: events that change the budget, and sinks of Revision 2.0, are known to the second alone.
 #[derive(Clone, Copy, Debug, PartialEq, Eq)]

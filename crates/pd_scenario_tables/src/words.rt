@@ -4,7 +4,7 @@ ghost use Rattle.std.specs.Prelude.{◌≡◌};
 ghost use Rattle.pd_scenario_tables.specs.Words.{revision_of, version_of, event_named};
 
 use crate::schema::{EventName, Version};
-use pd_sink::SinkRevision;
+use pd_setup::SinkRevision;
 
 /// The revision of a number.
 pub fn revision_of(number: i64) -> Option<SinkRevision>

@@ -1,8 +1,7 @@
 use linked_list_allocator::LocalHeap;
 use pd_identity::{Cable, CablePlug, Rating};
-use pd_plan::{Event, EventKind, Happening};
 use pd_scenario_text::{port_count, scenario_from_text};
-use pd_sink::{SinkMode, SinkRevision, SinkSettings};
+use pd_setup::{Event, EventKind, Happening, SinkMode, SinkRevision, SinkSettings};
 use std::alloc::AllocError;
 use std::test::Fail;
 

@@ -8,8 +8,8 @@ use Rattle.std.proofs.lemmas.List.Elements.{All-nil, All-cons}
 use Rattle.toml.specs.Data.{Members}
 use Rattle.toml.specs.View.{table_view}
 use Rattle.toml.specs.declared.value.Value.{Value}
-use Rattle.pd_sink.specs.Settings.{IsSink}
-use Rattle.pd_plan.specs.Settings.{IsSettings}
+use Rattle.pd_setup.specs.Sinks.{IsSink}
+use Rattle.pd_setup.specs.Settings.{IsSettings}
 use Rattle.pd_scenario.specs.Names.{is_name}
 use Rattle.pd_scenario.specs.Contents.{Contents, IsValid, event_fits, names_differ, ids_differ, names_are_known, least_budget, floors_mw, is_funded}
 use Rattle.pd_scenario.specs.declared.limits.Quantity.TheVariants as quantity

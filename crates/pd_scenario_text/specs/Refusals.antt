@@ -1,7 +1,7 @@
 -- The refusals of a whole file.
 use Rattle.std.specs.Prelude.{ℕ, Bool, false, not, ◌||◌, ◌==◌, nat_lt, List, [], ◌∷◌, length, map, find, Option}
 use Rattle.std.specs.List.{list_any, list_all}
-use Rattle.pd_plan.specs.Settings.{SettingsData}
+use Rattle.pd_setup.specs.Settings.{SettingsData}
 use Rattle.pd_scenario.specs.Limits.{most_names, most_events}
 use Rattle.pd_scenario.specs.Contents.{Contents, names_differ, ids_differ, names_are_known, is_funded}
 use Rattle.pd_scenario.specs.declared.contents.NamedCable.{NamedCable}

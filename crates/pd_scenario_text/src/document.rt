@@ -10,7 +10,6 @@ ghost use Rattle.pd_scenario_text.specs.Reading.{answered, Answers};
 
 use crate::distinct::check_names;
 use crate::lists::{all_cables, all_events, all_settings, all_sinks, some_event_fails, some_fails};
-use pd_plan::Settings;
 use pd_scenario::{
     MOST_EVENTS, MOST_NAMES, NamedCable, NamedSink, Scenario, ScenarioEvent, are_funded,
     least_budget,
@@ -18,6 +17,7 @@ use pd_scenario::{
 use pd_scenario_tables::{
     Key, ScenarioFault, TableKind, Version, fails, number_at, tables_at, version_at,
 };
+use pd_setup::Settings;
 use std::alloc::{AllocError, Global};
 use toml::Table;
 

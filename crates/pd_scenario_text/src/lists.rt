@@ -7,11 +7,11 @@ ghost use Rattle.pd_scenario_tables.specs.Seen.{views};
 ghost use Rattle.pd_scenario_tables.specs.Tables.{fails, event_fails, event_at, IsSound, IsSoundPort};
 ghost use Rattle.pd_scenario_tables.specs.Convert.{settings_of, cable_of, sink_of, event_of};
 
-use pd_plan::Settings;
 use pd_scenario::{NamedCable, NamedSink, ScenarioEvent};
 use pd_scenario_tables::{
     ScenarioFault, TableKind, Version, cable_of, event_fails, event_of, fails, settings_of, sink_of,
 };
+use pd_setup::Settings;
 use std::alloc::{AllocError, Global};
 use toml::Table;
 

@@ -4,7 +4,7 @@ use Rattle.std.specs.Prelude.{slice_index}
 use Rattle.std.specs.List.{All, Contains}
 use Rattle.std.proofs.lemmas.List.Elements.{All-nil, All-cons, All-weaker, All-contains}
 use Rattle.pd_sink.specs.declared.rule.Offered.{Offered}
-use Rattle.pd_sink.specs.Settings.{SinkData}
+use Rattle.pd_setup.specs.Sinks.{SinkData}
 use Rattle.pd_sink.specs.Rule.{is_accepted, supply_at, accepted, accepted_from, IsAcceptedOf}
 
 -- the supply of an accepted object at a place, where the first object has this position

@@ -5,10 +5,10 @@ use Rattle.std.specs.List.{All}
 use Rattle.std.proofs.lemmas.List.Elements.{All-nil, All-cons, All-contains}
 use Rattle.pd_symbols.specs.Words.{field}
 use Rattle.pd_objects.specs.RequestObject.{request_word_of}
-use Rattle.pd_sink.specs.declared.settings.SinkMode.{SinkMode}
-use Rattle.pd_sink.specs.declared.settings.SinkMode.TheVariants as mode
+use Rattle.pd_setup.specs.declared.sink.SinkMode.{SinkMode}
+use Rattle.pd_setup.specs.declared.sink.SinkMode.TheVariants as mode
 use Rattle.pd_sink.specs.declared.rule.Offered.{Offered}
-use Rattle.pd_sink.specs.Settings.{SinkData}
+use Rattle.pd_setup.specs.Sinks.{SinkData}
 use Rattle.pd_sink.specs.Rule.{need_of, is_accepted, supply_at, accepted, accepted_from, IsFitting, IsGreatest, short_ma, mismatch_ma, Asks}
 use Rattle.pd_sink.specs.Choice.{chosen, asked_of}
 use Rattle.pd_sink.specs.Objects.{request_object}

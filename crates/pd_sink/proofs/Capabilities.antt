@@ -2,7 +2,7 @@
 use Rattle.std.proofs.Common.{◌≡◌, ℕ, ◌*◌, ◌/◌, ◌%◌, ◌<◌, ◌≤◌, min, Bool, true, false, arith}
 use Rattle.std.specs.Int.{div_ceil}
 use Rattle.pd_objects.specs.SinkSupply.{sink_word_of}
-use Rattle.pd_sink.specs.Settings.{SinkData}
+use Rattle.pd_setup.specs.Sinks.{SinkData}
 use Rattle.pd_sink.specs.Rule.{need_of}
 use Rattle.pd_sink.specs.Objects.{sink_object}
 use Rattle.pd_sink.specs.Laws.{Tells}

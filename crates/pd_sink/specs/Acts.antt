@@ -14,7 +14,7 @@ use Rattle.pd_sink.specs.declared.kinds.Act.TheVariants as act
 use Rattle.pd_sink.specs.declared.kinds.Deed.{Deed}
 use Rattle.pd_sink.specs.declared.kinds.Deed.TheVariants as deed
 use Rattle.pd_sink.specs.declared.rule.Asked.{Asked}
-use Rattle.pd_sink.specs.Settings.{SinkData}
+use Rattle.pd_setup.specs.Sinks.{SinkData}
 use Rattle.pd_sink.specs.Choice.{asked_of}
 use Rattle.pd_sink.specs.Objects.{request_object, sink_capabilities}
 use Rattle.pd_sink.specs.Record.{SinkRecord}

@@ -3,7 +3,7 @@
 use Rattle.std.specs.Prelude.{ℕ, Bool, true, false, ◌==◌, ◌&&◌, ◌||◌, nat_lt, nat_le, if◌then◌else◌, List, [], ◌∷◌, Option, Some, None}
 use Rattle.pd_sink.specs.declared.rule.Offered.{Offered}
 use Rattle.pd_sink.specs.declared.rule.Asked.{Asked}
-use Rattle.pd_sink.specs.Settings.{SinkData}
+use Rattle.pd_setup.specs.Sinks.{SinkData}
 use Rattle.pd_sink.specs.Rule.{need_of, power_of, accepted, mismatch_ma}
 
 -- whether a supply is offered at a current that is at least what is needed of its voltage

@@ -5,7 +5,7 @@ use Rattle.pd_timers.specs.Deadlines.{SetsLater}
 use Rattle.pd_sink.specs.declared.kinds.Stimulus.{Stimulus}
 use Rattle.pd_sink.specs.declared.rule.Offered.{Offered}
 use Rattle.pd_sink.specs.declared.rule.Asked.{Asked}
-use Rattle.pd_sink.specs.Settings.{SinkData}
+use Rattle.pd_setup.specs.Sinks.{SinkData}
 use Rattle.pd_sink.specs.Rule.{IsNeed, need_of, IsAcceptedOf, Asks, accepted}
 use Rattle.pd_sink.specs.Choice.{asked_of}
 use Rattle.pd_sink.specs.Objects.{request_object, sink_object}

@@ -1,4 +1,3 @@
-pub mod Settings
 pub mod Rule
 pub mod Choice
 pub mod Objects

@@ -4,7 +4,7 @@ use Rattle.std.specs.Prelude.{ℕ, ◌/◌, min, Bool, true, false, nat_lt, if�
 use Rattle.pd_objects.specs.RequestObject.{request_word_of, capability_mismatch}
 use Rattle.pd_objects.specs.SinkSupply.{sink_word_of}
 use Rattle.pd_sink.specs.declared.rule.Asked.{Asked}
-use Rattle.pd_sink.specs.Settings.{SinkData}
+use Rattle.pd_setup.specs.Sinks.{SinkData}
 use Rattle.pd_sink.specs.Rule.{need_of}
 
 -- the object of a Request: the current is the operating and the maximum one, and no flag is set but the mismatch

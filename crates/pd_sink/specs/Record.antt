@@ -1,7 +1,7 @@
 -- What the sink's policy engine keeps.
 use Rattle.std.specs.Prelude.{ℕ, Bool, false, List, [], Option, None}
 use Rattle.pd_timers.specs.Deadlines.{idle}
-use Rattle.pd_sink.specs.Settings.{SinkData}
+use Rattle.pd_setup.specs.Sinks.{SinkData}
 use Rattle.pd_sink.specs.declared.kinds.State.{State}
 use Rattle.pd_sink.specs.declared.kinds.State.TheVariants as state
 

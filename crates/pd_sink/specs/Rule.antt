@@ -2,11 +2,11 @@
 use Rattle.std.specs.Prelude.{◌≡◌, ◌⊎◌, ℕ, ◌+◌, ◌*◌, ◌%◌, ◌<◌, ◌≤◌, min, Bool, true, false, ◌==◌, ◌&&◌, nat_lt, nat_le, if◌then◌else◌, List, [], ◌∷◌, Contains, All, length, slice_index, Option, Some, None}
 use Rattle.std.specs.Int.{div_ceil}
 use Rattle.pd_symbols.specs.Words.{field}
-use Rattle.pd_sink.specs.declared.settings.SinkMode.{SinkMode}
-use Rattle.pd_sink.specs.declared.settings.SinkMode.TheVariants as mode
+use Rattle.pd_setup.specs.declared.sink.SinkMode.{SinkMode}
+use Rattle.pd_setup.specs.declared.sink.SinkMode.TheVariants as mode
 use Rattle.pd_sink.specs.declared.rule.Offered.{Offered}
 use Rattle.pd_sink.specs.declared.rule.Asked.{Asked}
-use Rattle.pd_sink.specs.Settings.{SinkData}
+use Rattle.pd_setup.specs.Sinks.{SinkData}
 
 -- What a sink needs of a voltage in mV for a demand in mW: the least multiple of 10 mA whose power, in microwatts, is at
 -- least the demand.

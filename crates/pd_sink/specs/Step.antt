@@ -7,7 +7,7 @@ use Rattle.pd_sink.specs.declared.kinds.Stimulus.{Stimulus}
 use Rattle.pd_sink.specs.declared.kinds.Stimulus.TheVariants as stimulus
 use Rattle.pd_sink.specs.declared.kinds.Act.{Act}
 use Rattle.pd_sink.specs.declared.kinds.Deed.{Deed}
-use Rattle.pd_sink.specs.Settings.{SinkData, bits_of}
+use Rattle.pd_setup.specs.Sinks.{SinkData, bits_of}
 use Rattle.pd_sink.specs.Record.{SinkRecord}
 use Rattle.pd_sink.specs.Table.{Row, holds, has_hard_resets_left, row_of, deeds_of_row}
 use Rattle.pd_sink.specs.Acts.{all_after, all_wants}

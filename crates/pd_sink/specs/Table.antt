@@ -3,8 +3,8 @@ use Rattle.std.specs.Prelude.{ℕ, Bool, true, false, not, nat_le, ◌==◌, ◌
 use Rattle.pd_timers.specs.declared.Timer.{Timer}
 use Rattle.pd_timers.specs.declared.Timer.TheVariants as timer
 use Rattle.pd_timers.specs.Timers.{place}
-use Rattle.pd_sink.specs.declared.settings.SinkMode.{SinkMode}
-use Rattle.pd_sink.specs.declared.settings.SinkMode.TheVariants as mode
+use Rattle.pd_setup.specs.declared.sink.SinkMode.{SinkMode}
+use Rattle.pd_setup.specs.declared.sink.SinkMode.TheVariants as mode
 use Rattle.pd_sink.specs.declared.kinds.State.{State}
 use Rattle.pd_sink.specs.declared.kinds.State.TheVariants as state
 use Rattle.pd_sink.specs.declared.kinds.Stimulus.{Stimulus}
@@ -13,7 +13,7 @@ use Rattle.pd_sink.specs.declared.kinds.Message.TheVariants as message
 use Rattle.pd_sink.specs.declared.kinds.Note.TheVariants as note
 use Rattle.pd_sink.specs.declared.kinds.Deed.{Deed}
 use Rattle.pd_sink.specs.declared.kinds.Deed.TheVariants as deed
-use Rattle.pd_sink.specs.Settings.{SinkData}
+use Rattle.pd_setup.specs.Sinks.{SinkData}
 use Rattle.pd_sink.specs.Record.{SinkRecord}
 
 -- the places of the states in their list, by which two are told apart

@@ -13,8 +13,9 @@ use crate::kinds::{Deed, Facts, Message};
 use crate::objects::{request_object, sink_capabilities};
 use crate::rows::choose;
 use crate::rule::{Asked, request};
-use crate::{Act, Demand, Note, Sending, SinkMode, SinkRevision, SinkSettings, State, Stimulus};
+use crate::{Act, Note, Sending, State, Stimulus};
 use arrayvec::ArrayVec;
+use pd_setup::{Demand, SinkMode, SinkRevision, SinkSettings};
 use pd_timers::{Deadlines, Timer};
 use std::marker::Model;
 

@@ -1,7 +1,7 @@
 //! States, stimuli and acts.
 
-use crate::{Demand, SinkSettings};
 use arrayvec::ArrayVec;
+use pd_setup::{Demand, SinkSettings};
 use pd_timers::Timer;
 
 /// The states of the sink's policy engine (USB Power Delivery 3.0, section 8.3.3.3), Off while nothing is attached, and

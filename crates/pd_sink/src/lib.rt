@@ -1,4 +1,4 @@
-//! The sink: what it is set to, and its policy engine.
+//! The policy engine of a sink.
 #![tactic(auto)]
 
 mod engine;
@@ -7,8 +7,6 @@ pub mod laws;
 mod objects;
 mod rows;
 mod rule;
-mod settings;
 
 pub use engine::Sink;
 pub use kinds::{Act, Note, Sending, State, Stimulus};
-pub use settings::{Demand, SinkMode, SinkRevision, SinkSettings};

@@ -4,11 +4,11 @@ ghost use Rattle.std.specs.Prelude.{◌≡◌, ◌≤◌, ◌<◌, ◌%◌};
 ghost use Rattle.pd_sink.specs.Rule.{IsAsked};
 ghost use Rattle.pd_sink.specs.Objects.{request_object, sink_object, sink_capabilities};
 
-use crate::SinkSettings;
 use crate::rule::{Asked, need};
 use arrayvec::ArrayVec;
 use bitflags::Flags;
 use pd_objects::{RequestFlags, RequestObject, SinkSupply};
+use pd_setup::SinkSettings;
 
 /// The object of a Request.
 pub(crate) fn request_object(asked: Asked) -> u32

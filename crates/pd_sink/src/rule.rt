@@ -4,9 +4,9 @@ ghost use Rattle.std.specs.Prelude.{◌≡◌, ◌≤◌, ◌<◌, ◌++◌, len
 ghost use Rattle.pd_sink.specs.Rule.{need_of, is_accepted, supply_at, accepted, mismatch_ma, IsOffered, IsAsked, Fits};
 ghost use Rattle.pd_sink.specs.Choice.{fitting_from, higher_of, greatest_from, greater_of, asked_of};
 
-use crate::{SinkMode, SinkSettings};
 use arrayvec::ArrayVec;
 use pd_objects::FixedSupply;
+use pd_setup::{SinkMode, SinkSettings};
 
 /// A supply of an offer that a sink accepts: its position in the offer, from 1, its voltage in mV and its current in mA.
 #[derive(Clone, Copy, Debug, Default)]

@@ -1,7 +1,7 @@
 //! A test for each row of the state table, written from the table and apart from the macro.
 
 use super::*;
-use crate::SinkRevision;
+use pd_setup::SinkRevision;
 
 mod contract;
 mod elsewhere;

@@ -1,5 +1,5 @@
 use Rattle.std.proofs.Common.{◌≡◌, [], fold, map, take}
-use Rattle.pd_plan.specs.Events.{EventData}
+use Rattle.pd_setup.specs.Events.{EventData}
 use Rattle.pd_scenario.specs.Plan.{number_of}
 use Rattle.pd_scenario.specs.Script.{put, events_for}
 use Rattle.pd_scenario.proofs.order.script.Given as goal

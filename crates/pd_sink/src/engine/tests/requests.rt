@@ -1,9 +1,9 @@
 //! What a sink asks of an offer, and what it says of itself, at numbers that were worked by hand.
 
 ghost use Rattle.std.specs.Prelude.{◌≤◌, length};
-ghost use Rattle.pd_sink.specs.Settings.{IsSink};
-ghost use Rattle.pd_sink.specs.declared.settings.SinkMode.TheVariants.{PowerDelivery};
-ghost use Rattle.pd_sink.specs.declared.settings.SinkRevision.TheVariants.{Revision3};
+ghost use Rattle.pd_setup.specs.Sinks.{IsSink};
+ghost use Rattle.pd_setup.specs.declared.sink.SinkMode.TheVariants.{PowerDelivery};
+ghost use Rattle.pd_setup.specs.declared.sink.SinkRevision.TheVariants.{Revision3};
 
 use super::*;
 

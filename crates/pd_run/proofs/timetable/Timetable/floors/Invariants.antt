@@ -1,5 +1,5 @@
 use Rattle.std.proofs.Common.{◌≡◌, ◌≤◌, map, take, All}
-use Rattle.pd_plan.specs.Settings.{floor_of}
+use Rattle.pd_setup.specs.Settings.{floor_of}
 use Rattle.pd_run.proofs.timetable.Timetable.floors.Given as goal
 
 abbrev pub invariant-loop-settings : goal.invariant-loop-settings

@@ -1,8 +1,8 @@
 -- What a sink is set to: this product's own ranges of voltage and power.
 use Rattle.std.specs.Prelude.{◌≡◌, ℕ, ◌≤◌, ◌%◌}
-use Rattle.pd_sink.specs.declared.settings.SinkMode.{SinkMode}
-use Rattle.pd_sink.specs.declared.settings.SinkRevision.{SinkRevision}
-use Rattle.pd_sink.specs.declared.settings.SinkRevision.TheVariants.{Revision2, Revision3}
+use Rattle.pd_setup.specs.declared.sink.SinkMode.{SinkMode}
+use Rattle.pd_setup.specs.declared.sink.SinkRevision.{SinkRevision}
+use Rattle.pd_setup.specs.declared.sink.SinkRevision.TheVariants.{Revision2, Revision3}
 
 -- the greatest voltage in mV, the demand in mW, the mode and the revision
 pub record SinkData : Type 0 where

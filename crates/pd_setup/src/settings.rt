@@ -1,7 +1,7 @@
 //! What a port is set to.
 
 ghost use Rattle.std.specs.Prelude.{◌≡◌, ℕ, ◌↔◌, IsTrue};
-ghost use Rattle.pd_plan.specs.Settings.{SettingsData, IsSettings};
+ghost use Rattle.pd_setup.specs.Settings.{SettingsData, IsSettings};
 
 use arrayvec::ArrayVec;
 use pd_objects::Supply;

@@ -1,11 +1,11 @@
 //! What happens to a port from outside.
 
 ghost use Rattle.std.specs.Prelude.{◌≡◌, ℕ, ◌↔◌, IsTrue};
-ghost use Rattle.pd_plan.specs.Events.{EventData, IsEvent};
+ghost use Rattle.pd_setup.specs.Events.{EventData, IsEvent};
 
+use crate::sink::{Demand, SinkSettings};
 use pd_identity::Cable;
 use pd_packet::Damage;
-use pd_sink::{Demand, SinkSettings};
 use std::marker::Model;
 
 /// What an event does to its port.
@@ -87,7 +87,7 @@ pub struct Event {
 
 impl Model for Event {
     ghost use Rattle.std.specs.Prelude.{◌≡◌};
-    ghost use Rattle.pd_plan.specs.Events.{EventData, IsEvent};
+    ghost use Rattle.pd_setup.specs.Events.{EventData, IsEvent};
 
     ghost Value = { EventData };
 

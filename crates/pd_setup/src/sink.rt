@@ -1,7 +1,7 @@
 //! What a sink is set to.
 
 ghost use Rattle.std.specs.Prelude.{◌≡◌, ℕ, ◌↔◌, IsTrue};
-ghost use Rattle.pd_sink.specs.Settings.{SinkData, IsSink, IsDemand};
+ghost use Rattle.pd_setup.specs.Sinks.{SinkData, IsSink, IsDemand};
 
 use std::marker::Model;
 

@@ -1,7 +1,7 @@
 -- What happens to a port from outside: this product's own ranges.
 use Rattle.std.specs.Prelude.{ℕ, ◌≤◌}
-use Rattle.pd_plan.specs.declared.event.Happening.{Happening}
-use Rattle.pd_plan.specs.declared.event.Happening.TheVariants.{Port, Budget}
+use Rattle.pd_setup.specs.declared.event.Happening.{Happening}
+use Rattle.pd_setup.specs.declared.event.Happening.TheVariants.{Port, Budget}
 
 -- when, in microseconds, and what
 pub record EventData : Type 0 where
