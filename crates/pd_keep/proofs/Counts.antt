@@ -5,7 +5,8 @@ use Rattle.pd_run.specs.Run.{Move}
 use Rattle.pd_run.proofs.OneRun.{run_unique}
 use Rattle.pd_keep.specs.Fresh.{IsRepeated, AreFresh, OneCount, NoneFreshAgain}
 
-one : (old_plan : Plan) (old : List Move) (plan : Plan) (ms : List Move) (a b : ℕ) → AreFresh old_plan old plan ms a → AreFresh old_plan old plan ms b → a ≡ b
+one : (old_plan : Plan) (old : List Move) (plan : Plan) (ms : List Move) (a b : ℕ) → AreFresh old_plan old plan ms a
+    → AreFresh old_plan old plan ms b → a ≡ b
 one old_plan old plan [] a b h g = h ∙ sym g
 one old_plan old plan (m ∷ ms) a b h g =
     ⊎_elim
@@ -30,7 +31,8 @@ none : (plan : Plan) (old ms : List Move) (n : ℕ) → ((m : Move) → Contains
 none plan old [] n has h = h
 none plan old (m ∷ ms) n has h =
     ⊎_elim
-    (λ (w : IsRepeated plan old plan m × AreFresh plan old plan ms n). none plan old ms n (λ x at. has x (suc at.0, omega (arith, at.1), at.2)) w.1)
+    (λ (w : IsRepeated plan old plan m × AreFresh plan old plan ms n). none plan old ms n
+    (λ x at. has x (suc at.0, omega (arith, at.1), at.2)) w.1)
     (λ (w : (IsRepeated plan old plan m → ⊥) × ((k : ℕ) × (n ≡ k + 1) × AreFresh plan old plan ms k)).
     absurd (w.0 (m, has m (0, omega arith, refl), record { port = refl; before = refl; settings = refl; due = refl; answer = refl })))
     h

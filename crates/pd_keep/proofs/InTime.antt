@@ -1,5 +1,6 @@
 -- What is kept stands in the order of times.
-use Rattle.std.proofs.Common.{◌≡◌, ◌≢◌, ⊎_elim, Contains, leb, true, false, ◌∙◌, ℕ, ◌<◌, ◌≤◌, ◌-◌, List, [], ◌∷◌, ◌++◌, length, map, arith, get_or, zero, suc, All, Option, None, Some, ap, subst}
+use Rattle.std.proofs.Common.{◌≡◌, ◌≢◌, ⊎_elim, Contains, leb, true, false, ◌∙◌, ℕ, ◌<◌, ◌≤◌, ◌-◌, List, [], ◌∷◌, ◌++◌, length, map}
+use Rattle.std.proofs.Common.{arith, get_or, zero, suc, All, Option, None, Some, ap, subst}
 use Rattle.std.proofs.lemmas.List.{get_or_default}
 use Rattle.std.proofs.lemmas.Bool.Decides.{leb_tells}
 use Rattle.pd_scenario.specs.Plan.{Plan}
@@ -16,15 +17,19 @@ none_later-front : (t p : ℕ) (past : List Move) (m : Move) → NoneLater t p (
 none_later-front t p [] m h = tt
 none_later-front t p (x ∷ xs) m h = (h.0, none_later-front t p xs m h.1)
 
-none_later-at : (kept : List KeptMove) (past : List Move) (j : ℕ) (e : KeptMove) → EachAfter IsInOrder past (map move_of kept) → j < length kept → NoneLater (get_or kept j e).due.time ((get_or kept j e).port - 1) past
+none_later-at : (kept : List KeptMove) (past : List Move) (j : ℕ) (e : KeptMove) → EachAfter IsInOrder past (map move_of kept)
+    → j < length kept → NoneLater (get_or kept j e).due.time ((get_or kept j e).port - 1) past
 none_later-at [] past j e h lt = absurd (omega arith)
 none_later-at (m ∷ ms) past zero e h lt = h.0
-none_later-at (m ∷ ms) past (suc j) e h lt = none_later-front _ _ past (move_of m) (none_later-at ms (past ++ move_of m ∷ []) j e h.1 (omega arith))
+none_later-at (m ∷ ms) past (suc j) e h lt =
+    none_later-front _ _ past (move_of m) (none_later-at ms (past ++ move_of m ∷ []) j e h.1 (omega arith))
 
-times : (kept : List KeptMove) (past : List Move) (i j : ℕ) (e : KeptMove) → EachAfter IsInOrder past (map move_of kept) → i ≤ j → j < length kept → (get_or kept i e).due.time ≤ (get_or kept j e).due.time
+times : (kept : List KeptMove) (past : List Move) (i j : ℕ) (e : KeptMove) → EachAfter IsInOrder past (map move_of kept) → i ≤ j
+    → j < length kept → (get_or kept i e).due.time ≤ (get_or kept j e).due.time
 times [] past i j e h le lt = absurd (omega arith)
 times (m ∷ ms) past zero zero e h le lt = omega arith
-times (m ∷ ms) past zero (suc j) e h le lt = none_later-last _ _ past (move_of m) (none_later-at ms (past ++ move_of m ∷ []) j e h.1 (omega arith))
+times (m ∷ ms) past zero (suc j) e h le lt =
+    none_later-last _ _ past (move_of m) (none_later-at ms (past ++ move_of m ∷ []) j e h.1 (omega arith))
 times (m ∷ ms) past (suc i) zero e h le lt = absurd (omega arith)
 times (m ∷ ms) past (suc i) (suc j) e h le lt = times ms (past ++ move_of m ∷ []) i j e h.1 (omega arith) (omega arith)
 
@@ -43,12 +48,14 @@ pub before_later : (old : List KeptMove) (n t u : ℕ) → AreBefore old n t →
 before_later old n t u h le = λ k e lt. let less = h k e lt in omega arith
 
 -- ports are numbered from 1
-pub keeps_from_one : (n : ℕ) (o : Option Plan) (kept : List KeptMove) (i : ℕ) (k : KeptMove) → Keeps n o kept → i < length kept → get_or kept i k ≡ k → 1 ≤ k.port
+pub keeps_from_one : (n : ℕ) (o : Option Plan) (kept : List KeptMove) (i : ℕ) (k : KeptMove) → Keeps n o kept → i < length kept
+    → get_or kept i k ≡ k → 1 ≤ k.port
 keeps_from_one n None kept i k none lt e = absurd (omega (arith, ap length none))
 keeps_from_one n (Some plan) kept i k keeps lt e = subst (λ (y : KeptMove). 1 ≤ y.port) e (keeps.own i k lt).from_one
 
 -- a move that isn't among the first ones isn't there where those that follow are later
-pub not_later : (old : List KeptMove) (i : ℕ) (at m : KeptMove) → AreInTime old → ((k : ℕ) → k < i → get_or old k m ≢ m) → i < length old → get_or old i at ≡ at → m.due.time < at.due.time → Contains old m → ⊥
+pub not_later : (old : List KeptMove) (i : ℕ) (at m : KeptMove) → AreInTime old → ((k : ℕ) → k < i → get_or old k m ≢ m) → i < length old
+    → get_or old i at ≡ at → m.due.time < at.due.time → Contains old m → ⊥
 not_later old i at m in_time none lt here later has =
     let j = has.0 in
     let there : get_or old j at ≡ m = get_or_default old j at m has.1 ∙ has.2 in

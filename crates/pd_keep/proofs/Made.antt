@@ -10,21 +10,27 @@ use Rattle.pd_keep.specs.declared.kept_move.KeptMove.{KeptMove}
 use Rattle.pd_keep.specs.Kept.{kept_of, move_of, IsOwn, IsMade}
 
 -- what is kept is the next move
-pub kept_is_next : (plan : Plan) (past : List Move) (p : ℕ) (x : PortData) (d : Due) (a : Option Answer) → x ≡ port_after plan past (p - 1) → a ≡ (next_move plan past (p - 1) d).answer → move_of (kept_of p x d a) ≡ next_move plan past (p - 1) d
+pub kept_is_next : (plan : Plan) (past : List Move) (p : ℕ) (x : PortData) (d : Due) (a : Option Answer) → x ≡ port_after plan past (p - 1)
+    → a ≡ (next_move plan past (p - 1) d).answer → move_of (kept_of p x d a) ≡ next_move plan past (p - 1) d
 kept_is_next plan past p x d a x_is a_is =
-    ap (λ (z : PortData). move_of (kept_of p z d a)) x_is ∙ ap (λ (b : Option Answer). move_of (kept_of p (port_after plan past (p - 1)) d b)) a_is
+    ap (λ (z : PortData). move_of (kept_of p z d a)) x_is
+    ∙ ap (λ (b : Option Answer). move_of (kept_of p (port_after plan past (p - 1)) d b)) a_is
 
 -- and its port's own
-pub kept_is_own : (plan : Plan) (past : List Move) (p : ℕ) (x : PortData) (d : Due) (a : Option Answer) → 1 ≤ p → x ≡ port_after plan past (p - 1) → IsOwn plan (kept_of p x d a)
+pub kept_is_own : (plan : Plan) (past : List Move) (p : ℕ) (x : PortData) (d : Due) (a : Option Answer) → 1 ≤ p
+    → x ≡ port_after plan past (p - 1) → IsOwn plan (kept_of p x d a)
 kept_is_own plan past p x d a one x_is = record { made = refl; from_one = one; settings = ap (λ (z : PortData). z.settings) x_is }
 
 -- the port that it leaves is the one that the run goes on with
-pub kept_is_moved : (live : LiveData) (p q : ℕ) (x : PortData) (d : Due) (a : Option Answer) → x ≡ port_at live p → a ≡ reply_at live p d → (kept_of q x d a).after ≡ moved_port live p d
+pub kept_is_moved : (live : LiveData) (p q : ℕ) (x : PortData) (d : Due) (a : Option Answer) → x ≡ port_at live p → a ≡ reply_at live p d
+    → (kept_of q x d a).after ≡ moved_port live p d
 kept_is_moved live p q x d a x_is a_is =
     ap (λ (z : PortData). (kept_of q z d a).after) x_is ∙ ap (λ (b : Option Answer). (kept_of q (port_at live p) d b).after) a_is
 
 -- a move that was made of the same is the same
-pub kept_same : (k : KeptMove) (p : ℕ) (x : PortData) (d : Due) (a : Option Answer) → IsMade k → k.port ≡ p → k.due ≡ d → k.answer ≡ a → k.before.settings ≡ x.settings → k.before.«record» ≡ x.«record» → k ≡ kept_of p x d a
+pub kept_same : (k : KeptMove) (p : ℕ) (x : PortData) (d : Due) (a : Option Answer) → IsMade k → k.port ≡ p → k.due ≡ d → k.answer ≡ a
+    → k.before.settings ≡ x.settings → k.before.«record» ≡ x.«record» → k ≡ kept_of p x d a
 kept_same k p x d a made port due answer settings state =
     let before : k.before ≡ x = λ i. record { settings = settings i; «record» = state i } in
-    made ∙ ap (λ q. kept_of q k.before k.due k.answer) port ∙ ap (λ (z : PortData). kept_of p z k.due k.answer) before ∙ ap (λ (e : Due). kept_of p x e k.answer) due ∙ ap (kept_of p x d) answer
+    made ∙ ap (λ q. kept_of q k.before k.due k.answer) port ∙ ap (λ (z : PortData). kept_of p z k.due k.answer) before
+    ∙ ap (λ (e : Due). kept_of p x e k.answer) due ∙ ap (kept_of p x d) answer

@@ -9,7 +9,7 @@ ghost use Rattle.pd_keep.specs.Fresh.{IsCharged};
 use crate::kept_move::KeptMove;
 use crate::rerun::rerun;
 use pd_port::{Entry, Meter};
-use pd_run::{Runner, Timetable};
+use pd_run::{Plan, Runner};
 use pd_scenario::Scenario;
 use std::alloc::{AllocError, Global};
 use std::marker::Model;
@@ -18,7 +18,7 @@ use std::marker::Model;
 /// that the old run has too are copied, and the meter rises by the others alone.
 #[derive(Drop)]
 pub struct Kept<const N: usize> {
-    plan: Option<Timetable<N>>,
+    plan: Option<Plan<N>>,
     moves: Vec<KeptMove>,
 }
 
@@ -61,7 +61,7 @@ impl<const N: usize> Runner<N> for Kept<N> {
         ensures same_run { OnErr result (map shown self.new.moves ≡ map shown self.old.moves) }
         ensures rises { meter.old ≤ meter.new }
     {
-        let plan = Timetable::of_scenario(alloc, scenario)?;
+        let plan = Plan::of_scenario(alloc, scenario)?;
         let moves = rerun(alloc, self.moves.as_slice(), &plan, meter)?;
         let _end = plan.end();
         self.moves = moves;

@@ -2,7 +2,7 @@
 
 ghost use Rattle.std.specs.Prelude.{◌≡◌, ◌⊎◌, ℕ, ◌+◌, ◌<◌, ◌≤◌, List, IfOk, IfSome, IfNone, map, length, Contains, All, slice_index_or};
 ghost use Rattle.pd_port.specs.Meter.{raised};
-ghost use Rattle.pd_scenario.specs.Plan.{Plan};
+ghost use Rattle.pd_scenario.specs.Plan.{Plan as PlanData};
 ghost use Rattle.pd_run.specs.Shown.{SafeRun};
 ghost use Rattle.pd_keep.specs.Kept.{kept_of, move_of, IsMade, IsOwn, AreInTime, AreBefore};
 ghost use Rattle.pd_keep.specs.Fresh.{AreFresh};
@@ -11,21 +11,21 @@ ghost use Rattle.pd_keep.specs.Charge.{Charges};
 use crate::kept_move::{KeptMove, copy_answer};
 use pd_objects::Answer;
 use pd_port::{Due, Meter, Port};
-use pd_run::{Live, Timetable};
+use pd_run::{Live, Plan};
 use std::alloc::{AllocError, Global};
 
 /// The run of a plan, beside an older run. The meter rises by the moves that the older run doesn't have.
 pub fn rerun<const N: usize>(
     alloc: Global,
     old: &[KeptMove],
-    plan: &Timetable<N>,
+    plan: &Plan<N>,
     meter: &mut Meter,
 ) -> Result<Vec<KeptMove>, AllocError>
     requires made { All IsMade old.now }
     requires in_time { AreInTime old.now }
     ensures run { IfOk result (λ moves. SafeRun plan.now (map move_of moves.items)) }
     ensures own { IfOk result (λ moves. All (IsOwn plan.now) moves.items) }
-    ensures cost { IfOk result (λ moves. (old_plan : Plan) → All (IsOwn old_plan) old.now
+    ensures cost { IfOk result (λ moves. (old_plan : PlanData) → All (IsOwn old_plan) old.now
         → (n : ℕ) × AreFresh old_plan (map move_of old.now) plan.now (map move_of moves.items) n × (meter.new ≡ raised meter.old n)) }
     ensures rises { meter.old ≤ meter.new }
 {
@@ -120,7 +120,8 @@ fn find(
     requires made { All IsMade old.now }
     requires in_time { AreInTime old.now }
     requires before { AreBefore old.now from due.now.time }
-    ensures found { IfSome result (λ i. i < length old.now × slice_index_or old.now i (kept_of port before.now due.now answer.now) ≡ kept_of port before.now due.now answer.now) }
+    ensures found { IfSome result (λ i. i < length old.now
+        × slice_index_or old.now i (kept_of port before.now due.now answer.now) ≡ kept_of port before.now due.now answer.now) }
     ensures none { IfNone result (Contains old.now (kept_of port before.now due.now answer.now) → ⊥) }
 {
     for i in from..old.len() {

@@ -24,7 +24,8 @@ are_within free limit_ma (s ∷ rest) = (offered-within free limit_ma s, are_wit
 -- what is answered is allowed
 pub answer-allowed : (a : Account) (p : ℕ) (query : Option Query) → IsAllowed (free_of a p) query (option_map (answer_of a p) query)
 answer-allowed a p None = refl
-answer-allowed a p (Some (query.Offer supplies limit_ma)) = (map (offered (free_of a p) limit_ma) supplies.items, are_within (free_of a p) limit_ma supplies.items, refl)
+answer-allowed a p (Some (query.Offer supplies limit_ma)) =
+    (map (offered (free_of a p) limit_ma) supplies.items, are_within (free_of a p) limit_ma supplies.items, refl)
 answer-allowed a p (Some (query.Fits power)) = refl
 answer-allowed a p (Some (query.Keep power)) = (nat_le (total_with a p power) a.budget, refl)
 

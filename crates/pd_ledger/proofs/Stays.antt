@@ -1,5 +1,26 @@
 -- A port's hold beside the holds of the lower ports and the floors of the higher ports.
-use Rattle.std.proofs.Common.{◌≡◌, ℕ, zero, suc, ◌+◌, ◌<◌, ◌≤◌, ◌^◌, List, [], ◌∷◌, length, sum, take, drop, slice_index, ap, ◌∙◌, sym, arith}
+use Rattle.std.proofs.Common.{
+  ◌≡◌,
+  ℕ,
+  zero,
+  suc,
+  ◌+◌,
+  ◌<◌,
+  ◌≤◌,
+  ◌^◌,
+  List,
+  [],
+  ◌∷◌,
+  length,
+  sum,
+  take,
+  drop,
+  slice_index,
+  ap,
+  ◌∙◌,
+  sym,
+  arith,
+}
 use Rattle.std.proofs.lemmas.List.Sums.{sum_by-cons, sum_by-drop_more}
 use Rattle.pd_ledger.specs.Account.{IsLedger}
 use Rattle.pd_ledger.proofs.Sums.{sum-few}
@@ -33,8 +54,10 @@ parts_below (suc p) (f ∷ fs) (h ∷ hs) len below =
 -- without the floor of the port itself
 pub others_few : (n b p t : ℕ) (fs hs : List ℕ) → IsLedger n b fs hs t → p < n → sum (take p hs) + sum (drop (suc p) fs) < 2 ^ 67
 others_few n b p t fs hs kept lt =
-    let parts = parts_below p fs hs (kept.floors_count ∙ sym kept.holds_count) (λ k less. kept.floored k (omega (arith, kept.floors_count))) in
-    let own : sum (drop p fs) ≡ slice_index fs p + sum (drop (p + 1) fs) = sum_by-drop_more (λ n. n) fs p 0 (omega (arith, kept.floors_count)) in
+    let parts = parts_below p fs hs (kept.floors_count ∙ sym kept.holds_count)
+    (λ k less. kept.floored k (omega (arith, kept.floors_count))) in
+    let own : sum (drop p fs) ≡ slice_index fs p + sum (drop (p + 1) fs) =
+    sum_by-drop_more (λ n. n) fs p 0 (omega (arith, kept.floors_count)) in
     let next : sum (drop (p + 1) fs) ≡ sum (drop (suc p) fs) = ap (λ (k : ℕ). sum (drop k fs)) (let e : p + 1 ≡ suc p = omega arith in e) in
     let few = sum-few n hs kept.few kept.holds_count kept.small in
     omega (arith, parts, own, next, few)

@@ -1,6 +1,7 @@
 -- What counts in the middle of an instant: what a port holds, or its floor while it is still to be told of a change of the
 -- budget.
-use Rattle.std.proofs.Common.{◌≡◌, ℕ, ◌+◌, ◌<◌, ◌≤◌, Bool, true, false, ◌&&◌, nat_le, if◌then◌else◌, List, [], ◌∷◌, length, map, sum, take, drop, zero, suc, Option, Some, None, refl, ap, ◌∙◌, arith, slice_get, slice_index}
+use Rattle.std.proofs.Common.{◌≡◌, ℕ, ◌+◌, ◌<◌, ◌≤◌, Bool, true, false, ◌&&◌, nat_le, if◌then◌else◌, List, [], ◌∷◌, length, map}
+use Rattle.std.proofs.Common.{sum, take, drop, zero, suc, Option, Some, None, refl, ap, ◌∙◌, arith, slice_get, slice_index}
 use Rattle.std.specs.List.{range_with_len}
 use Rattle.std.proofs.lemmas.List.FromFn.{get_or-map-range_with_len, length-map-range_with_len}
 use Rattle.std.proofs.lemmas.List.{length-map}
@@ -24,13 +25,16 @@ tells changes at (Some e) = changes_budget e.happening && (nat_le e.at at && cha
 
 -- what counts of a port
 abbrev pub counted : Plan → ℕ → ℕ → Standing → ℕ
-counted plan at p s = if tells plan.forces at (slice_get (script_of plan p) s.taken) then floor_of (settings_of plan p) else hold (settings_of plan p) s.state
+counted plan at p s = if tells plan.forces at (slice_get (script_of plan p) s.taken) then floor_of (settings_of plan p) else hold
+    (settings_of plan p) s.state
 
 abbrev pub all_counted : Plan → List Move → ℕ → List ℕ
 all_counted plan past at = map (λ p. counted plan at p (standing plan past p)) (range_with_len 0 (count plan))
 
-pub counted_at : (plan : Plan) (past : List Move) (at p : ℕ) → p < count plan → slice_index (all_counted plan past at) p ≡ counted plan at p (standing plan past p)
-counted_at plan past at p lt = get_or-map-range_with_len (λ k. counted plan at k (standing plan past k)) 0 (count plan) p p 0 lt (omega arith)
+pub counted_at : (plan : Plan) (past : List Move) (at p : ℕ) → p < count plan
+    → slice_index (all_counted plan past at) p ≡ counted plan at p (standing plan past p)
+counted_at plan past at p lt = get_or-map-range_with_len (λ k. counted plan at k (standing plan past k)) 0 (count plan) p
+    p 0 lt (omega arith)
 
 pub length-all_counted : (plan : Plan) (past : List Move) (at : ℕ) → length (all_counted plan past at) ≡ count plan
 length-all_counted plan past at = length-map-range_with_len (λ k. counted plan at k (standing plan past k)) 0 (count plan)
@@ -67,7 +71,8 @@ and-true true false c h k l = absurd (let e : false ≡ true = k in cc)
 and-true false b c h k l = absurd (let e : false ≡ true = h in cc)
 
 -- and still at a later time
-pub tells_later : (changes : List BudgetChange) (from to : ℕ) (next : Option EventData) → from ≤ to → tells changes from next ≡ true → tells changes to next ≡ true
+pub tells_later : (changes : List BudgetChange) (from to : ℕ) (next : Option EventData) → from ≤ to → tells changes from next ≡ true
+    → tells changes to next ≡ true
 tells_later changes from to None le h = h
 tells_later changes from to (Some e) le h =
     let k = both (changes_budget e.happening) (nat_le e.at from && changes_at changes e.at) h in
@@ -76,7 +81,8 @@ tells_later changes from to (Some e) le h =
     and-true (changes_budget e.happening) (nat_le e.at to) (changes_at changes e.at) k.0 (is_in_time e.at to (omega arith)) l.1
 
 -- a change at a time is told of then
-pub tells_of : (changes : List BudgetChange) (t at : ℕ) (next : Option EventData) → next ≡ Some (told_at t) → changes_at changes t ≡ true → t ≤ at → tells changes at next ≡ true
+pub tells_of : (changes : List BudgetChange) (t at : ℕ) (next : Option EventData) → next ≡ Some (told_at t) → changes_at changes t ≡ true
+    → t ≤ at → tells changes at next ≡ true
 tells_of changes t at next is there le =
     ap (tells changes at) is ∙ and-true true (nat_le t at) (changes_at changes t) refl (is_in_time t at le) there
 
@@ -97,20 +103,26 @@ falls true true floor held h k = omega arith
 falls true false floor held h k = absurd (let e : false ≡ true = k refl in cc)
 falls false b floor held h k = either_less b floor held h
 
-pub counted_floor : (plan : Plan) (at p : ℕ) (s : Standing) → tells plan.forces at (slice_get (script_of plan p) s.taken) ≡ true → counted plan at p s ≡ floor_of (settings_of plan p)
-counted_floor plan at p s h = either_floor (tells plan.forces at (slice_get (script_of plan p) s.taken)) (floor_of (settings_of plan p)) (hold (settings_of plan p) s.state) h
+pub counted_floor : (plan : Plan) (at p : ℕ) (s : Standing) → tells plan.forces at (slice_get (script_of plan p) s.taken) ≡ true
+    → counted plan at p s ≡ floor_of (settings_of plan p)
+counted_floor plan at p s h = either_floor (tells plan.forces at (slice_get (script_of plan p) s.taken)) (floor_of (settings_of plan p))
+    (hold (settings_of plan p) s.state) h
 
-pub counted_hold : (plan : Plan) (at p : ℕ) (s : Standing) → tells plan.forces at (slice_get (script_of plan p) s.taken) ≡ false → counted plan at p s ≡ hold (settings_of plan p) s.state
-counted_hold plan at p s h = either_held (tells plan.forces at (slice_get (script_of plan p) s.taken)) (floor_of (settings_of plan p)) (hold (settings_of plan p) s.state) h
+pub counted_hold : (plan : Plan) (at p : ℕ) (s : Standing) → tells plan.forces at (slice_get (script_of plan p) s.taken) ≡ false
+    → counted plan at p s ≡ hold (settings_of plan p) s.state
+counted_hold plan at p s h = either_held (tells plan.forces at (slice_get (script_of plan p) s.taken)) (floor_of (settings_of plan p))
+    (hold (settings_of plan p) s.state) h
 
 -- no more counts than is held
 pub counted_less : (plan : Plan) (at p : ℕ) (s : Standing) → counted plan at p s ≤ hold (settings_of plan p) s.state
-counted_less plan at p s = either_less (tells plan.forces at (slice_get (script_of plan p) s.taken)) (floor_of (settings_of plan p)) (hold (settings_of plan p) s.state) (hold_floor (settings_of plan p) s.state)
+counted_less plan at p s = either_less (tells plan.forces at (slice_get (script_of plan p) s.taken)) (floor_of (settings_of plan p))
+    (hold (settings_of plan p) s.state) (hold_floor (settings_of plan p) s.state)
 
 -- and later no more
 pub counted_falls : (plan : Plan) (from to p : ℕ) (s : Standing) → from ≤ to → counted plan to p s ≤ counted plan from p s
 counted_falls plan from to p s le =
-    falls (tells plan.forces from (slice_get (script_of plan p) s.taken)) (tells plan.forces to (slice_get (script_of plan p) s.taken)) (floor_of (settings_of plan p)) (hold (settings_of plan p) s.state)
+    falls (tells plan.forces from (slice_get (script_of plan p) s.taken)) (tells plan.forces to (slice_get (script_of plan p) s.taken))
+    (floor_of (settings_of plan p)) (hold (settings_of plan p) s.state)
     (hold_floor (settings_of plan p) s.state) (tells_later plan.forces from to (slice_get (script_of plan p) s.taken) le)
 
 -- a floor of the list is the port's
@@ -134,7 +146,8 @@ sum-below (x ∷ xs) (y ∷ ys) len below =
     omega (arith, sum-cons x xs, sum-cons y ys)
 
 -- below one list before a place, and below another after it
-pub sum-parts : (p h : ℕ) (xs hs fs : List ℕ) → length xs ≡ length hs → length xs ≡ length fs → p < length xs → ((k : ℕ) → k < p → slice_index xs k ≤ slice_index hs k) → slice_index xs p ≤ h
+pub sum-parts : (p h : ℕ) (xs hs fs : List ℕ) → length xs ≡ length hs → length xs ≡ length fs → p < length xs
+    → ((k : ℕ) → k < p → slice_index xs k ≤ slice_index hs k) → slice_index xs p ≤ h
     → ((k : ℕ) → p < k → k < length xs → slice_index xs k ≤ slice_index fs k) → sum xs ≤ h + (sum (take p hs) + sum (drop (suc p) fs))
 sum-parts zero h (x ∷ xs) hs (f ∷ fs) a b lt low here high =
     let head : x ≤ h = here in
@@ -147,7 +160,8 @@ sum-parts zero h (x ∷ xs) hs (f ∷ fs) a b lt low here high =
       nothing (h ∷ hs) = refl
 sum-parts (suc p) h (x ∷ xs) (y ∷ hs) (f ∷ fs) a b lt low here high =
     let head : x ≤ y = low 0 (omega arith) in
-    let rest = sum-parts p h xs hs fs (omega arith) (omega arith) (omega arith) (λ k kp. low (suc k) (omega arith)) here (λ k pk kn. high (suc k) (omega arith) (omega arith)) in
+    let rest = sum-parts p h xs hs fs (omega arith) (omega arith) (omega arith) (λ k kp. low (suc k) (omega arith)) here
+    (λ k pk kn. high (suc k) (omega arith) (omega arith)) in
     omega (arith, sum-cons x xs, sum-cons y (take p hs))
 sum-parts p h [] hs fs a b lt low here high = absurd (omega arith)
 sum-parts p h (x ∷ xs) hs [] a b lt low here high = absurd (omega arith)

@@ -11,8 +11,10 @@ use Rattle.pd_run.proofs.Steps.{hold_known, length-holds_after}
 pub length-contract_powers : (plan : Plan) (past : List Move) → length (contract_powers plan past) ≡ count plan
 length-contract_powers plan past = length-map-range_with_len (λ p. contract_power (standing plan past p).state) 0 (count plan)
 
-power_known : (plan : Plan) (past : List Move) (p : ℕ) → p < count plan → slice_index (contract_powers plan past) p ≡ contract_power (standing plan past p).state
-power_known plan past p lt = get_or-map-range_with_len (λ k. contract_power (standing plan past k).state) 0 (count plan) p p 0 lt (omega arith)
+power_known : (plan : Plan) (past : List Move) (p : ℕ) → p < count plan
+    → slice_index (contract_powers plan past) p ≡ contract_power (standing plan past p).state
+power_known plan past p lt = get_or-map-range_with_len (λ k. contract_power (standing plan past k).state) 0 (count plan) p
+    p 0 lt (omega arith)
 
 -- each contract is within its port's hold, and so all are within all
 pub contracts_held : (plan : Plan) (past : List Move) → sum (contract_powers plan past) ≤ sum (holds_after plan past)

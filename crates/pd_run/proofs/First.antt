@@ -1,5 +1,6 @@
 -- The first due among the ports.
-use Rattle.std.proofs.Common.{◌≡◌, ◌⊎◌, ℕ, ◌+◌, ◌-◌, ◌<◌, ◌≤◌, zero, suc, Option, Some, None, refl, sym, ◌∙◌, ap, inl, inr, arith, subst, Bool, true, false, IsTrue, MatchOption}
+use Rattle.std.proofs.Common.{◌≡◌, ◌⊎◌, ℕ, ◌+◌, ◌-◌, ◌<◌, ◌≤◌, zero, suc, Option, Some, None, refl, sym, ◌∙◌, ap, inl, inr, arith}
+use Rattle.std.proofs.Common.{subst, Bool, true, false, IsTrue, MatchOption}
 use Rattle.std.specs.Prelude.{⊤}
 use Rattle.std.proofs.lemmas.Bool.{cases_lt}
 use Rattle.pd_port.specs.declared.due.Due.{Due}
@@ -72,12 +73,14 @@ keeps plan live n (Some r) h p =
     }
 
 -- what is after the end passes
-pub passes_late : (plan : Plan) (live : LiveData) (n : ℕ) (f : Due) (first : Option (ℕ × Due)) → IsSoFar plan live n first → plan.end < f.time → Passes plan f first
+pub passes_late : (plan : Plan) (live : LiveData) (n : ℕ) (f : Due) (first : Option (ℕ × Due)) → IsSoFar plan live n first
+    → plan.end < f.time → Passes plan f first
 passes_late plan live n f None h l = l
 passes_late plan live n f (Some r) h l = let s = h.soon in omega arith
 
 -- what is no sooner passes
-pub passes_no_sooner : (plan : Plan) (d : Due) (first : Option (ℕ × Due)) (b : Bool) → (IsSooner d.time first → IsTrue b) → b ≡ false → Passes plan d first
+pub passes_no_sooner : (plan : Plan) (d : Due) (first : Option (ℕ × Due)) (b : Bool) → (IsSooner d.time first → IsTrue b) → b ≡ false
+    → Passes plan d first
 passes_no_sooner plan d None b h n = absurd (let t : b ≡ true = h tt in let x : true ≡ false = sym t ∙ n in cc)
 passes_no_sooner plan d (Some r) b h n =
     elim (cases_lt d.time r.1.time) [
@@ -86,7 +89,8 @@ passes_no_sooner plan d (Some r) b h n =
     ]
 
 -- one due of a port passes, and so each that the port has
-pub passes_each : (plan : Plan) (live : LiveData) (n : ℕ) (first : Option (ℕ × Due)) (d : Due) → due_at plan live n ≡ Some d → Passes plan d first →
+pub passes_each : (plan : Plan) (live : LiveData) (n : ℕ) (first : Option (ℕ × Due)) (d : Due) → due_at plan live n ≡ Some d
+    → Passes plan d first →
     (f : Due) → due_at plan live n ≡ Some f → Passes plan f first
 passes_each plan live n first d e p f g =
     subst (λ (x : Due). Passes plan x first) (same_due plan live n n d f refl e g) p
@@ -100,7 +104,8 @@ pub none_so_far : (plan : Plan) (live : LiveData) → IsSoFar plan live 0 None
 none_so_far plan live = record { late = λ q f below g. absurd (omega arith) }
 
 -- the first due of all ports is the next one, its port numbered from 1
-pub first_is_next : (plan : Plan) (live : LiveData) (n p : ℕ) (d : Due) → count plan ≡ n → IsFirstOf plan live n p d → IsNext plan live (p + 1) d
+pub first_is_next : (plan : Plan) (live : LiveData) (n p : ℕ) (d : Due) → count plan ≡ n → IsFirstOf plan live n p d
+    → IsNext plan live (p + 1) d
 first_is_next plan live n p d e h =
     let q : p ≡ p + 1 - 1 = omega arith in
     let k : IsFirstOf plan live n (p + 1 - 1) d = subst (λ (x : ℕ). IsFirstOf plan live n x d) q h in

@@ -1,5 +1,6 @@
 -- Changes of the budget between two times.
-use Rattle.std.proofs.Common.{◌≡◌, ◌⊎◌, ℕ, zero, suc, ◌<◌, ◌≤◌, Bool, true, false, ◌&&◌, ◌||◌, ◌==◌, nat_le, if◌then◌else◌, List, [], ◌∷◌, length, slice_index_or, fold, Option, Some, None, refl, ap, ◌∙◌, inl, inr, arith}
+use Rattle.std.proofs.Common.{◌≡◌, ◌⊎◌, ℕ, zero, suc, ◌<◌, ◌≤◌, Bool, true, false, ◌&&◌, ◌||◌, ◌==◌, nat_le, if◌then◌else◌, List}
+use Rattle.std.proofs.Common.{[], ◌∷◌, length, slice_index_or, fold, Option, Some, None, refl, ap, ◌∙◌, inl, inr, arith}
 use Rattle.std.specs.Prelude.{Contains}
 use Rattle.std.proofs.lemmas.Bool.{cases_lt}
 use Rattle.std.proofs.lemmas.Bool.Decides.{nat_tests}
@@ -21,8 +22,10 @@ abbrev pub NoneIn : List BudgetChange → ℕ → ℕ → Type 0
 NoneIn [] from to = Unit {0}
 NoneIn (c ∷ cs) from to = ((c.at ≤ from) ⊎ (to < c.at)) × NoneIn cs from to
 
-with_first : (c : BudgetChange) (cs : List BudgetChange) (from to : ℕ) → (c.at ≤ from) ⊎ (to < c.at) → ChangeIn cs from to ⊎ NoneIn cs from to → ChangeIn (c ∷ cs) from to ⊎ NoneIn (c ∷ cs) from to
-with_first c cs from to h (inl i) = inl (record { change = i.change; one = there i.change c cs i.one; after = i.after; by_then = i.by_then })
+with_first : (c : BudgetChange) (cs : List BudgetChange) (from to : ℕ) → (c.at ≤ from) ⊎ (to < c.at) → ChangeIn cs from to
+    ⊎ NoneIn cs from to → ChangeIn (c ∷ cs) from to ⊎ NoneIn (c ∷ cs) from to
+with_first c cs from to h (inl i) =
+    inl (record { change = i.change; one = there i.change c cs i.one; after = i.after; by_then = i.by_then })
 with_first c cs from to h (inr n) = inr (h, n)
 
 pub change_or_none : (changes : List BudgetChange) (from to : ℕ) → ChangeIn changes from to ⊎ NoneIn changes from to
@@ -39,7 +42,8 @@ change_or_none (c ∷ cs) from to =
 same_test : (a from to : ℕ) → from ≤ to → (a ≤ from) ⊎ (to < a) → nat_le a from ≡ nat_le a to
 same_test a from to le h = grind (arith, nat_tests)
 
-same_last : (changes : List BudgetChange) (from to : ℕ) (last : Option BudgetChange) → from ≤ to → NoneIn changes from to → fold (with_change from) last changes ≡ fold (with_change to) last changes
+same_last : (changes : List BudgetChange) (from to : ℕ) (last : Option BudgetChange) → from ≤ to → NoneIn changes from to
+    → fold (with_change from) last changes ≡ fold (with_change to) last changes
 same_last [] from to last le h = refl
 same_last (c ∷ cs) from to last le h =
     ap (λ (b : Bool). fold (with_change from) (if b && is_later last c then Some c else last) cs) (same_test c.at from to le h.0)
@@ -61,7 +65,8 @@ pub record ChangeAt (changes : List BudgetChange) (at : ℕ) : Type 0 where
   pub one : Contains changes change
   pub is_then : change.at ≡ at
 
-by_first : (c : BudgetChange) (cs : List BudgetChange) (at : ℕ) (b : Bool) → (c.at == at) ≡ b → b || changes_at cs at ≡ true → (changes_at cs at ≡ true → ChangeAt cs at) → ChangeAt (c ∷ cs) at
+by_first : (c : BudgetChange) (cs : List BudgetChange) (at : ℕ) (b : Bool) → (c.at == at) ≡ b → b || changes_at cs at ≡ true
+    → (changes_at cs at ≡ true → ChangeAt cs at) → ChangeAt (c ∷ cs) at
 by_first c cs at true e h k = record { change = c; one = (zero, (omega arith), refl); is_then = grind (arith, nat_tests) }
 by_first c cs at false e h k = let i = k h in record { change = i.change; one = there i.change c cs i.one; is_then = i.is_then }
 
@@ -76,7 +81,8 @@ or-right false b h = h
 self_test : (a b : ℕ) (c : Bool) → a ≡ b → (a == b) || c ≡ true
 self_test a b c e = grind (arith, nat_tests)
 
-at_place : (changes : List BudgetChange) (change : BudgetChange) (k : ℕ) → k < length changes → slice_index_or changes k change ≡ change → changes_at changes change.at ≡ true
+at_place : (changes : List BudgetChange) (change : BudgetChange) (k : ℕ) → k < length changes → slice_index_or changes k change ≡ change
+    → changes_at changes change.at ≡ true
 at_place [] change k lt e = absurd (omega arith)
 at_place (c ∷ cs) change zero lt e = self_test c.at change.at (changes_at cs change.at) (ap (λ (x : BudgetChange). x.at) e)
 at_place (c ∷ cs) change (suc k) lt e = or-right (c.at == change.at) (changes_at cs change.at) (at_place cs change k (omega arith) e)

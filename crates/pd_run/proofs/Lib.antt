@@ -13,5 +13,5 @@ pub mod Sound
 pub mod Steps
 pub mod Passing
 pub mod Within
-pub mod Work
-pub mod Timetables
+pub mod StepsLeft
+pub mod Plans

@@ -7,7 +7,8 @@ use Rattle.pd_run.specs.Order.{EachAfter, IsNoLater}
 use Rattle.pd_run.specs.Run.{Move, Standing, standing_from, standing, moved, at_start, IsInOrder, NoneLater, due_after, due_from}
 
 -- where a port stands after one more move
-pub standing_from-push : (plan : Plan) (s : Standing) (ms : List Move) (m : Move) (p : ℕ) → standing_from plan s (ms ++ m ∷ []) p ≡ cond (eqb m.port p) (moved plan (standing_from plan s ms p) m) (standing_from plan s ms p)
+pub standing_from-push : (plan : Plan) (s : Standing) (ms : List Move) (m : Move) (p : ℕ)
+    → standing_from plan s (ms ++ m ∷ []) p ≡ cond (eqb m.port p) (moved plan (standing_from plan s ms p) m) (standing_from plan s ms p)
 standing_from-push plan s [] m p = refl
 standing_from-push plan s (x ∷ xs) m p = standing_from-push plan (cond (eqb x.port p) (moved plan s x) s) xs m p
 
@@ -18,23 +19,29 @@ if_other : {X : Type 0} (a b : ℕ) (x y : X) → a ≢ b → cond (eqb a b) x y
 if_other a b x y e = grind (arith, nat_tests)
 
 -- a move moves its own port
-pub standing-same : (plan : Plan) (past : List Move) (m : Move) (p : ℕ) → m.port ≡ p → standing plan (past ++ m ∷ []) p ≡ moved plan (standing plan past p) m
+pub standing-same : (plan : Plan) (past : List Move) (m : Move) (p : ℕ) → m.port ≡ p
+    → standing plan (past ++ m ∷ []) p ≡ moved plan (standing plan past p) m
 standing-same plan past m p e = standing_from-push plan (at_start plan p) past m p ∙ if_same _ _ _ _ e
 
 -- and no other
-pub standing-other : (plan : Plan) (past : List Move) (m : Move) (p : ℕ) → m.port ≢ p → standing plan (past ++ m ∷ []) p ≡ standing plan past p
+pub standing-other : (plan : Plan) (past : List Move) (m : Move) (p : ℕ) → m.port ≢ p
+    → standing plan (past ++ m ∷ []) p ≡ standing plan past p
 standing-other plan past m p e = standing_from-push plan (at_start plan p) past m p ∙ if_other _ _ _ _ e
 
-pub due_after-other : (plan : Plan) (past : List Move) (m : Move) (p : ℕ) → m.port ≢ p → due_after plan (past ++ m ∷ []) p ≡ due_after plan past p
+pub due_after-other : (plan : Plan) (past : List Move) (m : Move) (p : ℕ) → m.port ≢ p
+    → due_after plan (past ++ m ∷ []) p ≡ due_after plan past p
 due_after-other plan past m p e = ap (λ s. due_from plan s p) (standing-other plan past m p e)
 
 -- one more member
-pub EachAfter-push : {X : Type 0} (P : List X → X → Type 0) (past xs : List X) (x : X) → EachAfter P past xs → P (past ++ xs) x → EachAfter P past (xs ++ x ∷ [])
+pub EachAfter-push : {X : Type 0} (P : List X → X → Type 0) (past xs : List X) (x : X) → EachAfter P past xs → P (past ++ xs) x
+    → EachAfter P past (xs ++ x ∷ [])
 EachAfter-push {X} P past [] x h p = (subst (λ (l : List X). P l x) (append-nil past) p, tt)
-EachAfter-push {X} P past (y ∷ ys) x h p = (h.0, EachAfter-push P (past ++ y ∷ []) ys x h.1 (subst (λ (l : List X). P l x) (sym (append_assoc past (y ∷ []) ys)) p))
+EachAfter-push {X} P past (y ∷ ys) x h p =
+    (h.0, EachAfter-push P (past ++ y ∷ []) ys x h.1 (subst (λ (l : List X). P l x) (sym (append_assoc past (y ∷ []) ys)) p))
 
 -- a move among the earlier ones isn't later than the next
-pub in_order-member : (past more : List Move) (x m : Move) → IsInOrder ((past ++ x ∷ []) ++ more) m → IsNoLater x.due.time x.port m.due.time m.port
+pub in_order-member : (past more : List Move) (x m : Move) → IsInOrder ((past ++ x ∷ []) ++ more) m
+    → IsNoLater x.due.time x.port m.due.time m.port
 in_order-member [] more x m h = h.0
 in_order-member (y ∷ ys) more x m h = in_order-member ys more x m h.1
 
@@ -49,6 +56,7 @@ pub none_later-raise : (t p u q : ℕ) (moves : List Move) → IsNoLater t p u q
 none_later-raise t p u q [] le h = tt
 none_later-raise t p u q (m ∷ ms) le h = (no_later-trans _ _ _ _ _ _ h.0 le, none_later-raise t p u q ms le h.1)
 
-pub none_later-push : (t p : ℕ) (moves : List Move) (m : Move) → NoneLater t p moves → IsNoLater m.due.time m.port t p → NoneLater t p (moves ++ m ∷ [])
+pub none_later-push : (t p : ℕ) (moves : List Move) (m : Move) → NoneLater t p moves → IsNoLater m.due.time m.port t p
+    → NoneLater t p (moves ++ m ∷ [])
 none_later-push t p [] m h le = (le, tt)
 none_later-push t p (x ∷ xs) m h le = (h.0, none_later-push t p xs m h.1 le)

@@ -1,5 +1,7 @@
 -- What counts of what the ports hold, as time passes: the events that ports have had, and the changes that they are still to be told.
-use Rattle.std.proofs.Common.{◌≡◌, ◌≢◌, ⊎_elim, ◌⊎◌, ℕ, suc, ◌+◌, ◌<◌, ◌≤◌, Bool, true, false, nat_le, List, [], ◌∷◌, ◌++◌, length, sum, Option, Some, option_map, refl, ap, sym, ◌∙◌, subst, inl, inr, arith, append_assoc, slice_get, slice_index, slice_set, if◌then◌else◌}
+use Rattle.std.proofs.Common.{◌≡◌, ◌≢◌, ⊎_elim, ◌⊎◌, ℕ, suc, ◌+◌, ◌<◌, ◌≤◌, Bool, true, false, nat_le, List, [], ◌∷◌, ◌++◌, length}
+use Rattle.std.proofs.Common.{sum, Option, Some, option_map, refl, ap, sym, ◌∙◌, subst, inl, inr, arith, append_assoc, slice_get}
+use Rattle.std.proofs.Common.{slice_index, slice_set, if◌then◌else◌}
 use Rattle.std.specs.Prelude.{All, Contains}
 use Rattle.std.proofs.lemmas.List.{append-nil, get_or-set_same, get_or-set_other, length-set}
 use Rattle.std.proofs.lemmas.Bool.{cases_lt, cases_eq, cases_Bool}
@@ -24,7 +26,8 @@ use Rattle.pd_ledger.proofs.Sums.{sum-set}
 use Rattle.pd_scenario.specs.declared.budget.BudgetChange.{BudgetChange}
 use Rattle.pd_scenario.specs.Plan.{Plan, IsPlan, count, settings_of, script_of, floors_of, told_at, force}
 use Rattle.pd_run.specs.Order.{EachAfter, IsNoLater}
-use Rattle.pd_run.specs.Run.{Move, Run, Standing, standing, moved, after, taken_after, due_after, account_after, holds_after, GoesOn, IsInOrder, NoneLater, IsAnswered}
+use Rattle.pd_run.specs.Run.{Move, Run, Standing, standing, moved, after, taken_after, due_after, account_after, holds_after}
+use Rattle.pd_run.specs.Run.{GoesOn, IsInOrder, NoneLater, IsAnswered}
 use Rattle.pd_run.specs.Laws.{AreFloored, HoldsFit, ContractsFit, AtEnds, EndsBetween, IsWithin}
 use Rattle.pd_run.proofs.Moves.{standing-same, standing-other, none_later-raise}
 use Rattle.pd_run.proofs.OneRun.{Rest, tail, whole, first_first}
@@ -32,7 +35,8 @@ use Rattle.pd_run.proofs.Forces.{change_or_none, same_force, change_at, changes_
 use Rattle.pd_run.proofs.Scripts.{next_tells}
 use Rattle.pd_run.proofs.Steps.{table-set, hold_known, length-holds_after, some_event}
 use Rattle.pd_run.proofs.Contracts.{contracts_held}
-use Rattle.pd_run.proofs.Awaited.{tells, counted, all_counted, counted_at, length-all_counted, told_of, tells_of, counted_floor, counted_hold, counted_less, counted_falls, floor_at, length-floors, sum-below, sum-parts}
+use Rattle.pd_run.proofs.Awaited.{tells, counted, all_counted, counted_at, length-all_counted, told_of, tells_of, counted_floor}
+use Rattle.pd_run.proofs.Awaited.{counted_hold, counted_less, counted_falls, floor_at, length-floors, sum-below, sum-parts}
 
 -- no hold is below its floor
 pub floored : (plan : Plan) (past : List Move) → AreFloored plan past
@@ -44,7 +48,8 @@ floored_from plan past (m ∷ ms) = (floored plan (past ++ m ∷ []), floored_fr
 
 -- The events that the ports have had are no later than these moves.
 abbrev pub HaveHad : Plan → List Move → Type 0
-HaveHad plan past = (t p q i : ℕ) (e : EventData) → NoneLater t p past → i < (standing plan past q).taken → slice_get (script_of plan q) i ≡ Some e → IsNoLater e.at q t p
+HaveHad plan past = (t p q i : ℕ) (e : EventData) → NoneLater t p past → i < (standing plan past q).taken
+    → slice_get (script_of plan q) i ≡ Some e → IsNoLater e.at q t p
 
 -- none of the earlier moves, and not the last one
 pub split : (t p : ℕ) (past : List Move) (m : Move) → NoneLater t p (past ++ m ∷ []) → NoneLater t p past × IsNoLater m.due.time m.port t p
@@ -59,7 +64,8 @@ by_event true i n h = elim (below_next i n h) [ inl lt ↦ inl lt | inr e ↦ in
 by_event false i n h = inl h
 
 -- an event that a move uses up is at the move's time
-pub had_now : (plan : Plan) (past : List Move) (m : Move) (t p i : ℕ) (e : EventData) → GoesOn plan past m → IsNoLater m.due.time m.port t p → is_event m.due.what ≡ true → i ≡ (standing plan past m.port).taken →
+pub had_now : (plan : Plan) (past : List Move) (m : Move) (t p i : ℕ) (e : EventData) → GoesOn plan past m
+    → IsNoLater m.due.time m.port t p → is_event m.due.what ≡ true → i ≡ (standing plan past m.port).taken →
     slice_get (script_of plan m.port) i ≡ Some e → IsNoLater e.at m.port t p
 had_now plan past m t p i e goes le ev is get =
     let x = some_event m.due.what ev in
@@ -73,7 +79,8 @@ had_step plan past m had goes = λ t p q i e none lt get.
     let parts = split t p past m none in
     ⊎_elim
     (λ (same : m.port ≡ q).
-    let here : (standing plan (past ++ m ∷ []) q).taken ≡ taken_after (standing plan past q).taken m.due = ap (λ (s : Standing). s.taken) (standing-same plan past m q same) in
+    let here : (standing plan (past ++ m ∷ []) q).taken ≡ taken_after (standing plan past q).taken m.due =
+    ap (λ (s : Standing). s.taken) (standing-same plan past m q same) in
     let lt_here : i < taken_after (standing plan past q).taken m.due = omega (arith, here) in
     elim (by_event (is_event m.due.what) i (standing plan past q).taken lt_here) [
       | inl before ↦ had t p q i e parts.0 before get
@@ -83,7 +90,8 @@ had_step plan past m had goes = λ t p q i e none lt get.
           subst (λ k. IsNoLater e.at k t p) same (had_now plan past m t p i e goes parts.1 now.0 at_port got)
     ])
     (λ (other : m.port ≢ q).
-    let there : (standing plan (past ++ m ∷ []) q).taken ≡ (standing plan past q).taken = ap (λ (s : Standing). s.taken) (standing-other plan past m q other) in
+    let there : (standing plan (past ++ m ∷ []) q).taken ≡ (standing plan past q).taken =
+    ap (λ (s : Standing). s.taken) (standing-other plan past m q other) in
     had t p q i e parts.0 (omega (arith, there)) get)
     (cases_eq m.port q)
 
@@ -92,7 +100,8 @@ abbrev pub NothingBefore : Plan → List Move → ℕ → Type 0
 NothingBefore plan past at = (q : ℕ) (d : Due) → q < count plan → due_after plan past q ≡ Some d → at ≤ d.time
 
 -- and so no next event is
-pub no_event_before : (plan : Plan) (past : List Move) (at q : ℕ) → NothingBefore plan past at → q < count plan → (e : EventData) → slice_get (script_of plan q) (standing plan past q).taken ≡ Some e → at ≤ e.at
+pub no_event_before : (plan : Plan) (past : List Move) (at q : ℕ) → NothingBefore plan past at → q < count plan → (e : EventData)
+    → slice_get (script_of plan q) (standing plan past q).taken ≡ Some e → at ≤ e.at
 no_event_before plan past at q nothing lt e get =
     let f = due_some (standing plan past q).state e in
     let is_due : due_after plan past q ≡ Some f.0 = ap (due (standing plan past q).state) get ∙ f.1 in
@@ -101,19 +110,23 @@ no_event_before plan past at q nothing lt e get =
     omega arith
 
 -- Where the budget changes at t, a port whose events so far are earlier, and whose next event isn't, is told next.
-pub told_next : (n : ℕ) (plan : Plan) (past : List Move) (q : ℕ) (change : BudgetChange) → IsPlan n plan → q < count plan → Contains plan.forces change →
+pub told_next : (n : ℕ) (plan : Plan) (past : List Move) (q : ℕ) (change : BudgetChange) → IsPlan n plan → q < count plan
+    → Contains plan.forces change →
     ((i : ℕ) (e : EventData) → i < (standing plan past q).taken → slice_get (script_of plan q) i ≡ Some e → e.at < change.at) →
     ((e : EventData) → slice_get (script_of plan q) (standing plan past q).taken ≡ Some e → change.at ≤ e.at) →
     slice_get (script_of plan q) (standing plan past q).taken ≡ Some (told_at change.at)
 told_next n plan past q change is lt there had next =
-    next_tells (script_of plan q) (standing plan past q).taken change.at (is.in_order q) (is.told q (omega (arith, is.settings_count)) change there) had next
+    next_tells (script_of plan q) (standing plan past q).taken change.at (is.in_order q)
+    (is.told q (omega (arith, is.settings_count)) change there) had next
 
 -- what counts fits the budget of a time
 abbrev pub Counts : Plan → List Move → ℕ → Type 0
 Counts plan past at = sum (all_counted plan past at) ≤ force plan at
 
 -- where each port is still to be told, the floors count
-pub floors_count : (n : ℕ) (plan : Plan) (past : List Move) (at : ℕ) → IsPlan n plan → ((q : ℕ) → q < count plan → tells plan.forces at (slice_get (script_of plan q) (standing plan past q).taken) ≡ true) → Counts plan past at
+pub floors_count : (n : ℕ) (plan : Plan) (past : List Move) (at : ℕ) → IsPlan n plan
+    → ((q : ℕ) → q < count plan → tells plan.forces at (slice_get (script_of plan q) (standing plan past q).taken) ≡ true)
+    → Counts plan past at
 floors_count n plan past at is all =
     let below = sum-below (all_counted plan past at) (floors_of plan) (length-all_counted plan past at ∙ sym (length-floors plan))
     (λ k lt.
@@ -123,7 +136,8 @@ floors_count n plan past at is all =
     omega arith
 
 -- time passes while nothing is due: where the budget changes all are to be told of it, and else no more counts than before
-pub passes : (n : ℕ) (plan : Plan) (past : List Move) (from to : ℕ) → IsPlan n plan → HaveHad plan past → NoneLater from (count plan) past → from ≤ to → NothingBefore plan past to → Counts plan past from → Counts plan past to
+pub passes : (n : ℕ) (plan : Plan) (past : List Move) (from to : ℕ) → IsPlan n plan → HaveHad plan past → NoneLater from (count plan) past
+    → from ≤ to → NothingBefore plan past to → Counts plan past from → Counts plan past to
 passes n plan past from to is had none le nothing counts =
     elim (change_or_none plan.forces from to) [
       | inl c ↦
@@ -136,17 +150,26 @@ passes n plan past from to is had none le nothing counts =
           tells_of plan.forces c.change.at to _ next (changes_there plan.forces c.change c.one) since_then)
       | inr still ↦
           let same = same_force plan from to le still in
-          let below = sum-below (all_counted plan past to) (all_counted plan past from) (length-all_counted plan past to ∙ sym (length-all_counted plan past from))
+          let below = sum-below (all_counted plan past to) (all_counted plan past from) (length-all_counted plan past to
+          ∙ sym (length-all_counted plan past from))
           (λ k lt.
           let kn : k < count plan = omega (arith, length-all_counted plan past to) in
-          omega (arith, counted_at plan past to k kn, counted_at plan past from k kn, counted_falls plan from to k (standing plan past k) le)) in
+          omega (
+            arith,
+            counted_at plan past to k kn,
+            counted_at plan past from k kn,
+            counted_falls plan from to k (standing plan past k) le,
+          )) in
           omega arith
     ]
 
 -- once nothing is due up to a time, what is held counts
-pub all_held : (plan : Plan) (past : List Move) (at : ℕ) → ((q : ℕ) (d : Due) → q < count plan → due_after plan past q ≡ Some d → at < d.time) → Counts plan past at → sum (holds_after plan past) ≤ force plan at
+pub all_held : (plan : Plan) (past : List Move) (at : ℕ)
+    → ((q : ℕ) (d : Due) → q < count plan → due_after plan past q ≡ Some d → at < d.time) → Counts plan past at
+    → sum (holds_after plan past) ≤ force plan at
 all_held plan past at later counts =
-    let below = sum-below (holds_after plan past) (all_counted plan past at) (length-holds_after plan past ∙ sym (length-all_counted plan past at))
+    let below = sum-below (holds_after plan past) (all_counted plan past at) (length-holds_after plan past
+    ∙ sym (length-all_counted plan past at))
     (λ k lt.
     let kn : k < count plan = omega (arith, length-holds_after plan past) in
     let next = slice_get (script_of plan k) (standing plan past k).taken in

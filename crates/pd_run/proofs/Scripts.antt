@@ -11,14 +11,17 @@ abbrev pub IsSorted : List EventData → Type 0
 IsSorted script = (i : ℕ) (e f : EventData) → slice_get script i ≡ Some e → slice_get script (i + 1) ≡ Some f → ComesBefore e f
 
 no_later : (e f : EventData) → ComesBefore e f → e.at ≤ f.at
-no_later e f h = ⊎_elim (λ (before : e.at < f.at). omega arith) (λ (same : (e.at ≡ f.at) × (number_of e.happening < number_of f.happening)). omega (arith, same.0)) h
+no_later e f h = ⊎_elim (λ (before : e.at < f.at). omega arith)
+    (λ (same : (e.at ≡ f.at) × (number_of e.happening < number_of f.happening)). omega (arith, same.0)) h
 
 -- nothing comes before a change at its time
 before_change : (e : EventData) (t : ℕ) → ComesBefore e (told_at t) → e.at < t
-before_change e t h = ⊎_elim (λ (before : e.at < t). before) (λ (same : (e.at ≡ t) × (number_of e.happening < 0)). absurd (omega (arith, same.1))) h
+before_change e t h = ⊎_elim (λ (before : e.at < t). before)
+    (λ (same : (e.at ≡ t) × (number_of e.happening < 0)). absurd (omega (arith, same.1))) h
 
 -- so all that stands before a change is earlier
-all_earlier : (script : List EventData) (t j : ℕ) → IsSorted script → slice_get script j ≡ Some (told_at t) → (n i : ℕ) (e : EventData) → i + (n + 1) ≡ j → slice_get script i ≡ Some e → e.at < t
+all_earlier : (script : List EventData) (t j : ℕ) → IsSorted script → slice_get script j ≡ Some (told_at t) → (n i : ℕ) (e : EventData)
+    → i + (n + 1) ≡ j → slice_get script i ≡ Some e → e.at < t
 all_earlier script t j sorted at zero i e is get =
     let next : i + 1 ≡ j = omega arith in
     before_change e t (sorted i e (told_at t) get (ap (slice_get script) next ∙ at))
@@ -32,7 +35,8 @@ all_earlier script t j sorted at (suc n) i e is get =
 
 -- Where the budget changes at t, the events that a port has had are earlier, and its next one isn't, the next one tells of
 -- the change.
-pub next_tells : (script : List EventData) (taken t : ℕ) → IsSorted script → Contains script (told_at t) → ((i : ℕ) (e : EventData) → i < taken → slice_get script i ≡ Some e → e.at < t)
+pub next_tells : (script : List EventData) (taken t : ℕ) → IsSorted script → Contains script (told_at t)
+    → ((i : ℕ) (e : EventData) → i < taken → slice_get script i ≡ Some e → e.at < t)
     → ((e : EventData) → slice_get script taken ≡ Some e → t ≤ e.at) → slice_get script taken ≡ Some (told_at t)
 next_tells script taken t sorted there had next =
     let j = there.0 in

@@ -1,7 +1,10 @@
 -- What the ports, the events that they have had and the budget are after one more move.
-use Rattle.std.proofs.Common.{◌≡◌, ◌≢◌, ℕ, ◌+◌, ◌<◌, ◌≤◌, ⊎_elim, List, [], ◌∷◌, ◌++◌, length, map, max, Option, Some, option_map, true, refl, ap, sym, ◌∙◌, subst, arith, get_or, slice_index, slice_index_or, slice_set, slice_get, set, replicate}
+use Rattle.std.proofs.Common.{◌≡◌, ◌≢◌, ℕ, ◌+◌, ◌<◌, ◌≤◌, ⊎_elim, List, [], ◌∷◌, ◌++◌, length, map, max, Option, Some, option_map}
+use Rattle.std.proofs.Common.{true, refl, ap, sym, ◌∙◌, subst, arith, get_or, slice_index, slice_index_or, slice_set, slice_get}
+use Rattle.std.proofs.Common.{set, replicate}
 use Rattle.std.specs.List.{range_with_len}
-use Rattle.std.proofs.lemmas.List.{length-map, length-replicate, get_or-replicate, get_or_default, get_or-set_same, get_or-set_other, length-set, same_lists}
+use Rattle.std.proofs.lemmas.List.{length-map, length-replicate, get_or-replicate, get_or_default, get_or-set_same}
+use Rattle.std.proofs.lemmas.List.{get_or-set_other, length-set, same_lists}
 use Rattle.std.proofs.Math.ListN as list_map
 use Rattle.std.proofs.lemmas.Option.{slice_get_within}
 use Rattle.std.proofs.lemmas.List.FromFn.{get_or-map-range_with_len, length-map-range_with_len}
@@ -20,11 +23,13 @@ use Rattle.pd_ledger.proofs.Offers.{answer-allowed}
 use Rattle.pd_scenario.specs.Plan.{Plan, IsPlan, count, settings_of, script_of, floors_of, force, no_settings}
 use Rattle.pd_run.specs.Run.{Move, Standing, standing, moved, after, taken_after, due_after, account_after, holds_after, reply_after}
 use Rattle.pd_run.specs.Start.{start_of, no_port}
-use Rattle.pd_run.specs.Live.{LiveData, RunsTo, Stands, IsFirst, IsNext, at_budget, due_at, next_move, port_at, port_after, reply_at, moved_port}
+use Rattle.pd_run.specs.Live.{LiveData, RunsTo, StandsAfter, IsFirst, IsNext, at_budget, due_at, next_move, port_at, port_after}
+use Rattle.pd_run.specs.Live.{reply_at, moved_port}
 use Rattle.pd_run.proofs.Moves.{standing-same, standing-other}
 
 -- a table with one entry changed
-pub table-set : {X : Type 0} (f g : ℕ → X) (n p : ℕ) (y : X) → p < n → ((k : ℕ) → k ≢ p → g k ≡ f k) → g p ≡ y → set (map f (range_with_len 0 n)) p y ≡ map g (range_with_len 0 n)
+pub table-set : {X : Type 0} (f g : ℕ → X) (n p : ℕ) (y : X) → p < n → ((k : ℕ) → k ≢ p → g k ≡ f k) → g p ≡ y
+    → set (map f (range_with_len 0 n)) p y ≡ map g (range_with_len 0 n)
 table-set {X} f g n p y lt others here =
     let fs = length-map-range_with_len f 0 n in
     let gs = length-map-range_with_len g 0 n in
@@ -37,38 +42,49 @@ table-set {X} f g n p y lt others here =
     (λ (same : k ≡ p).
     let inside : p < length xs = omega arith in
     ap (λ i. get_or (set xs p y) i d) same ∙ get_or-set_same xs p y d inside ∙ sym here ∙ sym (at_g ∙ ap g same))
-    (λ (other : k ≢ p). get_or-set_other xs p k y d other ∙ get_or-map-range_with_len f 0 n k k d kn (omega arith) ∙ sym (others k other) ∙ sym at_g)
+    (λ (other : k ≢ p). get_or-set_other xs p k y d other ∙ get_or-map-range_with_len f 0 n k k d kn (omega arith)
+    ∙ sym (others k other) ∙ sym at_g)
     (cases_eq k p))
 
 -- what is due by the ports is what is due after the moves
-pub due_known : (plan : Plan) (past : List Move) (live : LiveData) (p : ℕ) → Stands plan past live → p < count plan → due_at plan live p ≡ due_after plan past p
+pub due_known : (plan : Plan) (past : List Move) (live : LiveData) (p : ℕ) → StandsAfter plan past live → p < count plan
+    → due_at plan live p ≡ due_after plan past p
 due_known plan past live p s lt =
     ap (λ (x : PortData). due x.«record» (slice_get (script_of plan p) (slice_index live.taken p))) (s.ports_are p lt)
     ∙ ap (λ t. due (standing plan past p).state (slice_get (script_of plan p) t)) (s.taken_are p lt)
 
 -- the budget's hold is the port's
-pub hold_known : (plan : Plan) (past : List Move) (p : ℕ) → p < count plan → slice_index (holds_after plan past) p ≡ hold (settings_of plan p) (standing plan past p).state
-hold_known plan past p lt = get_or-map-range_with_len (λ k. hold (settings_of plan k) (standing plan past k).state) 0 (count plan) p p 0 lt (omega arith)
+pub hold_known : (plan : Plan) (past : List Move) (p : ℕ) → p < count plan
+    → slice_index (holds_after plan past) p ≡ hold (settings_of plan p) (standing plan past p).state
+hold_known plan past p lt = get_or-map-range_with_len (λ k. hold (settings_of plan k) (standing plan past k).state) 0 (count plan) p
+    p 0 lt (omega arith)
 
 pub length-holds_after : (plan : Plan) (past : List Move) → length (holds_after plan past) ≡ count plan
 length-holds_after plan past = length-map-range_with_len (λ k. hold (settings_of plan k) (standing plan past k).state) 0 (count plan)
 
 -- the shared budget, as these moves leave it at a time
-pub account_known : (plan : Plan) (past : List Move) (live : LiveData) (at : ℕ) → Stands plan past live → live.account.budget ≡ force plan at → live.account ≡ account_after plan past at
+pub account_known : (plan : Plan) (past : List Move) (live : LiveData) (at : ℕ) → StandsAfter plan past live
+    → live.account.budget ≡ force plan at → live.account ≡ account_after plan past at
 account_known plan past live at s budget_is = λ i. record { budget = budget_is i; floors = s.floors_are i; holds = s.holds_are i }
 
 -- the hold after a move is no more than was free, or than it was
-pub hold_after-fits : (plan : Plan) (past : List Move) (live : LiveData) (p : ℕ) (d : Due) → Stands plan past live → live.account.budget ≡ force plan d.time → p < count plan →
+pub hold_after-fits : (plan : Plan) (past : List Move) (live : LiveData) (p : ℕ) (d : Due) → StandsAfter plan past live
+    → live.account.budget ≡ force plan d.time → p < count plan →
     hold (settings_of plan p) (after plan (next_move plan past p d)) ≤ max (free_of live.account p) (slice_index live.account.holds p)
 hold_after-fits plan past live p d s budget_is lt =
     let account = account_after plan past d.time in
-    let fits = hold_fits (settings_of plan p) (standing plan past p).state d (reply_after plan past d.time p (ask (settings_of plan p) (standing plan past p).state d)) (free_of account p) (answer-allowed account p _) in
-    let known : hold (settings_of plan p) (after plan (next_move plan past p d)) ≤ max (free_of account p) (slice_index account.holds p) = omega (arith, hold_known plan past p lt, fits) in
-    subst (λ (l : Account). hold (settings_of plan p) (after plan (next_move plan past p d)) ≤ max (free_of l p) (slice_index l.holds p)) (sym (account_known plan past live d.time s budget_is)) known
+    let fits = hold_fits (settings_of plan p) (standing plan past p).state d
+    (reply_after plan past d.time p (ask (settings_of plan p) (standing plan past p).state d)) (free_of account p)
+    (answer-allowed account p _) in
+    let known : hold (settings_of plan p) (after plan (next_move plan past p d)) ≤ max (free_of account p) (slice_index account.holds p) =
+    omega (arith, hold_known plan past p lt, fits) in
+    subst (λ (l : Account). hold (settings_of plan p) (after plan (next_move plan past p d)) ≤ max (free_of l p) (slice_index l.holds p))
+    (sym (account_known plan past live d.time s budget_is)) known
 
 -- with another budget all of it stands
-pub Stands-budget : (plan : Plan) (past : List Move) (live : LiveData) (budget : ℕ) → Stands plan past live → Stands plan past (at_budget live budget)
-Stands-budget plan past live budget s = record {
+pub StandsAfter-budget : (plan : Plan) (past : List Move) (live : LiveData) (budget : ℕ) → StandsAfter plan past live
+    → StandsAfter plan past (at_budget live budget)
+StandsAfter-budget plan past live budget s = record {
   runs = s.runs;
   ports_count = s.ports_count;
   taken_count = s.taken_count;
@@ -79,35 +95,51 @@ Stands-budget plan past live budget s = record {
 }
 
 -- and the same port is the next
-pub IsNext-budget : (plan : Plan) (live : LiveData) (port : ℕ) (d : Due) (budget : ℕ) → IsNext plan live port d → IsNext plan (at_budget live budget) port d
+pub IsNext-budget : (plan : Plan) (live : LiveData) (port : ℕ) (d : Due) (budget : ℕ) → IsNext plan live port d
+    → IsNext plan (at_budget live budget) port d
 IsNext-budget plan live port d budget h = record {
   from_one = h.from_one;
   first = record { known = h.first.known; is_due = h.first.is_due; soon = h.first.soon; least = h.first.least };
 }
 
 -- all of it after one more move
-pub Stands-step : (plan : Plan) (past : List Move) (live : LiveData) (p : ℕ) (d : Due) (port : PortData) (more : List ℕ) (h : ℕ) → Stands plan past live → RunsTo plan (past ++ next_move plan past p d ∷ []) → p < count plan
-    → port ≡ port_after plan (past ++ next_move plan past p d ∷ []) p → length more ≡ length live.taken → slice_index more p ≡ taken_after (slice_index live.taken p) d → ((k : ℕ) → k ≢ p → slice_index more k ≡ slice_index live.taken k)
-    → h ≡ hold (settings_of plan p) (after plan (next_move plan past p d)) → Stands plan (past ++ next_move plan past p d ∷ []) (record { ports = slice_set live.ports p port; taken = more; account = record live.account { holds = slice_set live.account.holds p h } })
-Stands-step plan past live p d port more h s runs lt port_is counted at_p at_others h_is =
+pub StandsAfter-step : (plan : Plan) (past : List Move) (live : LiveData) (p : ℕ) (d : Due) (port : PortData) (more : List ℕ) (h : ℕ)
+    → StandsAfter plan past live → RunsTo plan (past ++ next_move plan past p d ∷ []) → p < count plan
+    → port ≡ port_after plan (past ++ next_move plan past p d ∷ []) p → length more ≡ length live.taken
+    → slice_index more p ≡ taken_after (slice_index live.taken p) d → ((k : ℕ) → k ≢ p → slice_index more k ≡ slice_index live.taken k)
+    → h ≡ hold (settings_of plan p) (after plan (next_move plan past p d))
+    → StandsAfter plan (past ++ next_move plan past p d ∷ [])
+    (record {
+      ports = slice_set live.ports p port;
+      taken = more;
+      account =
+          record live.account { holds = slice_set live.account.holds p h };
+    })
+StandsAfter-step plan past live p d port more h s runs lt port_is counted at_p at_others h_is =
     let m : Move = next_move plan past p d in
     let ports : List PortData = live.ports in
     let here : standing plan (past ++ m ∷ []) p ≡ moved plan (standing plan past p) m = standing-same plan past m p refl in
-    let others : (k : ℕ) → k ≢ p → standing plan (past ++ m ∷ []) k ≡ standing plan past k = λ k ne. standing-other plan past m k (λ e. ne (sym e)) in
+    let others : (k : ℕ) → k ≢ p → standing plan (past ++ m ∷ []) k ≡ standing plan past k =
+    λ k ne. standing-other plan past m k (λ e. ne (sym e)) in
     let inside : p < length ports = omega (arith, s.ports_count) in
-    let holds : slice_set (holds_after plan past) p h ≡ holds_after plan (past ++ m ∷ []) = table-set _ _ (count plan) p h lt (λ k ne. ap (λ (x : Standing). hold (settings_of plan k) x.state) (others k ne)) (ap (λ (x : Standing). hold (settings_of plan p) x.state) here ∙ sym h_is) in
+    let holds : slice_set (holds_after plan past) p h ≡ holds_after plan (past ++ m ∷ []) =
+    table-set _ _ (count plan) p h lt (λ k ne. ap (λ (x : Standing). hold (settings_of plan k) x.state) (others k ne))
+    (ap (λ (x : Standing). hold (settings_of plan p) x.state) here ∙ sym h_is) in
     record {
       runs = runs;
       ports_count = length-set ports p port ∙ s.ports_count;
       taken_count = counted ∙ s.taken_count;
       ports_are = λ k kn.
           ⊎_elim
-          (λ (same : k ≡ p). ap (λ i. get_or (set ports p port) i no_port) same ∙ get_or-set_same ports p port no_port inside ∙ port_is ∙ ap (λ i. port_after plan (past ++ m ∷ []) i) (sym same))
-          (λ (other : k ≢ p). get_or-set_other ports p k port no_port other ∙ s.ports_are k kn ∙ ap (λ (x : Standing). record { settings = settings_of plan k; «record» = x.state }) (sym (others k other)))
+          (λ (same : k ≡ p). ap (λ i. get_or (set ports p port) i no_port) same ∙ get_or-set_same ports p port no_port inside ∙ port_is
+          ∙ ap (λ i. port_after plan (past ++ m ∷ []) i) (sym same))
+          (λ (other : k ≢ p). get_or-set_other ports p k port no_port other ∙ s.ports_are k kn
+          ∙ ap (λ (x : Standing). record { settings = settings_of plan k; «record» = x.state }) (sym (others k other)))
           (cases_eq k p);
       taken_are = λ k kn.
           ⊎_elim
-          (λ (same : k ≡ p). ap (slice_index more) same ∙ at_p ∙ ap (λ t. taken_after t d) (s.taken_are p lt) ∙ ap (λ (x : Standing). x.taken) (sym here) ∙ ap (λ i. (standing plan (past ++ m ∷ []) i).taken) (sym same))
+          (λ (same : k ≡ p). ap (slice_index more) same ∙ at_p ∙ ap (λ t. taken_after t d) (s.taken_are p lt)
+          ∙ ap (λ (x : Standing). x.taken) (sym here) ∙ ap (λ i. (standing plan (past ++ m ∷ []) i).taken) (sym same))
           (λ (other : k ≢ p). at_others k other ∙ s.taken_are k kn ∙ ap (λ (x : Standing). x.taken) (sym (others k other)))
           (cases_eq k p);
       floors_are = s.floors_are;
@@ -115,7 +147,8 @@ Stands-step plan past live p d port more h s runs lt port_is counted at_p at_oth
     }
 
 -- a floor of the account is the port's
-pub floor_known : (plan : Plan) (past : List Move) (live : LiveData) (p : ℕ) → Stands plan past live → slice_index live.account.floors p ≡ floor_of (settings_of plan p)
+pub floor_known : (plan : Plan) (past : List Move) (live : LiveData) (p : ℕ) → StandsAfter plan past live
+    → slice_index live.account.floors p ≡ floor_of (settings_of plan p)
 floor_known plan past live p s = ap (λ hs. slice_index hs p) s.floors_are ∙ list_map.get_or-map floor_of plan.settings p no_settings
 
 -- an event that falls due is the next one
@@ -125,7 +158,8 @@ some_event what.Line h = cc
 some_event (what.Timer side timer) h = cc
 
 -- a script isn't used up where an event falls due
-pub taken_few : (n : ℕ) (plan : Plan) (live : LiveData) (p : ℕ) (d : Due) → IsPlan n plan → p < n → due_at plan live p ≡ Some d → is_event d.what ≡ true → slice_index live.taken p < 4096
+pub taken_few : (n : ℕ) (plan : Plan) (live : LiveData) (p : ℕ) (d : Due) → IsPlan n plan → p < n → due_at plan live p ≡ Some d
+    → is_event d.what ≡ true → slice_index live.taken p < 4096
 taken_few n plan live p d is lt du ev =
     let e = some_event d.what ev in
     let next = due_event _ _ d e.0 du e.1 in
@@ -137,14 +171,23 @@ pub taken_read : (taken : List ℕ) (p t : ℕ) → p < length taken → t ≡ s
 taken_read taken p t lt e = get_or_default taken p 0 t lt ∙ sym e
 
 -- at the start
-pub Stands-start : (n : ℕ) (plan : Plan) (ports : List PortData) (taken : List ℕ) → RunsTo plan [] → IsPlan n plan → ports ≡ map start_of plan.settings → taken ≡ replicate n 0 → Stands plan [] (record { ports = ports; taken = taken; account = record { budget = plan.budget; floors = floors_of plan; holds = floors_of plan } })
-Stands-start n plan ports taken runs is ports_is taken_is =
+pub StandsAfter-start : (n : ℕ) (plan : Plan) (ports : List PortData) (taken : List ℕ) → RunsTo plan [] → IsPlan n plan
+    → ports ≡ map start_of plan.settings → taken ≡ replicate n 0
+    → StandsAfter plan [] (record {
+      ports = ports;
+      taken = taken;
+      account =
+          record { budget = plan.budget; floors = floors_of plan; holds = floors_of plan };
+    })
+StandsAfter-start n plan ports taken runs is ports_is taken_is =
     let holds : floors_of plan ≡ holds_after plan [] =
     same_lists (floors_of plan) (holds_after plan []) (length-map plan.settings floor_of ∙ sym (length-holds_after plan []))
     (λ k d h.
     let kn : k < count plan = omega (arith, length-map plan.settings floor_of) in
     let here : get_or (floors_of plan) k 0 ≡ floor_of (settings_of plan k) = list_map.get_or-map floor_of plan.settings k no_settings in
-    get_or_default (floors_of plan) k d 0 h ∙ here ∙ sym (hold_detached (settings_of plan k)) ∙ sym (get_or-map-range_with_len (λ i. hold (settings_of plan i) (detached (settings_of plan i))) 0 (count plan) k k d kn (omega arith))) in
+    get_or_default (floors_of plan) k d 0 h ∙ here ∙ sym (hold_detached (settings_of plan k))
+    ∙ sym (get_or-map-range_with_len (λ i. hold (settings_of plan i) (detached (settings_of plan i))) 0 (count plan) k k d
+    kn (omega arith))) in
     record {
       runs = runs;
       ports_count = ap length ports_is ∙ length-map plan.settings start_of;
@@ -156,29 +199,44 @@ Stands-start n plan ports taken runs is ports_is taken_is =
     }
 
 -- the answer by the ports is the answer after the moves
-pub reply_known : (plan : Plan) (past : List Move) (live : LiveData) (p : ℕ) (d : Due) → Stands plan past live → live.account.budget ≡ force plan d.time → p < count plan → reply_at live p d ≡ (next_move plan past p d).answer
+pub reply_known : (plan : Plan) (past : List Move) (live : LiveData) (p : ℕ) (d : Due) → StandsAfter plan past live
+    → live.account.budget ≡ force plan d.time → p < count plan → reply_at live p d ≡ (next_move plan past p d).answer
 reply_known plan past live p d s budget_is lt =
     ap (λ (x : PortData). option_map (answer_of live.account p) (ask x.settings x.«record» d)) (s.ports_are p lt)
-    ∙ ap (λ (l : Account). option_map (answer_of l p) (ask (settings_of plan p) (standing plan past p).state d)) (account_known plan past live d.time s budget_is)
+    ∙ ap (λ (l : Account). option_map (answer_of l p) (ask (settings_of plan p) (standing plan past p).state d))
+    (account_known plan past live d.time s budget_is)
 
 -- the port as its move leaves it, by the moves
-pub moved_known : (plan : Plan) (past : List Move) (live : LiveData) (p : ℕ) (d : Due) → Stands plan past live → live.account.budget ≡ force plan d.time → p < count plan → moved_port live p d ≡ port_after plan (past ++ next_move plan past p d ∷ []) p
+pub moved_known : (plan : Plan) (past : List Move) (live : LiveData) (p : ℕ) (d : Due) → StandsAfter plan past live
+    → live.account.budget ≡ force plan d.time → p < count plan
+    → moved_port live p d ≡ port_after plan (past ++ next_move plan past p d ∷ []) p
 moved_known plan past live p d s budget_is lt =
-    ap (λ (x : PortData). record { settings = x.settings; «record» = record_after x.settings x.«record» d (reply_at live p d) }) (s.ports_are p lt)
-    ∙ ap (λ (a : Option Answer). record { settings = settings_of plan p; «record» = record_after (settings_of plan p) (standing plan past p).state d a }) (reply_known plan past live p d s budget_is lt)
-    ∙ ap (λ (x : Standing). record { settings = settings_of plan p; «record» = x.state }) (sym (standing-same plan past (next_move plan past p d) p refl))
+    ap (λ (x : PortData). record { settings = x.settings; «record» = record_after x.settings x.«record» d (reply_at live p d) })
+    (s.ports_are p lt)
+    ∙ ap (λ (a : Option Answer). record {
+      settings = settings_of plan p;
+      «record» =
+          record_after (settings_of plan p) (standing plan past p).state d a;
+    }) (reply_known plan past live p d s budget_is lt)
+    ∙ ap (λ (x : Standing). record { settings = settings_of plan p; «record» = x.state })
+    (sym (standing-same plan past (next_move plan past p d) p refl))
 
 -- its hold
-pub moved_hold : (plan : Plan) (past : List Move) (p : ℕ) (d : Due) (x : PortData) → x ≡ port_after plan (past ++ next_move plan past p d ∷ []) p → hold x.settings x.«record» ≡ hold (settings_of plan p) (after plan (next_move plan past p d))
+pub moved_hold : (plan : Plan) (past : List Move) (p : ℕ) (d : Due) (x : PortData)
+    → x ≡ port_after plan (past ++ next_move plan past p d ∷ []) p
+    → hold x.settings x.«record» ≡ hold (settings_of plan p) (after plan (next_move plan past p d))
 moved_hold plan past p d x e =
-    ap (λ (z : PortData). hold z.settings z.«record») e ∙ ap (λ (z : Standing). hold (settings_of plan p) z.state) (standing-same plan past (next_move plan past p d) p refl)
+    ap (λ (z : PortData). hold z.settings z.«record») e
+    ∙ ap (λ (z : Standing). hold (settings_of plan p) z.state) (standing-same plan past (next_move plan past p d) p refl)
 
 -- the same port, numbered from 1
 pub next_of_first : (plan : Plan) (live : LiveData) (p : ℕ) (d : Due) → IsFirst plan live p d → IsNext plan live (p + 1) d
 next_of_first plan live p d h = record { from_one = omega arith; first = subst (λ k. IsFirst plan live k d) (omega arith) h }
 
 -- the entry that a port leaves, by the moves
-pub entry_known : (plan : Plan) (past : List Move) (live : LiveData) (p : ℕ) (d : Due) (x : PortData) (a : Option Answer) → Stands plan past live → live.account.budget ≡ force plan d.time → p < count plan → x ≡ port_at live p → a ≡ reply_at live p d → entry_of x.settings x.«record» d a ≡ (next_move plan past p d).entry
+pub entry_known : (plan : Plan) (past : List Move) (live : LiveData) (p : ℕ) (d : Due) (x : PortData) (a : Option Answer)
+    → StandsAfter plan past live → live.account.budget ≡ force plan d.time → p < count plan → x ≡ port_at live p → a ≡ reply_at live p d
+    → entry_of x.settings x.«record» d a ≡ (next_move plan past p d).entry
 entry_known plan past live p d x a s budget_is lt x_is a_is =
     ap (λ (z : PortData). entry_of z.settings z.«record» d a) (x_is ∙ s.ports_are p lt)
     ∙ ap (entry_of (settings_of plan p) (standing plan past p).state d) (a_is ∙ reply_known plan past live p d s budget_is lt)

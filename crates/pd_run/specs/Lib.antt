@@ -6,4 +6,4 @@ pub mod Sheds
 pub mod Shown
 pub mod Sound
 pub mod Start
-pub mod Work
+pub mod StepsLeft

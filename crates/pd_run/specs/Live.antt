@@ -1,5 +1,6 @@
 -- Ports that move.
-use Rattle.std.specs.Prelude.{◌≡◌, ℕ, ◌-◌, ◌<◌, ◌≤◌, List, [], length, slice_index, slice_index_or, slice_get, Option, None, Some, option_map}
+use Rattle.std.specs.Prelude.{◌≡◌, ℕ, ◌-◌, ◌<◌, ◌≤◌, List, [], length, slice_index, slice_index_or, slice_get, Option, None, Some}
+use Rattle.std.specs.Prelude.{option_map}
 use Rattle.pd_objects.specs.declared.query.Answer.{Answer}
 use Rattle.pd_port.specs.declared.due.Due.{Due}
 use Rattle.pd_port.specs.Port.{PortData, due, ask, entry_of, record_after}
@@ -38,7 +39,7 @@ pub record RunsTo (plan : Plan) (moves : List Move) : Type 0 where
 
 -- these moves are a run as far as it has come, and the ports, the events that they have had and what they hold are as these
 -- moves leave them
-pub record Stands (plan : Plan) (past : List Move) (live : LiveData) : Type 0 where
+pub record StandsAfter (plan : Plan) (past : List Move) (live : LiveData) : Type 0 where
   pub runs : RunsTo plan past
   pub ports_count : length live.ports ≡ count plan
   pub taken_count : length live.taken ≡ count plan
@@ -58,7 +59,8 @@ next_move plan past p d = record {
   before = (standing plan past p).state;
   due = d;
   answer = reply_after plan past d.time p (ask (settings_of plan p) (standing plan past p).state d);
-  entry = entry_of (settings_of plan p) (standing plan past p).state d (reply_after plan past d.time p (ask (settings_of plan p) (standing plan past p).state d));
+  entry = entry_of (settings_of plan p) (standing plan past p).state d
+      (reply_after plan past d.time p (ask (settings_of plan p) (standing plan past p).state d));
 }
 
 -- among the ports below n, the due of this port is the first one, and not after the end

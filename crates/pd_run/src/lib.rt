@@ -4,10 +4,10 @@
 pub mod laws;
 mod live;
 mod plain;
+mod plan;
 mod runner;
-mod timetable;
 
 pub use live::Live;
 pub use plain::Plain;
+pub use plan::Plan;
 pub use runner::Runner;
-pub use timetable::Timetable;

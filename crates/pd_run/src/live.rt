@@ -1,15 +1,17 @@
 //! Ports that move.
 
-ghost use Rattle.std.specs.Prelude.{◌≡◌, ℕ, ◌+◌, ◌-◌, ◌<◌, ◌≤◌, ◌∷◌, ◌++◌, ◌↔◌, List, [], IfOk, IfSome, IfNone, MatchOption, IsTrue, ⊤, option_map};
+ghost use Rattle.std.specs.Prelude.{◌≡◌, ℕ, ◌+◌, ◌-◌, ◌<◌, ◌≤◌, ◌∷◌, ◌++◌, ◌↔◌, List, []};
+ghost use Rattle.std.specs.Prelude.{IfOk, IfSome, IfNone, MatchOption, IsTrue, ⊤, option_map};
 ghost use Rattle.pd_port.specs.Port.{is_event};
 ghost use Rattle.pd_ledger.specs.Offer.{answer_of};
-ghost use Rattle.pd_scenario.specs.Plan.{Plan, IsPlan, count, force};
+ghost use Rattle.pd_scenario.specs.Plan.{IsPlan, count, force};
 ghost use Rattle.pd_run.specs.Run.{Move, NoneLater};
-ghost use Rattle.pd_run.specs.Live.{LiveData, Stands, IsSoFar, IsNext, IsOver, at_budget, due_at, next_move, port_at, reply_at, moved_port};
+ghost use Rattle.pd_run.specs.Live.{LiveData, StandsAfter, IsSoFar, IsNext, IsOver, at_budget, due_at, next_move, port_at};
+ghost use Rattle.pd_run.specs.Live.{reply_at, moved_port};
 ghost use Rattle.pd_run.specs.Shown.{SafeRun};
-ghost use Rattle.pd_run.specs.Work.{work};
+ghost use Rattle.pd_run.specs.StepsLeft.{steps_left};
 
-use crate::Timetable;
+use crate::Plan;
 use pd_ledger::Ledger;
 use pd_objects::{Answer, Query};
 use pd_port::{Due, Port, What};
@@ -39,8 +41,8 @@ impl<const N: usize> Live<N> {
     ///
     /// # Errors
     /// There is no memory.
-    pub fn new(alloc: Global, plan: &Timetable<N>) -> Result<Live<N>, AllocError>
-        ensures { IfOk result (λ live. Stands plan.now [] live) }
+    pub fn new(alloc: Global, plan: &Plan<N>) -> Result<Live<N>, AllocError>
+        ensures { IfOk result (λ live. StandsAfter plan.now [] live) }
     {
         let floors = plan.floors(alloc)?;
         Ok(Live {
@@ -51,10 +53,13 @@ impl<const N: usize> Live<N> {
     }
 
     /// The port that moves next, with what falls due on it, if that isn't after the end. Where nothing is, the run is whole.
-    pub fn next(&self, plan: &Timetable<N>) -> Option<(usize, Due)>
-        ensures next { MatchOption result ((past : List Move) → Stands plan.now past self.now → SafeRun plan.now past) (λ r. IsNext plan.now self.now r.0 r.1) }
+    pub fn next(&self, plan: &Plan<N>) -> Option<(usize, Due)>
+        ensures next { MatchOption result
+            ((past : List Move) → StandsAfter plan.now past self.now → SafeRun plan.now past)
+            (λ r. IsNext plan.now self.now r.0 r.1) }
         ensures over { IfNone result (IsOver plan.now self.now (count plan.now)) }
-        ensures in_order { IfSome result (λ r. (past : List Move) → Stands plan.now past self.now → NoneLater r.1.time (r.0 - 1) past) }
+        ensures in_order { IfSome result (λ r. (past : List Move) → StandsAfter plan.now past self.now
+            → NoneLater r.1.time (r.0 - 1) past) }
         ensures is_plan { IsPlan N plan.now }
     {
         let (port, due) = self.first(plan)?;
@@ -71,15 +76,16 @@ impl<const N: usize> Live<N> {
     }
 
     /// The answer to what a port asks at a due. From now on the shared budget is that of the due's time.
-    pub fn reply(&mut self, plan: &Timetable<N>, port: usize, due: &Due) -> Option<Answer>
+    pub fn reply(&mut self, plan: &Plan<N>, port: usize, due: &Due) -> Option<Answer>
         requires first { 1 ≤ port }
         requires last { port ≤ N }
-        requires stands { (past : List Move) × Stands plan.now past self.old }
+        requires stands { (past : List Move) × StandsAfter plan.now past self.old }
         ensures answer { result ≡ reply_at self.new (port - 1) due.now }
         ensures budget { self.new ≡ at_budget self.old (force plan.now due.now.time) }
-        ensures stands { (past : List Move) → Stands plan.now past self.old → Stands plan.now past self.new }
+        ensures stands { (past : List Move) → StandsAfter plan.now past self.old → StandsAfter plan.now past self.new }
         ensures next { IsNext plan.now self.old port due.now → IsNext plan.now self.new port due.now }
-        ensures known { (past : List Move) → Stands plan.now past self.old → result ≡ (next_move plan.now past (port - 1) due.now).answer }
+        ensures known { (past : List Move) → StandsAfter plan.now past self.old
+            → result ≡ (next_move plan.now past (port - 1) due.now).answer }
     {
         let budget = plan.force(due.time);
         self.ledger.set_budget(budget);
@@ -88,15 +94,15 @@ impl<const N: usize> Live<N> {
     }
 
     /// Puts the port that moves next to where its move for what falls due has left it.
-    pub fn settle(&mut self, plan: &Timetable<N>, port: usize, due: &Due, after: Port)
+    pub fn settle(&mut self, plan: &Plan<N>, port: usize, due: &Due, after: Port)
         requires plan { IsPlan N plan.now }
-        requires stands { (past : List Move) × Stands plan.now past self.old }
+        requires stands { (past : List Move) × StandsAfter plan.now past self.old }
         requires next { IsNext plan.now self.old port due.now }
         requires budget { self.old.account.budget ≡ force plan.now due.now.time }
         requires after { after ≡ moved_port self.old (port - 1) due.now }
-        ensures stands { (past : List Move) → Stands plan.now past self.old
-            → Stands plan.now (past ++ next_move plan.now past (port - 1) due.now ∷ []) self.new }
-        ensures less { work plan.now self.new < work plan.now self.old }
+        ensures stands { (past : List Move) → StandsAfter plan.now past self.old
+            → StandsAfter plan.now (past ++ next_move plan.now past (port - 1) due.now ∷ []) self.new }
+        ensures less { steps_left plan.now self.new < steps_left plan.now self.old }
     {
         let hold = after.hold();
         self.ports[port - 1] = after;
@@ -107,7 +113,7 @@ impl<const N: usize> Live<N> {
     }
 
     // Like `next`, with the ports numbered from 0.
-    fn first(&self, plan: &Timetable<N>) -> Option<(usize, Due)>
+    fn first(&self, plan: &Plan<N>) -> Option<(usize, Due)>
         ensures first { IsSoFar plan.now self.now N result }
         ensures is_plan { IsPlan N plan.now }
     {
@@ -122,7 +128,7 @@ impl<const N: usize> Live<N> {
     // The first due with one more port.
     fn with_port(
         &self,
-        plan: &Timetable<N>,
+        plan: &Plan<N>,
         port: usize,
         first: Option<(usize, Due)>,
     ) -> Option<(usize, Due)>
@@ -143,7 +149,7 @@ impl<const N: usize> Live<N> {
         first
     }
 
-    fn due(&self, plan: &Timetable<N>, port: usize) -> Option<Due>
+    fn due(&self, plan: &Plan<N>, port: usize) -> Option<Due>
         requires { port < N }
         ensures { result ≡ due_at plan.now self.now port }
     {

@@ -5,7 +5,7 @@ ghost use Rattle.pd_port.specs.Meter.{raised};
 ghost use Rattle.pd_scenario.specs.Plans.{plan_of};
 ghost use Rattle.pd_run.specs.Shown.{Shows, IsShown};
 
-use crate::{Live, Runner, Timetable};
+use crate::{Live, Plan, Runner};
 use pd_port::{Entry, Meter};
 use pd_scenario::Scenario;
 use std::alloc::{AllocError, Global};
@@ -14,7 +14,7 @@ use std::marker::Model;
 /// A runner that runs each plan from its start.
 #[derive(Drop)]
 pub struct Plain<const N: usize> {
-    plan: Option<Timetable<N>>,
+    plan: Option<Plan<N>>,
     entries: Vec<(usize, Entry)>,
 }
 
@@ -53,7 +53,7 @@ impl<const N: usize> Runner<N> for Plain<N> {
         ensures rises { meter.old ≤ meter.new }
         ensures cost { OnOk result (meter.new ≡ raised meter.old (length self.new.entries)) }
     {
-        let plan = Timetable::of_scenario(alloc, scenario)?;
+        let plan = Plan::of_scenario(alloc, scenario)?;
         let entries = run(alloc, &plan, meter)?;
         let _end = plan.end();
         self.entries = entries;
@@ -75,7 +75,7 @@ impl<const N: usize> Runner<N> for Plain<N> {
 // Runs a plan from its start: its ports and entries in turn, with a step of the meter for each.
 fn run<const N: usize>(
     alloc: Global,
-    plan: &Timetable<N>,
+    plan: &Plan<N>,
     meter: &mut Meter,
 ) -> Result<Vec<(usize, Entry)>, AllocError>
     ensures run { IfOk result (λ entries. Shows plan.now entries.items) }

@@ -23,7 +23,7 @@ pub trait Runner<const N: usize> {
         ensures plan { plan result ≡ None }
         ensures entries { entries result ≡ [] };
 
-    /// Stands for this scenario's run from now on. The meter rises by the steps that are taken.
+    /// StandsAfter for this scenario's run from now on. The meter rises by the steps that are taken.
     ///
     /// # Errors
     /// There is no memory. The runner stands for what it stood for; the meter may have risen.

@@ -3,8 +3,8 @@ use Rattle.std.proofs.lemmas.List.{map-append}
 use Rattle.std.proofs.lemmas.List.Elements.{All-push}
 use Rattle.pd_port.specs.Port.{PortData}
 use Rattle.pd_run.specs.Run.{Move}
-use Rattle.pd_run.specs.Live.{LiveData, Stands, next_move, port_after, moved_port}
-use Rattle.pd_run.specs.Work.{work}
+use Rattle.pd_run.specs.Live.{LiveData, StandsAfter, next_move, port_after, moved_port}
+use Rattle.pd_run.specs.StepsLeft.{steps_left}
 use Rattle.pd_keep.specs.declared.kept_move.KeptMove.{KeptMove}
 use Rattle.pd_keep.specs.Kept.{move_of, kept_of, IsOwn}
 use Rattle.pd_keep.proofs.Fresh.{fresh_step}
@@ -26,12 +26,15 @@ settle-requires g c =
     let next = c.reply-answer.ensures.next c.in-Some.ensures.next in
     let budget = ap (λ (l : LiveData). l.account.budget) c.reply-answer.ensures.budget in
     let after : c.copy.result ≡ moved_port live (c.in-Some.port - 1) c.in-Some.due =
-    c.copy.ensures ∙ ap (λ (k : KeptMove). k.after) c.make-made.ensures.made ∙ kept_is_moved live (c.in-Some.port - 1) c.in-Some.port c.port.result.now c.in-Some.due c.reply-answer.result c.port.ensures c.reply-answer.ensures.answer in
+    c.copy.ensures ∙ ap (λ (k : KeptMove). k.after) c.make-made.ensures.made
+    ∙ kept_is_moved live (c.in-Some.port - 1) c.in-Some.port c.port.result.now c.in-Some.due c.reply-answer.result c.port.ensures
+    c.reply-answer.ensures.answer in
     (omega arith, (omega arith, (c.in-Some.ensures.is_plan, ((map move_of c.loop-port.moves.items, stands), (next, (budget, after))))))
 
 pub loop-port-smaller : goal.loop-port-smaller
 loop-port-smaller g c =
-    let same : work c.args.plan.now c.reply-answer.new.self ≡ work c.args.plan.now c.loop-port.live = ap (work c.args.plan.now) c.reply-answer.ensures.budget in
+    let same : steps_left c.args.plan.now c.reply-answer.new.self ≡ steps_left c.args.plan.now c.loop-port.live =
+    ap (steps_left c.args.plan.now) c.reply-answer.ensures.budget in
     omega (arith, c.settle.ensures.less)
 
 pub loop-port-preserved : goal.loop-port-preserved
@@ -44,7 +47,7 @@ loop-port-preserved g c =
     let p = c.in-Some.port in
     let d = c.in-Some.due in
     let next = c.in-Some.ensures.next in
-    let stands : Stands plan moves live = c.reply-answer.ensures.stands moves i.stands in
+    let stands : StandsAfter plan moves live = c.reply-answer.ensures.stands moves i.stands in
     let x : PortData = c.port.result.now in
     let a = c.reply-answer.result in
     let x_is : x ≡ port_after plan moves (p - 1) = c.port.ensures ∙ stands.ports_are (p - 1) next.first.known in
@@ -53,14 +56,17 @@ loop-port-preserved g c =
     let made : c.make-made.result ≡ k = c.make-made.ensures.made in
     let pushed : c.push.new.self.items ≡ kept ++ k ∷ [] = c.in_ok-push.ensures.items ∙ ap (λ (z : KeptMove). kept ++ z ∷ []) made in
     let is_next : move_of k ≡ next_move plan moves (p - 1) d = kept_is_next plan moves p x d a x_is a_is in
-    let to_moves : map move_of c.push.new.self.items ≡ moves ++ move_of k ∷ [] = ap (map move_of) pushed ∙ map-append move_of kept (k ∷ []) in
+    let to_moves : map move_of c.push.new.self.items ≡ moves ++ move_of k ∷ [] = ap (map move_of) pushed
+    ∙ map-append move_of kept (k ∷ []) in
     let own : IsOwn plan k = kept_is_own plan moves p x d a next.from_one x_is in
-    let after : Stands plan (moves ++ next_move plan moves (p - 1) d ∷ []) c.settle.new.self = c.settle.ensures.stands moves stands in
+    let after : StandsAfter plan (moves ++ next_move plan moves (p - 1) d ∷ []) c.settle.new.self = c.settle.ensures.stands moves stands in
     rw to_moves (record {
-      stands = subst (λ (m : Move). Stands plan (moves ++ m ∷ []) c.settle.new.self) (sym is_next) after;
+      stands = subst (λ (m : Move). StandsAfter plan (moves ++ m ∷ []) c.settle.new.self) (sym is_next) after;
       within = c.skip-from.ensures.within;
-      passed = λ t q h. before_later c.args.old.now c.skip-from.result d.time t c.skip-from.ensures.before (none_later-last t q moves (move_of k) h);
+      passed = λ t q h. before_later c.args.old.now c.skip-from.result d.time t c.skip-from.ensures.before
+          (none_later-last t q moves (move_of k) h);
       own = rw pushed (All-push (IsOwn plan) kept k i.own own);
       rises = omega (arith, i.rises, c.make-made.ensures.rises);
-      cost = λ old_plan old_own. fresh_step old_plan plan c.args.old.now moves p x d a _ _ _ next.from_one old_own own.settings c.make-made.ensures.charges (i.cost old_plan old_own);
+      cost = λ old_plan old_own. fresh_step old_plan plan c.args.old.now moves p x d a _ _ _ next.from_one old_own own.settings
+          c.make-made.ensures.charges (i.cost old_plan old_own);
     })

@@ -2,21 +2,22 @@ use Rattle.std.proofs.Common.{◌≡◌, ℕ, map, length, All, ◌≤◌}
 use Rattle.pd_port.specs.Meter.{raised}
 use Rattle.pd_scenario.specs.Plan.{Plan}
 use Rattle.pd_run.specs.Run.{NoneLater}
-use Rattle.pd_run.specs.Live.{Stands}
-use Rattle.pd_run.specs.Work.{work}
+use Rattle.pd_run.specs.Live.{StandsAfter}
+use Rattle.pd_run.specs.StepsLeft.{steps_left}
 use Rattle.pd_keep.specs.Kept.{move_of, IsOwn, AreBefore}
 use Rattle.pd_keep.specs.Fresh.{AreFresh}
 use Rattle.pd_keep.proofs.rerun.rerun.Given as goal
 
 abbrev pub invariant-loop-port : goal.invariant-loop-port
 invariant-loop-port g l = record {
-  stands : Stands l.plan (map move_of l.moves.items) l.live;
+  stands : StandsAfter l.plan (map move_of l.moves.items) l.live;
   within : l.from ≤ length l.old;
   passed : (t p : ℕ) → NoneLater t p (map move_of l.moves.items) → AreBefore l.old l.from t;
   own : All (IsOwn l.plan) l.moves.items;
   rises : l.fn.meter ≤ l.meter;
-  cost : (old_plan : Plan) → All (IsOwn old_plan) l.old → (n : ℕ) × AreFresh old_plan (map move_of l.old) l.plan (map move_of l.moves.items) n × (l.meter ≡ raised l.fn.meter n);
+  cost : (old_plan : Plan) → All (IsOwn old_plan) l.old → (n : ℕ)
+      × AreFresh old_plan (map move_of l.old) l.plan (map move_of l.moves.items) n × (l.meter ≡ raised l.fn.meter n);
 }
 
 abbrev pub decreases-loop-port : goal.decreases-loop-port
-decreases-loop-port g l = work l.plan l.live
+decreases-loop-port g l = steps_left l.plan l.live

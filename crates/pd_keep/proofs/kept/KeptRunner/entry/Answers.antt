@@ -12,8 +12,10 @@ returns-clause-entry g c =
     let xs : List KeptMove = c.deref.result.now in
     let k : KeptMove = c.in_ok-kept.kept.now in
     let here : slice_get xs c.args.i ≡ Some k = slice_get_read xs (length xs) c.args.i k refl found.3.0 found.1 in
-    let there : slice_get c.self.inside.moves.items c.args.i ≡ Some k = ap (λ (l : List KeptMove). slice_get l c.args.i) (sym c.deref.ensures.value) ∙ here in
+    let there : slice_get c.self.inside.moves.items c.args.i ≡ Some k =
+    ap (λ (l : List KeptMove). slice_get l c.args.i) (sym c.deref.ensures.value) ∙ here in
     let inside : c.args.i < length c.self.inside.moves.items = omega (arith, ap length c.deref.ensures.value, found.3.0) in
-    let one = keeps_from_one g.row.N c.self.inside.plan c.self.inside.moves.items c.args.i k c.self.invariant inside (ap (λ (l : List KeptMove). get_or l c.args.i k) (sym c.deref.ensures.value) ∙ sym (found.3.1 k)) in
+    let one = keeps_from_one g.row.N c.self.inside.plan c.self.inside.moves.items c.args.i k c.self.invariant inside
+    (ap (λ (l : List KeptMove). get_or l c.args.i k) (sym c.deref.ensures.value) ∙ sym (found.3.1 k)) in
     let port : k.port ≡ k.port - 1 + 1 = omega arith in
     ap (λ (q : ℕ). Some (q, k.entry)) port ∙ rw (← c.self.view_is, slice_get-map shown, slice_get-map move_of, there) refl

@@ -13,9 +13,11 @@ pub returns-clause-cost : goal.returns-clause-cost
 returns-clause-cost g c =
     let moves : List Move = map move_of c.in_ok-moves.moves.items in
     let kept : List KeptMove = c.self.inside.moves.items in
-    let charge = charged g.row.N c.self.inside.plan kept c.in_ok-plan.plan moves c.args.meter.now c.rerun.new.meter c.self.invariant (rw c.as_slice.ensures.value at c.in_ok-moves.ensures.cost) in
+    let charge = charged g.row.N c.self.inside.plan kept c.in_ok-plan.plan moves c.args.meter.now c.rerun.new.meter c.self.invariant
+    (rw c.as_slice.ensures.value at c.in_ok-moves.ensures.cost) in
     rw (← c.self.view_is)
-    (subst (λ (p : Plan). (n : ℕ) × FreshBeside c.self.inside.plan (map move_of kept) p moves n × (c.rerun.new.meter ≡ raised c.args.meter.now n)) c.in_ok-plan.ensures charge)
+    (subst (λ (p : Plan). (n : ℕ) × FreshBeside c.self.inside.plan (map move_of kept) p moves n
+    × (c.rerun.new.meter ≡ raised c.args.meter.now n)) c.in_ok-plan.ensures charge)
 
 pub rerun-requires : goal.rerun-requires
 rerun-requires g c =

@@ -11,7 +11,8 @@ invariant_of-self g c =
     let least = subst (λ (v : Account). slice_index v.floors (c.args.port - 1) ≤ c.args.hold) (sym c.self.view_is) c.requires.least in
     let held = get_or-take g.row.N c.self.inside.holds (c.args.port - 1) 0 lt in
     rw take-set-lt
-    (IsLedger-set g.row.N c.self.inside.budget (c.args.port - 1) c.args.hold c.self.inside.total _ _ (take g.row.N c.self.inside.holds) c.self.invariant lt least c.ranges.hold.fits
+    (IsLedger-set g.row.N c.self.inside.budget (c.args.port - 1) c.args.hold c.self.inside.total _ _ (take g.row.N c.self.inside.holds)
+    c.self.invariant lt least c.ranges.hold.fits
     (omega (arith, held, c.from.ensures, c.from-2.ensures)))
 
 pub returns : goal.returns

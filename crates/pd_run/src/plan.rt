@@ -2,7 +2,7 @@
 
 ghost use Rattle.std.specs.Prelude.{◌≡◌, ℕ, ◌+◌, ◌-◌, ◌<◌, ◌≤◌, slice_get, map, All, IfOk};
 ghost use Rattle.std.specs.Option.{option_copied};
-ghost use Rattle.pd_scenario.specs.Plan.{Plan, IsPlan, settings_of, script_of, floors_of, force};
+ghost use Rattle.pd_scenario.specs.Plan.{IsPlan, settings_of, script_of, floors_of, force};
 ghost use Rattle.pd_scenario.specs.Plans.{plan_of};
 ghost use Rattle.pd_run.specs.Start.{start_of};
 
@@ -14,7 +14,7 @@ use std::marker::Model;
 
 /// What a scenario asks of each of N ports, 1 to 8, the shared budget with its changes, and the end. Ports are numbered from 1.
 #[derive(Drop)]
-pub struct Timetable<const N: usize> {
+pub struct Plan<const N: usize> {
     settings: Vec<Settings>,
     scripts: Vec<Vec<Event>>,
     budget: u64,
@@ -22,29 +22,41 @@ pub struct Timetable<const N: usize> {
     end: u64,
 }
 
-impl<const N: usize> Model for Timetable<N> {
+impl<const N: usize> Model for Plan<N> {
     ghost use Rattle.std.specs.Prelude.{map};
-    ghost use Rattle.pd_scenario.specs.Plan.{Plan, IsPlan};
+    ghost use Rattle.pd_scenario.specs.Plan.{Plan as PlanData, IsPlan};
 
-    ghost Value = { Plan };
+    ghost Value = { PlanData };
 
-    ghost view = { λ t. record { settings = t.settings.items; scripts = map (λ v. v.items) t.scripts.items; budget = t.budget; forces = t.forces.items; end = t.end } };
+    ghost view = { λ t. record {
+      settings = t.settings.items;
+      scripts = map (λ v. v.items) t.scripts.items;
+      budget = t.budget;
+      forces = t.forces.items;
+      end = t.end;
+    } };
 
-    ghost invariant = { λ t. IsPlan N (record { settings = t.settings.items; scripts = map (λ v. v.items) t.scripts.items; budget = t.budget; forces = t.forces.items; end = t.end }) };
+    ghost invariant = { λ t. IsPlan N (record {
+      settings = t.settings.items;
+      scripts = map (λ v. v.items) t.scripts.items;
+      budget = t.budget;
+      forces = t.forces.items;
+      end = t.end;
+    }) };
 }
 
-impl<const N: usize> Timetable<N> {
+impl<const N: usize> Plan<N> {
     /// What a scenario asks.
     ///
     /// # Errors
     /// There is no memory.
-    pub fn of_scenario(alloc: Global, scenario: &Scenario<N>) -> Result<Timetable<N>, AllocError>
-        ensures { IfOk result (λ timetable. timetable ≡ plan_of scenario.now) }
+    pub fn of_scenario(alloc: Global, scenario: &Scenario<N>) -> Result<Plan<N>, AllocError>
+        ensures { IfOk result (λ plan. plan ≡ plan_of scenario.now) }
     {
         let settings = settings_of(alloc, scenario)?;
         let scripts = scripts_of(alloc, scenario)?;
         let forces = scenario.forces(alloc)?;
-        Ok(Timetable {
+        Ok(Plan {
             settings,
             scripts,
             budget: scenario.budget(),

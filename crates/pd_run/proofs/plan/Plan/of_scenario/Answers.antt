@@ -1,6 +1,6 @@
 use Rattle.pd_scenario.specs.Plans.{plan_of}
-use Rattle.pd_run.proofs.Timetables.{IsPlan-again}
-use Rattle.pd_run.proofs.timetable.Timetable.of_scenario.Goals as goal
+use Rattle.pd_run.proofs.Plans.{IsPlan-again}
+use Rattle.pd_run.proofs.plan.Plan.of_scenario.Goals as goal
 
 pub invariant_of-result : goal.invariant_of-result
 invariant_of-result g c =

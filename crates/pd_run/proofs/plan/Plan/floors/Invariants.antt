@@ -1,6 +1,6 @@
 use Rattle.std.proofs.Common.{◌≡◌, ◌≤◌, map, take, All}
 use Rattle.pd_setup.specs.Settings.{floor_of}
-use Rattle.pd_run.proofs.timetable.Timetable.floors.Given as goal
+use Rattle.pd_run.proofs.plan.Plan.floors.Given as goal
 
 abbrev pub invariant-loop-settings : goal.invariant-loop-settings
 invariant-loop-settings g l = record {
