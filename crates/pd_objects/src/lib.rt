@@ -16,7 +16,7 @@ pub use fixed_supply::{FixedSupply, SupplyFlags};
 pub use query::{Answer, Query};
 pub use request_object::{RequestFlags, RequestObject};
 pub use sink_supply::SinkSupply;
-pub use supply::Supply;
+pub use supply::{Supply, same_supplies};
 pub use word::field;
 
 #[cfg(test)]

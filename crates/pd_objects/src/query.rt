@@ -4,6 +4,7 @@ ghost use Rattle.std.specs.Prelude.{◌≡◌, ◌↔◌, IsTrue};
 
 use crate::Supply;
 use arrayvec::ArrayVec;
+use pd_symbols::copied;
 
 /// What a port asks of the shared budget before a step.
 #[derive(Drop)]
@@ -31,10 +32,8 @@ impl Query {
     {
         match self {
             Query::Offer { supplies, limit_ma } => {
-                let mut copy = ArrayVec::new();
-                let _fits = copy.try_extend_from_slice(supplies.as_slice());
                 Query::Offer {
-                    supplies: copy,
+                    supplies: copied(supplies.as_slice()),
                     limit_ma: *limit_ma,
                 }
             }
@@ -59,11 +58,7 @@ impl Answer {
         ensures { result ≡ self.now }
     {
         match self {
-            Answer::Offer(currents) => {
-                let mut copy = ArrayVec::new();
-                let _fits = copy.try_extend_from_slice(currents.as_slice());
-                Answer::Offer(copy)
-            }
+            Answer::Offer(currents) => { Answer::Offer(copied(currents.as_slice())) }
             Answer::Fits(fits) => Answer::Fits(*fits),
         }
     }

@@ -58,6 +58,19 @@ impl Supply {
     }
 }
 
+/// Whether both lists have the same supplies in the same order.
+pub fn same_supplies(supplies: &[Supply], others: &[Supply]) -> bool
+    ensures { IsTrue result ↔ (supplies.now ≡ others.now) }
+{
+    match (supplies, others) {
+        ([], []) => true,
+        ([supply, supplies @ ..], [other, others @ ..]) => {
+            supply.same(other) && same_supplies(supplies, others)
+        }
+        _ => false,
+    }
+}
+
 // What a list of a fixed capacity fills its free places with.
 impl Default for Supply {
     ghost is_default = { λ s. s ≡ record { mv = 5000; ma = 10 } };

@@ -6,7 +6,7 @@ ghost use Rattle.pd_protocol.specs.Messages.{IsMessage, MessageData, acknowledge
 use arrayvec::ArrayVec;
 use pd_header::{Header, Side, header_id};
 use pd_packet::Packet;
-use pd_symbols::Channel;
+use pd_symbols::{Channel, copied};
 use std::marker::Model;
 
 /// What a side sends: its type, 0 to 31, and at most seven objects.
@@ -64,13 +64,9 @@ impl Message {
     pub fn copy(&self) -> Message
         ensures { result ≡ self.now }
     {
-        let mut objects = ArrayVec::<u32, 7>::new();
-        objects
-            .try_extend_from_slice(self.objects.as_slice())
-            .unwrap();
         Message {
             kind: self.kind,
-            objects,
+            objects: copied(self.objects.as_slice()),
         }
     }
 

@@ -4,7 +4,8 @@ ghost use Rattle.std.specs.Prelude.{◌≡◌, ℕ, ◌↔◌, IsTrue};
 ghost use Rattle.pd_setup.specs.Settings.{SettingsData, IsSettings};
 
 use arrayvec::ArrayVec;
-use pd_objects::Supply;
+use pd_objects::{Supply, same_supplies};
+use pd_symbols::copied;
 use std::marker::Model;
 
 /// What a port is set to: its floor in mW, 500 to 100,000; 1 to 7 supplies, the first of 5 V and the voltages rising;
@@ -92,27 +93,11 @@ impl Settings {
     pub fn copy(&self) -> Settings
         ensures { result ≡ self.now }
     {
-        let mut supplies = ArrayVec::<Supply, 7>::new();
-        supplies
-            .try_extend_from_slice(self.supplies.as_slice())
-            .unwrap();
         Settings {
             floor_mw: self.floor_mw,
-            supplies,
+            supplies: copied(self.supplies.as_slice()),
             identity_tries: self.identity_tries,
             unconstrained: self.unconstrained,
         }
-    }
-}
-
-fn same_supplies(supplies: &[Supply], others: &[Supply]) -> bool
-    ensures { IsTrue result ↔ (supplies.now ≡ others.now) }
-{
-    match (supplies, others) {
-        ([], []) => true,
-        ([supply, supplies @ ..], [other, others @ ..]) => {
-            supply.same(other) && same_supplies(supplies, others)
-        }
-        _ => false,
     }
 }
