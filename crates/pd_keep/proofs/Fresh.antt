@@ -59,7 +59,7 @@ repeated_from old_plan plan old p x d a own settings has =
     )
 
 make_port : SettingsData → PortRecord → PortData
-make_port s r = record { settings = s; «record» = r }
+make_port s r = record { settings = s; port_record = r }
 
 -- and wherever it has it
 pub repeated_to : (old_plan plan : Plan) (old : List KeptMove) (p : ℕ) (x : PortData) (d : Due) (a : Option Answer) → 1 ≤ p
@@ -78,12 +78,12 @@ repeated_to old_plan plan old p x d a one own settings has =
     let is_own : IsOwn old_plan y = own k kept lt in
     let at : y.port - 1 ≡ o.port = ap (λ (m : Move). m.port) there in
     let port : y.port ≡ p = omega (arith, at, is_same.port, is_own.from_one, one) in
-    let state : y.before.«record» ≡ x.«record» = ap (λ (m : Move). m.before) there ∙ is_same.before in
+    let state : y.before.port_record ≡ x.port_record = ap (λ (m : Move). m.before) there ∙ is_same.before in
     let due : y.due ≡ d = ap (λ (m : Move). m.due) there ∙ is_same.due in
     let answer : y.answer ≡ a = ap (λ (m : Move). m.answer) there ∙ is_same.answer in
     let set : y.before.settings ≡ x.settings = is_own.settings ∙ ap (settings_of old_plan) at ∙ is_same.settings ∙ sym settings in
-    let before : make_port y.before.settings y.before.«record» ≡ make_port x.settings x.«record» =
-    ap (λ z. make_port z y.before.«record») set ∙ ap (make_port x.settings) state in
+    let before : make_port y.before.settings y.before.port_record ≡ make_port x.settings x.port_record =
+    ap (λ z. make_port z y.before.port_record) set ∙ ap (make_port x.settings) state in
     let here : y ≡ kept = is_own.made ∙ ap (λ q. kept_of q y.before y.due y.answer) port
     ∙ ap (λ (z : PortData). kept_of p z y.due y.answer) before ∙ ap (λ (e : Due). kept_of p x e y.answer) due
     ∙ ap (kept_of p x d) answer in

@@ -29,8 +29,8 @@ kept_is_moved live p q x d a x_is a_is =
 
 -- a move that was made of the same is the same
 pub kept_same : (k : KeptMove) (p : ℕ) (x : PortData) (d : Due) (a : Option Answer) → IsMade k → k.port ≡ p → k.due ≡ d → k.answer ≡ a
-    → k.before.settings ≡ x.settings → k.before.«record» ≡ x.«record» → k ≡ kept_of p x d a
+    → k.before.settings ≡ x.settings → k.before.port_record ≡ x.port_record → k ≡ kept_of p x d a
 kept_same k p x d a made port due answer settings state =
-    let before : k.before ≡ x = λ i. record { settings = settings i; «record» = state i } in
+    let before : k.before ≡ x = λ i. record { settings = settings i; port_record = state i } in
     made ∙ ap (λ q. kept_of q k.before k.due k.answer) port ∙ ap (λ (z : PortData). kept_of p z k.due k.answer) before
     ∙ ap (λ (e : Due). kept_of p x e k.answer) due ∙ ap (kept_of p x d) answer

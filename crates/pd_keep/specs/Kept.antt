@@ -15,8 +15,8 @@ kept_of p x d a = record {
   before = x;
   due = d;
   answer = a;
-  after = record { settings = x.settings; «record» = record_after x.settings x.«record» d a };
-  entry = entry_of x.settings x.«record» d a;
+  after = record { settings = x.settings; port_record = record_after x.settings x.port_record d a };
+  entry = entry_of x.settings x.port_record d a;
 }
 
 -- it is what its port made of its due
@@ -25,7 +25,7 @@ IsMade k = k ≡ kept_of k.port k.before k.due k.answer
 
 -- the move that it stands for; ports are numbered from 0 there
 abbrev pub move_of : KeptMove → Move
-move_of k = record { port = k.port - 1; before = k.before.«record»; due = k.due; answer = k.answer; entry = k.entry }
+move_of k = record { port = k.port - 1; before = k.before.port_record; due = k.due; answer = k.answer; entry = k.entry }
 
 -- it is a move of a port of the plan
 pub record IsOwn (plan : Plan) (k : KeptMove) : Type 0 where

@@ -31,7 +31,7 @@ use Rattle.pd_port.specs.Told.{source_told}
 -- what a port is set to, and what it keeps from step to step
 pub record PortData : Type 0 where
   pub settings : SettingsData
-  pub «record» : PortRecord
+  pub port_record : PortRecord
 
 abbrev pub side_place : Side → ℕ
 side_place Source = 0

@@ -31,7 +31,7 @@ impl Model for Port {
 
     ghost Value = { PortData };
 
-    ghost view = { λ p. record { settings = p.settings; «record» = without_settings p.work.port } };
+    ghost view = { λ p. record { settings = p.settings; port_record = without_settings p.work.port } };
 
     ghost invariant = { λ p. (p.work.faults.items ≡ []) × (p.work.start ≡ None) × (p.work.port.source.settings ≡ source_settings p.settings) };
 }
@@ -69,7 +69,7 @@ impl Port {
     /// A port to which nothing is attached.
     #[tactic(auto, unfolding(crate::specs::Port::detached))]
     pub fn new(settings: &Settings) -> Port
-        ensures { result ≡ record { settings = settings.now; «record» = detached settings.now } }
+        ensures { result ≡ record { settings = settings.now; port_record = detached settings.now } }
     {
         Port {
             settings: settings.copy(),
@@ -95,7 +95,7 @@ impl Port {
 
     /// What falls due next on the port, whose next event is given.
     pub fn due(&self, next: Option<&Event>) -> Option<Due>
-        ensures { result ≡ the_due self.now.record (option_copied next.entry) }
+        ensures { result ≡ the_due self.now.port_record (option_copied next.entry) }
     {
         due_of(&self.work.port, next)
     }
@@ -103,7 +103,7 @@ impl Port {
     /// What the port asks of the shared budget before the step for this due.
     #[tactic(auto, unfolding(crate::specs::Port::ask))]
     pub fn ask(&self, due: &Due) -> Option<Query>
-        ensures { result ≡ ask self.now.settings self.now.record due.now }
+        ensures { result ≡ ask self.now.settings self.now.port_record due.now }
     {
         if is_budget(&due.what) {
             return Some(Query::Keep { power: self.hold() });
@@ -116,8 +116,8 @@ impl Port {
     #[tactic(auto, unfolding(crate::specs::Port::portstep))]
     pub fn step(&mut self, due: &Due, answer: Option<Answer>, meter: &mut Meter) -> Entry
         requires { due.now.time ≤ 120000000 }
-        ensures after { self.new ≡ record self.old { «record» = record_after self.old.settings self.old.record due.now answer } }
-        ensures entry { result ≡ entry_of self.old.settings self.old.record due.now answer }
+        ensures after { self.new ≡ record self.old { port_record = record_after self.old.settings self.old.port_record due.now answer } }
+        ensures entry { result ≡ entry_of self.old.settings self.old.port_record due.now answer }
         ensures meter { meter.new ≡ raised meter.old 1 }
     {
         let query = self.ask(due);
@@ -141,7 +141,7 @@ impl Port {
     /// What the port holds of the shared budget, in microwatts.
     #[tactic(auto, unfolding(crate::specs::Port::hold))]
     pub fn hold(&self) -> u64
-        ensures { result ≡ hold self.now.settings self.now.record }
+        ensures { result ≡ hold self.now.settings self.now.port_record }
     {
         self.work
             .port
@@ -151,14 +151,14 @@ impl Port {
 
     /// The contract that is in force.
     pub fn contract(&self) -> Option<Contract>
-        ensures { result ≡ self.now.record.source.contract }
+        ensures { result ≡ self.now.port_record.source.contract }
     {
         self.work.port.source.contract()
     }
 
     /// Whether both ports' records are the same, whatever the ports are set to.
     pub fn same(&self, other: &Port) -> bool
-        ensures { IsTrue result ↔ (self.now.record ≡ other.now.record) }
+        ensures { IsTrue result ↔ (self.now.port_record ≡ other.now.port_record) }
     {
         self.work.port.same(&other.work.port)
     }

@@ -50,7 +50,7 @@ table-set {X} f g n p y lt others here =
 pub due_known : (plan : Plan) (past : List Move) (live : LiveData) (p : ℕ) → StandsAfter plan past live → p < count plan
     → due_at plan live p ≡ due_after plan past p
 due_known plan past live p s lt =
-    ap (λ (x : PortData). due x.«record» (slice_get (script_of plan p) (slice_index live.taken p))) (s.ports_are p lt)
+    ap (λ (x : PortData). due x.port_record (slice_get (script_of plan p) (slice_index live.taken p))) (s.ports_are p lt)
     ∙ ap (λ t. due (standing plan past p).state (slice_get (script_of plan p) t)) (s.taken_are p lt)
 
 -- the budget's hold is the port's
@@ -134,7 +134,7 @@ StandsAfter-step plan past live p d port more h s runs lt port_is counted at_p a
           (λ (same : k ≡ p). ap (λ i. get_or (set ports p port) i no_port) same ∙ get_or-set_same ports p port no_port inside ∙ port_is
           ∙ ap (λ i. port_after plan (past ++ m ∷ []) i) (sym same))
           (λ (other : k ≢ p). get_or-set_other ports p k port no_port other ∙ s.ports_are k kn
-          ∙ ap (λ (x : Standing). record { settings = settings_of plan k; «record» = x.state }) (sym (others k other)))
+          ∙ ap (λ (x : Standing). record { settings = settings_of plan k; port_record = x.state }) (sym (others k other)))
           (cases_eq k p);
       taken_are = λ k kn.
           ⊎_elim
@@ -202,7 +202,7 @@ StandsAfter-start n plan ports taken runs is ports_is taken_is =
 pub reply_known : (plan : Plan) (past : List Move) (live : LiveData) (p : ℕ) (d : Due) → StandsAfter plan past live
     → live.account.budget ≡ force plan d.time → p < count plan → reply_at live p d ≡ (next_move plan past p d).answer
 reply_known plan past live p d s budget_is lt =
-    ap (λ (x : PortData). option_map (answer_of live.account p) (ask x.settings x.«record» d)) (s.ports_are p lt)
+    ap (λ (x : PortData). option_map (answer_of live.account p) (ask x.settings x.port_record d)) (s.ports_are p lt)
     ∙ ap (λ (l : Account). option_map (answer_of l p) (ask (settings_of plan p) (standing plan past p).state d))
     (account_known plan past live d.time s budget_is)
 
@@ -211,22 +211,22 @@ pub moved_known : (plan : Plan) (past : List Move) (live : LiveData) (p : ℕ) (
     → live.account.budget ≡ force plan d.time → p < count plan
     → moved_port live p d ≡ port_after plan (past ++ next_move plan past p d ∷ []) p
 moved_known plan past live p d s budget_is lt =
-    ap (λ (x : PortData). record { settings = x.settings; «record» = record_after x.settings x.«record» d (reply_at live p d) })
+    ap (λ (x : PortData). record { settings = x.settings; port_record = record_after x.settings x.port_record d (reply_at live p d) })
     (s.ports_are p lt)
     ∙ ap (λ (a : Option Answer). record {
       settings = settings_of plan p;
-      «record» =
+      port_record =
           record_after (settings_of plan p) (standing plan past p).state d a;
     }) (reply_known plan past live p d s budget_is lt)
-    ∙ ap (λ (x : Standing). record { settings = settings_of plan p; «record» = x.state })
+    ∙ ap (λ (x : Standing). record { settings = settings_of plan p; port_record = x.state })
     (sym (standing-same plan past (next_move plan past p d) p refl))
 
 -- its hold
 pub moved_hold : (plan : Plan) (past : List Move) (p : ℕ) (d : Due) (x : PortData)
     → x ≡ port_after plan (past ++ next_move plan past p d ∷ []) p
-    → hold x.settings x.«record» ≡ hold (settings_of plan p) (after plan (next_move plan past p d))
+    → hold x.settings x.port_record ≡ hold (settings_of plan p) (after plan (next_move plan past p d))
 moved_hold plan past p d x e =
-    ap (λ (z : PortData). hold z.settings z.«record») e
+    ap (λ (z : PortData). hold z.settings z.port_record) e
     ∙ ap (λ (z : Standing). hold (settings_of plan p) z.state) (standing-same plan past (next_move plan past p d) p refl)
 
 -- the same port, numbered from 1
@@ -236,7 +236,7 @@ next_of_first plan live p d h = record { from_one = omega arith; first = subst (
 -- the entry that a port leaves, by the moves
 pub entry_known : (plan : Plan) (past : List Move) (live : LiveData) (p : ℕ) (d : Due) (x : PortData) (a : Option Answer)
     → StandsAfter plan past live → live.account.budget ≡ force plan d.time → p < count plan → x ≡ port_at live p → a ≡ reply_at live p d
-    → entry_of x.settings x.«record» d a ≡ (next_move plan past p d).entry
+    → entry_of x.settings x.port_record d a ≡ (next_move plan past p d).entry
 entry_known plan past live p d x a s budget_is lt x_is a_is =
-    ap (λ (z : PortData). entry_of z.settings z.«record» d a) (x_is ∙ s.ports_are p lt)
+    ap (λ (z : PortData). entry_of z.settings z.port_record d a) (x_is ∙ s.ports_are p lt)
     ∙ ap (entry_of (settings_of plan p) (standing plan past p).state d) (a_is ∙ reply_known plan past live p d s budget_is lt)

@@ -40,7 +40,7 @@ pub steps_left_known : (plan : Plan) (past : List Move) (live : LiveData) → St
     → steps_left plan live ≡ steps_left_after plan past
 steps_left_known plan past live s =
     ap sum (table-same _ _ (count plan) (λ k lt.
-    ap (λ (x : PortData). steps_left_of plan k (record { state = x.«record»; taken = slice_index live.taken k })) (s.ports_are k lt)
+    ap (λ (x : PortData). steps_left_of plan k (record { state = x.port_record; taken = slice_index live.taken k })) (s.ports_are k lt)
     ∙ ap (λ t. steps_left_of plan k (record { state = (standing plan past k).state; taken = t })) (s.taken_are k lt)))
 
 -- an event or a deadline is used up

@@ -23,11 +23,11 @@ port_at live p = slice_index_or live.ports p no_port
 
 -- what falls due on a port
 abbrev pub due_at : Plan → LiveData → ℕ → Option Due
-due_at plan live p = due (port_at live p).«record» (slice_get (script_of plan p) (slice_index live.taken p))
+due_at plan live p = due (port_at live p).port_record (slice_get (script_of plan p) (slice_index live.taken p))
 
 -- a port of these settings stands where these moves have left it
 abbrev pub port_after : Plan → List Move → ℕ → PortData
-port_after plan past p = record { settings = settings_of plan p; «record» = (standing plan past p).state }
+port_after plan past p = record { settings = settings_of plan p; port_record = (standing plan past p).state }
 
 -- the moves are a run as far as it has come, and what is due isn't before them
 pub record RunsTo (plan : Plan) (moves : List Move) : Type 0 where
@@ -85,13 +85,13 @@ IsSoFar plan live n (Some r) = IsFirstOf plan live n r.0 r.1
 
 -- the answer that the port gets for a due
 abbrev pub reply_at : LiveData → ℕ → Due → Option Answer
-reply_at live p d = option_map (answer_of live.account p) (ask (port_at live p).settings (port_at live p).«record» d)
+reply_at live p d = option_map (answer_of live.account p) (ask (port_at live p).settings (port_at live p).port_record d)
 
 -- the port as its move for a due leaves it
 abbrev pub moved_port : LiveData → ℕ → Due → PortData
 moved_port live p d = record {
   settings = (port_at live p).settings;
-  «record» = record_after (port_at live p).settings (port_at live p).«record» d (reply_at live p d);
+  port_record = record_after (port_at live p).settings (port_at live p).port_record d (reply_at live p d);
 }
 
 -- the due of this port, which is numbered from 1 here, is the first one

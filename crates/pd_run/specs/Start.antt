@@ -5,7 +5,7 @@ use Rattle.pd_scenario.specs.Plan.{no_settings}
 
 -- a port at the start
 abbrev pub start_of : SettingsData → PortData
-start_of s = record { settings = s; «record» = detached s }
+start_of s = record { settings = s; port_record = detached s }
 
 -- stands where there is no port
 abbrev pub no_port : PortData

@@ -23,7 +23,7 @@ steps_left_of plan p s = steps_left_at plan p s.state s.taken (due_from plan s p
 
 -- where a port of this number stands, its record and the events that it has had
 abbrev pub standing_at : LiveData → ℕ → Standing
-standing_at live p = record { state = (port_at live p).«record»; taken = slice_index live.taken p }
+standing_at live p = record { state = (port_at live p).port_record; taken = slice_index live.taken p }
 
 -- what all ports have left
 abbrev pub steps_left : Plan → LiveData → ℕ

@@ -11,14 +11,14 @@ use Rattle.pd_run.proofs.plain.run.Goals as goal
 
 -- a port's copy as its move leaves it
 is_moved : (live : LiveData) (p : ℕ) (d : Due) (x left : PortData) (a : Option Answer)
-    → left ≡ record { settings = x.settings; «record» = record_after x.settings x.«record» d a } → x ≡ port_at live p
+    → left ≡ record { settings = x.settings; port_record = record_after x.settings x.port_record d a } → x ≡ port_at live p
     → a ≡ reply_at live p d → left ≡ moved_port live p d
 is_moved live p d x left a is x_is a_is =
-    is ∙ ap (λ (z : PortData). record { settings = z.settings; «record» = record_after z.settings z.«record» d a }) x_is
+    is ∙ ap (λ (z : PortData). record { settings = z.settings; port_record = record_after z.settings z.port_record d a }) x_is
     ∙ ap (λ (b : Option Answer). record {
       settings = (port_at live p).settings;
-      «record» =
-          record_after (port_at live p).settings (port_at live p).«record» d b;
+      port_record =
+          record_after (port_at live p).settings (port_at live p).port_record d b;
     }) a_is
 
 pub settle-requires : goal.settle-requires
@@ -60,8 +60,8 @@ loop-port-preserved g c =
     let x_is : c.copy-after.result ≡ port_after plan i.moves p = c.copy-after.ensures ∙ c.port.ensures
     ∙ stands.ports_are p next.first.known in
     let entry : c.step-entry.result ≡ m.entry =
-    c.step-entry.ensures.entry ∙ ap (λ (z : PortData). entry_of z.settings z.«record» d c.reply-answer.result) x_is
-    ∙ ap (λ (a : Option Answer). entry_of (port_after plan i.moves p).settings (port_after plan i.moves p).«record» d a)
+    c.step-entry.ensures.entry ∙ ap (λ (z : PortData). entry_of z.settings z.port_record d c.reply-answer.result) x_is
+    ∙ ap (λ (a : Option Answer). entry_of (port_after plan i.moves p).settings (port_after plan i.moves p).port_record d a)
     (c.reply-answer.ensures.known i.moves i.stands) in
     let port : c.in-Some.port ≡ p + 1 = omega (arith, next.from_one) in
     record {

@@ -38,7 +38,7 @@ returns-clause-known g c = λ past stands.
     ∙ get_or_default live.ports p x no_port (omega (arith, c.self.invariant.ports_count, c.requires.last)) in
     let answer : c.reply.result ≡ reply_at live p c.args.due.now =
     c.reply.ensures ∙ ap (option_map (answer_of c.set_budget.new.self p)) c.ask-query.ensures
-    ∙ ap (λ (z : PortData). option_map (answer_of c.set_budget.new.self p) (ask z.settings z.«record» c.args.due.now)) at
-    ∙ ap (λ (l : Account). option_map (answer_of l p) (ask (port_at live p).settings (port_at live p).«record» c.args.due.now))
+    ∙ ap (λ (z : PortData). option_map (answer_of c.set_budget.new.self p) (ask z.settings z.port_record c.args.due.now)) at
+    ∙ ap (λ (l : Account). option_map (answer_of l p) (ask (port_at live p).settings (port_at live p).port_record c.args.due.now))
     c.set_budget.ensures in
     answer ∙ reply_known plan past live p c.args.due.now stood c.force-budget.ensures.force known
