@@ -22,30 +22,30 @@ use Rattle.pd_plug.specs.declared.kinds.Stimulus.{Stimulus as PlugStimulus}
 use Rattle.pd_plug.specs.declared.kinds.Stimulus.TheVariants as plug_told
 use Rattle.pd_line.specs.declared.notes.Fault.{Fault}
 use Rattle.pd_line.specs.declared.notes.Fault.TheVariants.{NoGoodCrc}
-use Rattle.pd_line.specs.declared.record.Line.{Line}
-use Rattle.pd_line.specs.declared.record.Line.TheVariants.{Idle, Message, Pause, GoodCrc, NoAnswer, HardReset}
-use Rattle.pd_line.specs.declared.work.Work.{Work}
-use Rattle.pd_line.specs.Work.{with_layer, on_layer, timed_out_on, noted, sink_steps, plug_steps, source_after, source_steps, tells_timer}
+use Rattle.pd_line.specs.declared.port_parts.Line.{Line}
+use Rattle.pd_line.specs.declared.port_parts.Line.TheVariants.{Idle, Message, Pause, GoodCrc, NoAnswer, HardReset}
+use Rattle.pd_line.specs.declared.port_step.PortStep.{PortStep}
+use Rattle.pd_line.specs.PortStep.{with_layer, on_layer, timed_out_on, noted, sink_steps, plug_steps, source_after, source_steps, tells_timer}
 use Rattle.pd_line.specs.Lines.{with_line, started, packet_starts, good_crc_starts, after_time_out, times_out, line_ends_at, line_ends, is_idle, line_starts}
 use Rattle.pd_line.proofs.Kept.{sink_acts_kept, plug_acts_kept, source_acts_kept, noted_kept, tells_failed_kept, message_ends_kept, good_crc_ends_kept, hard_reset_ends_kept}
 use Rattle.pd_line.proofs.Parts.{Kept, of_any, Watched, sink_after, plug_after}
 
 -- while the line is busy, nothing starts
-pub line_starts-busy : (t : ℕ) (w : Work) → is_idle w.port.line ≡ false → line_starts t w ≡ w
+pub line_starts-busy : (t : ℕ) (w : PortStep) → is_idle w.port.line ≡ false → line_starts t w ≡ w
 unfolding line_starts
 line_starts-busy t w h = rw h refl
 
 -- what was done leaves the line, and starts nothing
-pub record LeavesLine (w v : Work) : Type 0 where
+pub record LeavesLine (w v : PortStep) : Type 0 where
   pub line : v.port.line ≡ w.port.line
   pub start : v.start ≡ w.start
 
-pub layer_line : (c : Channel) (l : LayerRecord) (w : Work) → LeavesLine w (with_layer Source c l w)
+pub layer_line : (c : Channel) (l : LayerRecord) (w : PortStep) → LeavesLine w (with_layer Source c l w)
 layer_line Sop l w = record { line = refl; start = refl }
 layer_line SopPrime l w = record { line = refl; start = refl }
 
 -- what leaves the line, where the steps of the source do
-abbrev leaving : (t : ℕ) (steps : Type 0) → (steps → (x : SourceStimulus) (w : Work) → LeavesLine w (source_steps t x w)) → Kept t
+abbrev leaving : (t : ℕ) (steps : Type 0) → (steps → (x : SourceStimulus) (w : PortStep) → LeavesLine w (source_steps t x w)) → Kept t
 leaving t steps source =
     record {
       holds = λ w f. LeavesLine w (f w);
@@ -68,7 +68,7 @@ leaving t steps source =
 abbrev leaving_besides : (t : ℕ) → Kept t
 leaving_besides t = leaving t ⊥ (λ s. absurd s)
 
-pub source_steps_line : (t : ℕ) (x : SourceStimulus) (w : Work) → LeavesLine w (source_steps t x w)
+pub source_steps_line : (t : ℕ) (x : SourceStimulus) (w : PortStep) → LeavesLine w (source_steps t x w)
 unfolding source_steps
 source_steps_line t x w =
     let v = source_after t x w in
@@ -79,27 +79,27 @@ source_steps_line t x w =
 abbrev pub leaves_line : (t : ℕ) → Kept t
 leaves_line t = leaving t (Unit {0}) (λ s x w. source_steps_line t x w)
 
-pub sink_steps_line : (t : ℕ) (x : SinkStimulus) (w : Work) → LeavesLine w (sink_steps t x w)
+pub sink_steps_line : (t : ℕ) (x : SinkStimulus) (w : PortStep) → LeavesLine w (sink_steps t x w)
 unfolding sink_steps
 sink_steps_line t x w =
     let h = sink_acts_kept t (leaves_line t) (sink.acts_of t x w.port.sink) (sink_after t x w) in record { line = h.line; start = h.start }
 
-plug_steps_line : (t : ℕ) (x : PlugStimulus) (w : Work) → LeavesLine w (plug_steps t x w)
+plug_steps_line : (t : ℕ) (x : PlugStimulus) (w : PortStep) → LeavesLine w (plug_steps t x w)
 unfolding plug_steps
 plug_steps_line t x w =
     let h = plug_acts_kept t (leaves_line t) (plug.acts_of t x w.port.plug) (plug_after t x w) in record { line = h.line; start = h.start }
 
-pub tells_timer_line : (side : Side) (timer : Timer) (t : ℕ) (w : Work) → LeavesLine w (tells_timer side timer t w)
+pub tells_timer_line : (side : Side) (timer : Timer) (t : ℕ) (w : PortStep) → LeavesLine w (tells_timer side timer t w)
 unfolding tells_timer
 tells_timer_line Source timer t w = source_steps_line t (source_told.Ended timer) w
 tells_timer_line Sink timer t w = sink_steps_line t (sink_told.Ended timer) w
 tells_timer_line Plug timer t w = plug_steps_line t (plug_told.Ended timer) w
 
-layer_start : (c : Channel) (l : LayerRecord) (w : Work) → (with_layer Source c l w).start ≡ w.start
+layer_start : (c : Channel) (l : LayerRecord) (w : PortStep) → (with_layer Source c l w).start ≡ w.start
 layer_start Sop l w = refl
 layer_start SopPrime l w = refl
 
-line_start : (line : Line) (w : Work) → (with_line line w).start ≡ w.start
+line_start : (line : Line) (w : PortStep) → (with_line line w).start ≡ w.start
 unfolding with_line
 line_start line w = refl
 
@@ -125,42 +125,42 @@ starts_none t =
     }
 
 -- what a step starts: nothing, or else the line is busy with it
-abbrev pub StartsOne : Work → Work → Type 0
+abbrev pub StartsOne : PortStep → PortStep → Type 0
 StartsOne w v = (v.start ≡ w.start) ⊎ (is_idle v.port.line ≡ false)
 
 -- after something that starts nothing
-then_one : (w v u : Work) → v.start ≡ w.start → StartsOne v u → StartsOne w u
+then_one : (w v u : PortStep) → v.start ≡ w.start → StartsOne v u → StartsOne w u
 then_one w v u e (inl h) = inl (h ∙ e)
 then_one w v u e (inr h) = inr h
 
-packet_starts_one : (side : Side) (p : Contents) (t : ℕ) (w : Work) → StartsOne w (packet_starts side p t w)
+packet_starts_one : (side : Side) (p : Contents) (t : ℕ) (w : PortStep) → StartsOne w (packet_starts side p t w)
 unfolding packet_starts started with_line
 packet_starts_one side p t w = inr refl
 
-good_crc_starts_one : (side : Side) (p : Contents) (t : ℕ) (w : Work) → StartsOne w (good_crc_starts side p t w)
+good_crc_starts_one : (side : Side) (p : Contents) (t : ℕ) (w : PortStep) → StartsOne w (good_crc_starts side p t w)
 unfolding good_crc_starts started with_line
 good_crc_starts_one side p t w = inr refl
 
-on_layer_start : (A : Type 0) (side : Side) (channel : Channel) (call : LayerRecord → LayerRecord × A) (w : Work) → (on_layer side channel call w).0.start ≡ w.start
+on_layer_start : (A : Type 0) (side : Side) (channel : Channel) (call : LayerRecord → LayerRecord × A) (w : PortStep) → (on_layer side channel call w).0.start ≡ w.start
 on_layer_start A Source Sop call w = refl
 on_layer_start A Source SopPrime call w = refl
 on_layer_start A Sink channel call w = refl
 on_layer_start A Plug channel call w = refl
 
-after_time_out_one : (side : Side) (p : Contents) (t : ℕ) (act : LayerAct) (w : Work) → StartsOne w (after_time_out side p t act w)
+after_time_out_one : (side : Side) (p : Contents) (t : ℕ) (act : LayerAct) (w : PortStep) → StartsOne w (after_time_out side p t act w)
 after_time_out_one side p t (answer.Retry q) w = packet_starts_one side q t w
 after_time_out_one side p t answer.Failed w =
     let f : Fault = NoGoodCrc side (kind_of_header p.header) in
     inl (tells_failed_kept t (starts_none t) side (of_any (Unit {0}) side tt) (noted f w) ∙ noted_kept t (starts_none t) f w)
 after_time_out_one side p t act w = inl refl
 
-times_out_one : (side : Side) (p : Contents) (t : ℕ) (w : Work) → StartsOne w (times_out side p t w)
+times_out_one : (side : Side) (p : Contents) (t : ℕ) (w : PortStep) → StartsOne w (times_out side p t w)
 unfolding times_out timed_out_on
 times_out_one side p t w =
     let r = timed_out_on side p.channel w in
     then_one w r.0 (after_time_out side p t r.1 r.0) (on_layer_start _ side p.channel layer.timed_out w) (after_time_out_one side p t r.1 r.0)
 
-line_ends_at_one : (line : Line) (t : ℕ) (w : Work) → StartsOne w (line_ends_at line t w)
+line_ends_at_one : (line : Line) (t : ℕ) (w : PortStep) → StartsOne w (line_ends_at line t w)
 line_ends_at_one Idle t w = inl refl
 line_ends_at_one (Message side p fate end) t w = inl (message_ends_kept t (starts_none t) tt side p fate w)
 line_ends_at_one (Pause side p end) t w = good_crc_starts_one side p t w
@@ -168,6 +168,6 @@ line_ends_at_one (GoodCrc side p a fate end) t w = inl (good_crc_ends_kept t (st
 line_ends_at_one (NoAnswer side p end) t w = times_out_one side p t w
 line_ends_at_one (HardReset side end) t w = inl (hard_reset_ends_kept t (starts_none t) tt tt side w)
 
-pub line_ends_one : (t : ℕ) (w : Work) → StartsOne w (line_ends t w)
+pub line_ends_one : (t : ℕ) (w : PortStep) → StartsOne w (line_ends t w)
 unfolding line_ends
 line_ends_one t w = let v = with_line Idle w in then_one w v (line_ends_at w.port.line t v) (line_start Idle w) (line_ends_at_one w.port.line t v)

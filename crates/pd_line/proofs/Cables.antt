@@ -24,11 +24,11 @@ use Rattle.pd_plug.specs.Acts.{identity_of}
 use Rattle.pd_plug.specs.Step as plug
 use Rattle.pd_plug.specs.declared.kinds.Stimulus.{Stimulus as PlugStimulus}
 use Rattle.pd_plug.specs.declared.kinds.Stimulus.TheVariants as plug_told
-use Rattle.pd_line.specs.declared.record.Line.{Line}
-use Rattle.pd_line.specs.declared.record.Line.TheVariants.{Idle, Message, Pause, GoodCrc, NoAnswer, HardReset}
-use Rattle.pd_line.specs.declared.record.Waiting.{Waiting}
-use Rattle.pd_line.specs.declared.record.Waiting.TheVariants as waits
-use Rattle.pd_line.specs.declared.work.Work.{Work}
+use Rattle.pd_line.specs.declared.port_parts.Line.{Line}
+use Rattle.pd_line.specs.declared.port_parts.Line.TheVariants.{Idle, Message, Pause, GoodCrc, NoAnswer, HardReset}
+use Rattle.pd_line.specs.declared.port_parts.Waiting.{Waiting}
+use Rattle.pd_line.specs.declared.port_parts.Waiting.TheVariants as waits
+use Rattle.pd_line.specs.declared.port_step.PortStep.{PortStep}
 use Rattle.pd_line.specs.Record.{without_settings}
 use Rattle.pd_line.specs.Cables.{Tells, TellsOn, WaitsToTell, MayTellAgain, LineTells, wire, TellsOfCable}
 use Rattle.pd_line.specs.Told.{plug_hears_as, sink_message, plug_message}
@@ -136,5 +136,5 @@ source_sent cable None = tt
 source_sent cable (Some o) = tt
 
 -- so it is on the port of a work
-abbrev pub On : Option Cable → Work → Type 0
+abbrev pub On : Option Cable → PortStep → Type 0
 On cable w = TellsOfCable cable (wire (without_settings w.port))

@@ -21,23 +21,23 @@ use Rattle.pd_plug.specs.declared.kinds.Stimulus.{Stimulus as PlugStimulus}
 use Rattle.pd_plug.specs.declared.kinds.Stimulus.TheVariants as plug_told
 use Rattle.pd_plug.proofs.Later.{SetsLater-stepped as plug_later}
 use Rattle.pd_line.specs.declared.notes.Start.{Start}
-use Rattle.pd_line.specs.declared.record.Record.{Record}
-use Rattle.pd_line.specs.declared.record.Line.{Line}
-use Rattle.pd_line.specs.declared.record.Line.TheVariants.{Idle}
-use Rattle.pd_line.specs.declared.work.Work.{Work}
+use Rattle.pd_line.specs.declared.port_parts.PortParts.{PortParts}
+use Rattle.pd_line.specs.declared.port_parts.Line.{Line}
+use Rattle.pd_line.specs.declared.port_parts.Line.TheVariants.{Idle}
+use Rattle.pd_line.specs.declared.port_step.PortStep.{PortStep}
 use Rattle.pd_line.specs.Later.{Times, line_end, KeptOrLater, Later}
-use Rattle.pd_line.specs.Work.{with_layer, sink_acts, sink_steps, plug_acts, plug_steps, source_acts, source_after, source_steps, tells_timer}
+use Rattle.pd_line.specs.PortStep.{with_layer, sink_acts, sink_steps, plug_acts, plug_steps, source_acts, source_after, source_steps, tells_timer}
 use Rattle.pd_line.specs.Lines.{with_line, started, line_ends}
 use Rattle.pd_line.proofs.Kept.{sink_acts_kept, plug_acts_kept, source_acts_kept, line_ends_at_kept}
 use Rattle.pd_line.proofs.Parts.{Kept, EndsNoneOfSource, EndsNoneOfSink, EndsNoneOfPlug, Watched, watched, times, sink_after, plug_after}
 
 -- a step at t has led to this work
-pub record Leads (t : ℕ) (settings : SourceSettings) (old : Times) (new : Work) : Type 0 where
+pub record Leads (t : ℕ) (settings : SourceSettings) (old : Times) (new : PortStep) : Type 0 where
   pub settings_are : new.port.source.settings ≡ settings
   pub later : Later t old (times new.port)
 
 -- from one work to another
-abbrev pub LeadsOn : ℕ → Work → Work → Type 0
+abbrev pub LeadsOn : ℕ → PortStep → PortStep → Type 0
 LeadsOn t w v = Leads t w.port.source.settings (times w.port) v
 
 sets_kept : (t : ℕ) (d : List (Option ℕ)) → SetsLater t d d
@@ -66,11 +66,11 @@ later_join t a b c h k =
     }
 
 -- nothing was done
-pub stays : (t : ℕ) (w : Work) → LeadsOn t w w
+pub stays : (t : ℕ) (w : PortStep) → LeadsOn t w w
 stays t w = record { settings_are = refl; later = later_kept t (times w.port) }
 
 -- what was done leaves the source and the times
-pub leaves : (t : ℕ) (w v : Work) → watched v ≡ watched w → LeadsOn t w v
+pub leaves : (t : ℕ) (w v : PortStep) → watched v ≡ watched w → LeadsOn t w v
 leaves t w v e =
     record {
       settings_are = ap (λ (x : Watched). x.source.settings) e;
@@ -78,55 +78,55 @@ leaves t w v e =
     }
 
 -- one after the other
-pub joins : (t : ℕ) (s : SourceSettings) (a : Times) (b c : Work) → Leads t s a b → LeadsOn t b c → Leads t s a c
+pub joins : (t : ℕ) (s : SourceSettings) (a : Times) (b c : PortStep) → Leads t s a b → LeadsOn t b c → Leads t s a c
 joins t s a b c h k =
     record { settings_are = k.settings_are ∙ h.settings_are; later = later_join t a (times b.port) (times c.port) h.later k.later }
 
 -- the times before the sink's row is taken
-abbrev pub sink_before : SinkStimulus → Record → Times
+abbrev pub sink_before : SinkStimulus → PortParts → Times
 sink_before x r = record (times r) { sink = (sink.before_row x r.sink).deadlines }
 
-sink_leads : (t : ℕ) (x : SinkStimulus) (w : Work) → Leads t w.port.source.settings (sink_before x w.port) (sink_after t x w)
+sink_leads : (t : ℕ) (x : SinkStimulus) (w : PortStep) → Leads t w.port.source.settings (sink_before x w.port) (sink_after t x w)
 sink_leads t x w =
     record {
       settings_are = refl;
       later = record { source = sets_kept t _; sink = sink_later t x w.port.sink; plug = sets_kept t _; line = line_kept t _ };
     }
 
-pub sink_now : (t : ℕ) (x : SinkStimulus) (w : Work) → EndsNoneOfSink x w.port.sink → LeadsOn t w (sink_after t x w)
+pub sink_now : (t : ℕ) (x : SinkStimulus) (w : PortStep) → EndsNoneOfSink x w.port.sink → LeadsOn t w (sink_after t x w)
 sink_now t x w e =
     subst (λ (d : List (Option ℕ)). Leads t w.port.source.settings (record (times w.port) { sink = d }) (sink_after t x w)) e (sink_leads t x w)
 
 -- the times before the plug's row is taken
-abbrev pub plug_before : PlugStimulus → Record → Times
+abbrev pub plug_before : PlugStimulus → PortParts → Times
 plug_before x r = record (times r) { plug = (plug.before_row x r.plug).deadlines }
 
-plug_leads : (t : ℕ) (x : PlugStimulus) (w : Work) → Leads t w.port.source.settings (plug_before x w.port) (plug_after t x w)
+plug_leads : (t : ℕ) (x : PlugStimulus) (w : PortStep) → Leads t w.port.source.settings (plug_before x w.port) (plug_after t x w)
 plug_leads t x w =
     record {
       settings_are = refl;
       later = record { source = sets_kept t _; sink = sets_kept t _; plug = plug_later t x w.port.plug; line = line_kept t _ };
     }
 
-pub plug_now : (t : ℕ) (x : PlugStimulus) (w : Work) → EndsNoneOfPlug x w.port.plug → LeadsOn t w (plug_after t x w)
+pub plug_now : (t : ℕ) (x : PlugStimulus) (w : PortStep) → EndsNoneOfPlug x w.port.plug → LeadsOn t w (plug_after t x w)
 plug_now t x w e =
     subst (λ (d : List (Option ℕ)). Leads t w.port.source.settings (record (times w.port) { plug = d }) (plug_after t x w)) e (plug_leads t x w)
 
-pub layer_leads : (t : ℕ) (c : Channel) (l : LayerRecord) (w : Work) → LeadsOn t w (with_layer Source c l w)
+pub layer_leads : (t : ℕ) (c : Channel) (l : LayerRecord) (w : PortStep) → LeadsOn t w (with_layer Source c l w)
 layer_leads t Sop l w = record { settings_are = refl; later = later_kept t (times w.port) }
 layer_leads t SopPrime l w = record { settings_are = refl; later = later_kept t (times w.port) }
 
-pub line_leads : (t : ℕ) (line : Line) (w : Work) → KeptOrLater t (line_end w.port.line) (line_end line) → LeadsOn t w (with_line line w)
+pub line_leads : (t : ℕ) (line : Line) (w : PortStep) → KeptOrLater t (line_end w.port.line) (line_end line) → LeadsOn t w (with_line line w)
 unfolding with_line
 line_leads t line w h =
     record { settings_are = refl; later = record { source = sets_kept t _; sink = sets_kept t _; plug = sets_kept t _; line = h } }
 
-pub start_leads : (t : ℕ) (s : Start) (w : Work) → LeadsOn t w (started s w)
+pub start_leads : (t : ℕ) (s : Start) (w : PortStep) → LeadsOn t w (started s w)
 unfolding started
 start_leads t s w = record { settings_are = refl; later = later_kept t (times w.port) }
 
 -- what the steps of the source keep, so do all rules
-abbrev leading : (t : ℕ) (steps : Type 0) → (steps → (x : SourceStimulus) (w : Work) → EndsNoneOfSource x w.port.source.record → LeadsOn t w (source_steps t x w)) → Kept t
+abbrev leading : (t : ℕ) (steps : Type 0) → (steps → (x : SourceStimulus) (w : PortStep) → EndsNoneOfSource x w.port.source.record → LeadsOn t w (source_steps t x w)) → Kept t
 leading t steps source =
     record {
       holds = λ w f. LeadsOn t w (f w);
@@ -150,10 +150,10 @@ abbrev leading_besides : (t : ℕ) → Kept t
 leading_besides t = leading t ⊥ (λ s. absurd s)
 
 -- the times before the source's row is taken
-abbrev pub source_before : SourceStimulus → Record → Times
+abbrev pub source_before : SourceStimulus → PortParts → Times
 source_before x r = record (times r) { source = (source.before_row x r.source.record).deadlines }
 
-pub source_steps_lead : (t : ℕ) (x : SourceStimulus) (w : Work) → Leads t w.port.source.settings (source_before x w.port) (source_steps t x w)
+pub source_steps_lead : (t : ℕ) (x : SourceStimulus) (w : PortStep) → Leads t w.port.source.settings (source_before x w.port) (source_steps t x w)
 unfolding source_steps
 source_steps_lead t x w =
     let v = source_after t x w in
@@ -166,7 +166,7 @@ source_steps_lead t x w =
     let acts = source.acts_of s.settings t x w.answer s.record in
     joins t s.settings (source_before x w.port) v (source_acts t acts v) h (source_acts_kept t (leading_besides t) tt acts v)
 
-pub source_now : (t : ℕ) (x : SourceStimulus) (w : Work) → EndsNoneOfSource x w.port.source.record → LeadsOn t w (source_steps t x w)
+pub source_now : (t : ℕ) (x : SourceStimulus) (w : PortStep) → EndsNoneOfSource x w.port.source.record → LeadsOn t w (source_steps t x w)
 source_now t x w e =
     subst (λ (d : List (Option ℕ)). Leads t w.port.source.settings (record (times w.port) { source = d }) (source_steps t x w)) e (source_steps_lead t x w)
 
@@ -174,14 +174,14 @@ source_now t x w e =
 abbrev pub leads : (t : ℕ) → Kept t
 leads t = leading t (Unit {0}) (λ s x w e. source_now t x w e)
 
-pub sink_steps_lead : (t : ℕ) (x : SinkStimulus) (w : Work) → Leads t w.port.source.settings (sink_before x w.port) (sink_steps t x w)
+pub sink_steps_lead : (t : ℕ) (x : SinkStimulus) (w : PortStep) → Leads t w.port.source.settings (sink_before x w.port) (sink_steps t x w)
 unfolding sink_steps
 sink_steps_lead t x w =
     let v = sink_after t x w in
     let acts = sink.acts_of t x w.port.sink in
     joins t _ (sink_before x w.port) v (sink_acts acts v) (sink_leads t x w) (sink_acts_kept t (leads t) acts v)
 
-pub plug_steps_lead : (t : ℕ) (x : PlugStimulus) (w : Work) → Leads t w.port.source.settings (plug_before x w.port) (plug_steps t x w)
+pub plug_steps_lead : (t : ℕ) (x : PlugStimulus) (w : PortStep) → Leads t w.port.source.settings (plug_before x w.port) (plug_steps t x w)
 unfolding plug_steps
 plug_steps_lead t x w =
     let v = plug_after t x w in
@@ -194,13 +194,13 @@ without_timer Source timer a = record a { source = stopped a.source timer }
 without_timer Sink timer a = record a { sink = stopped a.sink timer }
 without_timer Plug timer a = record a { plug = stopped a.plug timer }
 
-pub tells_timer_leads : (side : Side) (timer : Timer) (t : ℕ) (w : Work) →
+pub tells_timer_leads : (side : Side) (timer : Timer) (t : ℕ) (w : PortStep) →
     Leads t w.port.source.settings (without_timer side timer (times w.port)) (tells_timer side timer t w)
 unfolding tells_timer
 tells_timer_leads Source timer t w = source_steps_lead t (source_told.Ended timer) w
 tells_timer_leads Sink timer t w = sink_steps_lead t (sink_told.Ended timer) w
 tells_timer_leads Plug timer t w = plug_steps_lead t (plug_told.Ended timer) w
 
-pub line_ends_leads : (t : ℕ) (w : Work) → Leads t w.port.source.settings (record (times w.port) { line = None }) (line_ends t w)
+pub line_ends_leads : (t : ℕ) (w : PortStep) → Leads t w.port.source.settings (record (times w.port) { line = None }) (line_ends t w)
 unfolding line_ends with_line
 line_ends_leads t w = line_ends_at_kept t (leads t) tt tt tt tt w.port.line (with_line Idle w)

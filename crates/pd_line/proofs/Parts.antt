@@ -21,21 +21,21 @@ use Rattle.pd_plug.specs.Step as plug
 use Rattle.pd_plug.specs.declared.kinds.Stimulus.{Stimulus as PlugStimulus}
 use Rattle.pd_plug.specs.declared.kinds.Stimulus.TheVariants as plug_told
 use Rattle.pd_line.specs.declared.notes.Start.{Start}
-use Rattle.pd_line.specs.declared.record.Record.{Record}
-use Rattle.pd_line.specs.declared.record.Line.{Line}
-use Rattle.pd_line.specs.declared.work.Work.{Work}
+use Rattle.pd_line.specs.declared.port_parts.PortParts.{PortParts}
+use Rattle.pd_line.specs.declared.port_parts.Line.{Line}
+use Rattle.pd_line.specs.declared.port_step.PortStep.{PortStep}
 use Rattle.pd_line.specs.Record.{without_settings}
 use Rattle.pd_line.specs.Told.{source_hears_as, sink_hears_as, plug_hears_as}
 use Rattle.pd_line.specs.Later.{Times, times_of, line_end, KeptOrLater}
-use Rattle.pd_line.specs.Work.{with_port, layer_on, with_layer, source_steps}
+use Rattle.pd_line.specs.PortStep.{with_port, layer_on, with_layer, source_steps}
 use Rattle.pd_line.specs.Lines.{rest_of_time_out, with_line, started, hears, revision_on, waiting_on}
 
 -- the times of a port's record
-abbrev pub times : Record → Times
+abbrev pub times : PortParts → Times
 times r = times_of (without_settings r)
 
 -- the work without its answer
-abbrev pub unanswered : Work → Work
+abbrev pub unanswered : PortStep → PortStep
 unanswered w = record w { answer = None }
 
 -- what is told apart of a work; its faults and what waits are not
@@ -48,7 +48,7 @@ pub record Watched : Type 0 where
   pub source_sop : LayerRecord
   pub source_sop_prime : LayerRecord
 
-abbrev pub watched : Work → Watched
+abbrev pub watched : PortStep → Watched
 watched w =
     record {
       source = w.port.source;
@@ -61,11 +61,11 @@ watched w =
     }
 
 -- the sink after it was stepped, its acts apart
-abbrev pub sink_after : ℕ → SinkStimulus → Work → Work
+abbrev pub sink_after : ℕ → SinkStimulus → PortStep → PortStep
 sink_after t x w = with_port (record w.port { sink = sink.stepped t x w.port.sink }) w
 
 -- the plug after it was stepped
-abbrev pub plug_after : ℕ → PlugStimulus → Work → Work
+abbrev pub plug_after : ℕ → PlugStimulus → PortStep → PortStep
 plug_after t x w = with_port (record w.port { plug = plug.stepped t x w.port.plug }) w
 
 -- no timer ends by what an engine is told
@@ -82,22 +82,22 @@ EndsNoneOfPlug x r = (plug.before_row x r).deadlines ≡ r.deadlines
 -- after the other, and of those that read something besides the answer and go by it; and of the engines' steps. Of steps
 -- of the source, of what touches its layers, changes the line or starts something it holds where it is said to.
 pub record Kept (t : ℕ) : Type 1 where
-  pub holds : Work → (Work → Work) → Type 0
+  pub holds : PortStep → (PortStep → PortStep) → Type 0
   pub steps : Type 0
   pub touches : Type 0
   pub lines : Type 0
   pub starts : Type 0
-  pub nothing : (w : Work) → holds w (λ z. z)
-  pub joins : (f g : Work → Work) (w : Work) → holds w f → holds (f w) g → holds w (λ z. g (f z))
-  pub reads : (A : Type 0) (h : Work → A) (g : A → Work → Work) (w : Work) → h (unanswered w) ≡ h w → holds w (g (h w)) →
+  pub nothing : (w : PortStep) → holds w (λ z. z)
+  pub joins : (f g : PortStep → PortStep) (w : PortStep) → holds w f → holds (f w) g → holds w (λ z. g (f z))
+  pub reads : (A : Type 0) (h : PortStep → A) (g : A → PortStep → PortStep) (w : PortStep) → h (unanswered w) ≡ h w → holds w (g (h w)) →
       holds w (λ z. g (h z) z)
-  pub leaves : (f : Work → Work) (w : Work) → watched (f w) ≡ watched w → f (unanswered w) ≡ unanswered (f w) → holds w f
-  pub sink : (x : SinkStimulus) (w : Work) → EndsNoneOfSink x w.port.sink → holds w (sink_after t x)
-  pub plug : (x : PlugStimulus) (w : Work) → EndsNoneOfPlug x w.port.plug → holds w (plug_after t x)
-  pub source : steps → (x : SourceStimulus) (w : Work) → EndsNoneOfSource x w.port.source.record → holds w (source_steps t x)
-  pub layer : touches → (c : Channel) (l : LayerRecord) (w : Work) → holds w (with_layer Source c l)
-  pub line : lines → (line : Line) (w : Work) → KeptOrLater t (line_end w.port.line) (line_end line) → holds w (with_line line)
-  pub start : starts → (s : Start) (w : Work) → holds w (started s)
+  pub leaves : (f : PortStep → PortStep) (w : PortStep) → watched (f w) ≡ watched w → f (unanswered w) ≡ unanswered (f w) → holds w f
+  pub sink : (x : SinkStimulus) (w : PortStep) → EndsNoneOfSink x w.port.sink → holds w (sink_after t x)
+  pub plug : (x : PlugStimulus) (w : PortStep) → EndsNoneOfPlug x w.port.plug → holds w (plug_after t x)
+  pub source : steps → (x : SourceStimulus) (w : PortStep) → EndsNoneOfSource x w.port.source.record → holds w (source_steps t x)
+  pub layer : touches → (c : Channel) (l : LayerRecord) (w : PortStep) → holds w (with_layer Source c l)
+  pub line : lines → (line : Line) (w : PortStep) → KeptOrLater t (line_end w.port.line) (line_end line) → holds w (with_line line)
+  pub start : starts → (s : Start) (w : PortStep) → holds w (started s)
 
 -- what is asked of the source alone
 abbrev pub OfSource : Type 0 → Side → Type 0
@@ -111,25 +111,25 @@ of_any a Sink x = tt
 of_any a Plug x = tt
 
 -- what is read of a work besides its answer
-pub layer_blind : (side : Side) (c : Channel) (w : Work) → layer_on side c (unanswered w) ≡ layer_on side c w
+pub layer_blind : (side : Side) (c : Channel) (w : PortStep) → layer_on side c (unanswered w) ≡ layer_on side c w
 layer_blind Source Sop w = refl
 layer_blind Source SopPrime w = refl
 layer_blind Sink c w = refl
 layer_blind Plug c w = refl
 
-pub hears_blind : (side : Side) (w : Work) → hears side (unanswered w) ≡ hears side w
+pub hears_blind : (side : Side) (w : PortStep) → hears side (unanswered w) ≡ hears side w
 unfolding hears
 hears_blind Source w = refl
 hears_blind Sink w = refl
 hears_blind Plug w = refl
 
-pub revision_blind : (side : Side) (c : Channel) (w : Work) → revision_on side c (unanswered w) ≡ revision_on side c w
+pub revision_blind : (side : Side) (c : Channel) (w : PortStep) → revision_on side c (unanswered w) ≡ revision_on side c w
 revision_blind Source Sop w = refl
 revision_blind Source SopPrime w = refl
 revision_blind Sink c w = refl
 revision_blind Plug c w = refl
 
-pub waiting_blind : (side : Side) (w : Work) → waiting_on side (unanswered w) ≡ waiting_on side w
+pub waiting_blind : (side : Side) (w : PortStep) → waiting_on side (unanswered w) ≡ waiting_on side w
 waiting_blind Source w = refl
 waiting_blind Sink w = refl
 waiting_blind Plug w = refl

@@ -18,54 +18,54 @@ use Rattle.pd_plug.specs.Step as plug
 use Rattle.pd_plug.specs.declared.kinds.Stimulus.{Stimulus as PlugStimulus}
 use Rattle.pd_plug.specs.declared.kinds.Stimulus.TheVariants as plug_told
 use Rattle.pd_line.specs.declared.notes.Start.{Start}
-use Rattle.pd_line.specs.declared.record.Line.{Line}
-use Rattle.pd_line.specs.declared.work.Work.{Work}
-use Rattle.pd_line.specs.Work.{tells_timer, with_layer, layer_on, on_layer, sink_acts, sink_steps, plug_acts, plug_steps, source_acts, source_after, source_steps}
+use Rattle.pd_line.specs.declared.port_parts.Line.{Line}
+use Rattle.pd_line.specs.declared.port_step.PortStep.{PortStep}
+use Rattle.pd_line.specs.PortStep.{tells_timer, with_layer, layer_on, on_layer, sink_acts, sink_steps, plug_acts, plug_steps, source_acts, source_after, source_steps}
 use Rattle.pd_line.specs.Lines.{with_line, started, acknowledged}
 use Rattle.pd_line.proofs.Kept.{sink_acts_kept, plug_acts_kept, source_acts_kept, acknowledged_kept}
 use Rattle.pd_line.proofs.Parts.{Kept, OfSource, Watched, unanswered, sink_after, plug_after}
 
 -- What was done to w leaves the source and the answer: it is v now. It doesn't read the answer: done to w without its
 -- answer it is u, which is v without its answer.
-pub record Spares (w v u : Work) : Type 0 where
+pub record Spares (w v u : PortStep) : Type 0 where
   pub source : v.port.source ≡ w.port.source
   pub answer : v.answer ≡ w.answer
   pub blind : u ≡ unanswered v
 
 -- the same for what also answers a value
-pub record SparesWith (A : Type 0) (w : Work) (v u : Work × A) : Type 0 where
+pub record SparesWith (A : Type 0) (w : PortStep) (v u : PortStep × A) : Type 0 where
   pub source : v.0.port.source ≡ w.port.source
   pub answer : v.0.answer ≡ w.answer
   pub blind : u ≡ (unanswered v.0, v.1)
 
 -- what is the same by computing
-pub spares : (w v : Work) → v.port.source ≡ w.port.source → v.answer ≡ w.answer → Spares w v (unanswered v)
+pub spares : (w v : PortStep) → v.port.source ≡ w.port.source → v.answer ≡ w.answer → Spares w v (unanswered v)
 spares w v e f = record { source = e; answer = f; blind = refl }
 
 -- nothing was done
-pub none : (w : Work) → Spares w w (unanswered w)
+pub none : (w : PortStep) → Spares w w (unanswered w)
 none w = spares w w refl refl
 
 -- one after the other
-pub joins : (g : Work → Work) (w v u : Work) → Spares w v u → Spares v (g v) (g (unanswered v)) → Spares w (g v) (g u)
+pub joins : (g : PortStep → PortStep) (w v u : PortStep) → Spares w v u → Spares v (g v) (g (unanswered v)) → Spares w (g v) (g u)
 joins g w v u h k = record { source = k.source ∙ h.source; answer = k.answer ∙ h.answer; blind = ap g h.blind ∙ k.blind }
 
-pub on_layer_spares : (A : Type 0) (side : Side) (channel : Channel) (call : LayerRecord → LayerRecord × A) (w : Work) →
+pub on_layer_spares : (A : Type 0) (side : Side) (channel : Channel) (call : LayerRecord → LayerRecord × A) (w : PortStep) →
     SparesWith A w (on_layer side channel call w) (on_layer side channel call (unanswered w))
 on_layer_spares A Source Sop call w = record { source = refl; answer = refl; blind = refl }
 on_layer_spares A Source SopPrime call w = record { source = refl; answer = refl; blind = refl }
 on_layer_spares A Sink channel call w = record { source = refl; answer = refl; blind = refl }
 on_layer_spares A Plug channel call w = record { source = refl; answer = refl; blind = refl }
 
-pub layer_spares : (c : Channel) (l : LayerRecord) (w : Work) → Spares w (with_layer Source c l w) (with_layer Source c l (unanswered w))
+pub layer_spares : (c : Channel) (l : LayerRecord) (w : PortStep) → Spares w (with_layer Source c l w) (with_layer Source c l (unanswered w))
 layer_spares Sop l w = spares w _ refl refl
 layer_spares SopPrime l w = spares w _ refl refl
 
-pub line_spares : (line : Line) (w : Work) → Spares w (with_line line w) (with_line line (unanswered w))
+pub line_spares : (line : Line) (w : PortStep) → Spares w (with_line line w) (with_line line (unanswered w))
 unfolding with_line
 line_spares line w = spares w _ refl refl
 
-pub start_spares : (s : Start) (w : Work) → Spares w (started s w) (started s (unanswered w))
+pub start_spares : (s : Start) (w : PortStep) → Spares w (started s w) (started s (unanswered w))
 unfolding started
 start_spares s w = spares w _ refl refl
 
@@ -91,7 +91,7 @@ sparing t =
     }
 
 -- also where a timer ends
-pub tells_timer_spares : (side : Side) → OfSource ⊥ side → (timer : Timer) (t : ℕ) (w : Work) →
+pub tells_timer_spares : (side : Side) → OfSource ⊥ side → (timer : Timer) (t : ℕ) (w : PortStep) →
     Spares w (tells_timer side timer t w) (tells_timer side timer t (unanswered w))
 unfolding tells_timer sink_steps plug_steps
 tells_timer_spares Source o timer t w = absurd o
@@ -107,15 +107,15 @@ tells_timer_spares Plug o timer t w =
     joins (plug_acts acts) w v _ (spares w v refl refl) (plug_acts_kept t (sparing t) acts v)
 
 -- The source's engine is stepped with x and the answer. Where it asks nothing, the answer doesn't matter.
-pub record Steps (t : ℕ) (x : SourceStimulus) (w v u : Work) : Type 0 where
+pub record Steps (t : ℕ) (x : SourceStimulus) (w v u : PortStep) : Type 0 where
   pub stepped : v.port.source.record ≡ source.stepped w.port.source.settings t x w.answer w.port.source.record
   pub blind : source.query_of w.port.source.settings x w.port.source.record ≡ None → u ≡ unanswered v
 
 -- the work where the source is this, and the answer is used up
-abbrev source_is : Work → SourceRecord → Work
+abbrev source_is : PortStep → SourceRecord → PortStep
 source_is w r = record w { port = record w.port { source = record w.port.source { «record» = r } }; answer = None }
 
-pub source_steps_step : (t : ℕ) (x : SourceStimulus) (w : Work) → Steps t x w (source_steps t x w) (source_steps t x (unanswered w))
+pub source_steps_step : (t : ℕ) (x : SourceStimulus) (w : PortStep) → Steps t x w (source_steps t x w) (source_steps t x (unanswered w))
 unfolding source_steps
 source_steps_step t x w =
     let s = w.port.source in
@@ -131,14 +131,14 @@ source_steps_step t x w =
     }
 
 -- the layers of the source are as before
-abbrev LeavesLayers : Work → Work → Type 0
+abbrev LeavesLayers : PortStep → PortStep → Type 0
 LeavesLayers w v = (v.port.source_sop ≡ w.port.source_sop) × (v.port.source_sop_prime ≡ w.port.source_sop_prime)
 
-line_layers : (line : Line) (w : Work) → LeavesLayers w (with_line line w)
+line_layers : (line : Line) (w : PortStep) → LeavesLayers w (with_line line w)
 unfolding with_line
 line_layers line w = (refl, refl)
 
-start_layers : (s : Start) (w : Work) → LeavesLayers w (started s w)
+start_layers : (s : Start) (w : PortStep) → LeavesLayers w (started s w)
 unfolding started
 start_layers s w = (refl, refl)
 
@@ -163,13 +163,13 @@ leaves_layers t =
       start = λ m s w. start_layers s w;
     }
 
-on_channel : (c : Channel) (w v : Work) → LeavesLayers w v → layer_on Source c v ≡ layer_on Source c w
+on_channel : (c : Channel) (w v : PortStep) → LeavesLayers w v → layer_on Source c v ≡ layer_on Source c w
 on_channel Sop w v h = h.0
 on_channel SopPrime w v h = h.1
 
-pub line_layer : (line : Line) (c : Channel) (w : Work) → layer_on Source c (with_line line w) ≡ layer_on Source c w
+pub line_layer : (line : Line) (c : Channel) (w : PortStep) → layer_on Source c (with_line line w) ≡ layer_on Source c w
 line_layer line c w = on_channel c w (with_line line w) (line_layers line w)
 
-pub acknowledged_layer : (side : Side) → OfSource ⊥ side → (p : Contents) (t : ℕ) (a : Option Contents) (c : Channel) (w : Work) →
+pub acknowledged_layer : (side : Side) → OfSource ⊥ side → (p : Contents) (t : ℕ) (a : Option Contents) (c : Channel) (w : PortStep) →
     layer_on Source c (acknowledged side p t a w) ≡ layer_on Source c w
 acknowledged_layer side o p t a c w = on_channel c w (acknowledged side p t a w) (acknowledged_kept t (leaves_layers t) tt side o o p a w)

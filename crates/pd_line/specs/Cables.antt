@@ -8,10 +8,10 @@ use Rattle.pd_identity.specs.declared.Cable.{Cable}
 use Rattle.pd_packet.specs.Contents.{Contents}
 use Rattle.pd_protocol.specs.LayerRecord.{OutstandingData}
 pub use Rattle.pd_plug.specs.Acts.{identity_of}
-use Rattle.pd_line.specs.declared.record.Line.{Line}
-use Rattle.pd_line.specs.declared.record.Line.TheVariants.{Idle, Message, Pause, GoodCrc, NoAnswer, HardReset}
-use Rattle.pd_line.specs.declared.record.Waiting.{Waiting}
-use Rattle.pd_line.specs.declared.record.Waiting.TheVariants as waits
+use Rattle.pd_line.specs.declared.port_parts.Line.{Line}
+use Rattle.pd_line.specs.declared.port_parts.Line.TheVariants.{Idle, Message, Pause, GoodCrc, NoAnswer, HardReset}
+use Rattle.pd_line.specs.declared.port_parts.Waiting.{Waiting}
+use Rattle.pd_line.specs.declared.port_parts.Waiting.TheVariants as waits
 use Rattle.pd_line.specs.Record.{PortRecord}
 
 -- what is of type 15, Vendor_Defined, has the objects that the cable answers, or none

@@ -1,8 +1,8 @@
 -- The times at which something is due on a port, and what a step may do to them.
 use Rattle.std.specs.Prelude.{◌≡◌, ◌⊎◌, ℕ, ◌<◌, List, Option, Some, None}
 use Rattle.pd_timers.specs.Deadlines.{SetsLater}
-use Rattle.pd_line.specs.declared.record.Line.{Line}
-use Rattle.pd_line.specs.declared.record.Line.TheVariants.{Idle, Message, Pause, GoodCrc, NoAnswer, HardReset}
+use Rattle.pd_line.specs.declared.port_parts.Line.{Line}
+use Rattle.pd_line.specs.declared.port_parts.Line.TheVariants.{Idle, Message, Pause, GoodCrc, NoAnswer, HardReset}
 use Rattle.pd_line.specs.Record.{PortRecord}
 
 -- when what is on the line ends

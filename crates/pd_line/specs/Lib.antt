@@ -4,4 +4,4 @@ pub mod Lines
 pub mod Noise
 pub mod Record
 pub mod Told
-pub mod Work
+pub mod PortStep

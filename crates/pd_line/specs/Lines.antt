@@ -23,15 +23,15 @@ use Rattle.pd_plug.specs.Step as plug
 use Rattle.pd_line.specs.declared.notes.Fault.TheVariants.{NoGoodCrc}
 use Rattle.pd_line.specs.declared.notes.Start.{Start}
 use Rattle.pd_line.specs.declared.notes.Start.TheVariants as start
-use Rattle.pd_line.specs.declared.record.Disturbance.{Disturbance}
-use Rattle.pd_line.specs.declared.record.Disturbance.TheVariants as disturbance
-use Rattle.pd_line.specs.declared.record.Line.{Line}
-use Rattle.pd_line.specs.declared.record.Line.TheVariants.{Idle, Message, Pause, GoodCrc, NoAnswer, HardReset}
-use Rattle.pd_line.specs.declared.record.Waiting.{Waiting}
-use Rattle.pd_line.specs.declared.record.Waiting.TheVariants as waits
-use Rattle.pd_line.specs.declared.work.Work.{Work}
+use Rattle.pd_line.specs.declared.port_parts.Disturbance.{Disturbance}
+use Rattle.pd_line.specs.declared.port_parts.Disturbance.TheVariants as disturbance
+use Rattle.pd_line.specs.declared.port_parts.Line.{Line}
+use Rattle.pd_line.specs.declared.port_parts.Line.TheVariants.{Idle, Message, Pause, GoodCrc, NoAnswer, HardReset}
+use Rattle.pd_line.specs.declared.port_parts.Waiting.{Waiting}
+use Rattle.pd_line.specs.declared.port_parts.Waiting.TheVariants as waits
+use Rattle.pd_line.specs.declared.port_step.PortStep.{PortStep}
 use Rattle.pd_line.specs.Told.{sent_as}
-use Rattle.pd_line.specs.Work.{with_port, wait, noted, submit_on, good_crc_on, timed_out_on, received_on, reset_on, tells_sent, tells_failed, tells_message, tells_reset}
+use Rattle.pd_line.specs.PortStep.{with_port, wait, noted, submit_on, good_crc_on, timed_out_on, received_on, reset_on, tells_sent, tells_failed, tells_message, tells_reset}
 
 -- how long, in microseconds, the receiver waits before its GoodCRC
 abbrev pub pause : ℕ
@@ -54,11 +54,11 @@ abbrev pub rest_of_time_out : ℕ
 rest_of_time_out = time_out - (pause + duration_of good_crc_symbols)
 
 -- the line is this
-unfoldable pub with_line : Line → Work → Work
+unfoldable pub with_line : Line → PortStep → PortStep
 with_line line w = with_port (record w.port { line = line }) w
 
 -- this starts on the line
-unfoldable pub started : Start → Work → Work
+unfoldable pub started : Start → PortStep → PortStep
 started s w = record w { start = Some s }
 
 -- who is spoken to: the sink and the source on SOP, the plug and the source on SOP'
@@ -69,7 +69,7 @@ receiver Sink channel = Source
 receiver Plug channel = Source
 
 -- whether a side hears
-unfoldable pub hears : Side → Work → Bool
+unfoldable pub hears : Side → PortStep → Bool
 hears Source w = source.hears_in w.port.source.record
 hears Sink w = sink.hears_in w.port.sink
 hears Plug w = plug.hears_in w.port.plug
@@ -79,29 +79,29 @@ abbrev pub fate_of : Disturbance → Fate
 fate_of disturbance.Lost = LostOnTheWay
 fate_of (disturbance.Damaged damage) = DamagedOnTheWay damage
 
-abbrev pub taken_from : List Disturbance → Work → Work × Fate
+abbrev pub taken_from : List Disturbance → PortStep → PortStep × Fate
 taken_from [] w = (w, Undisturbed)
 taken_from (d ∷ rest) w = (with_port (record w.port { disturbances = record { items = rest } }) w, fate_of d)
 
 -- the packet that starts next takes the first disturbance that waits
-unfoldable pub taken : Work → Work × Fate
+unfoldable pub taken : PortStep → PortStep × Fate
 taken w = taken_from w.port.disturbances.items w
 
 -- The revision bits of what a side sends on a channel, GoodCRCs included: on SOP its engine's, on SOP' 10, USB Power
 -- Delivery 3.0. A packet has those of the time at which it starts first.
-abbrev pub revision_on : Side → Channel → Work → ℕ
+abbrev pub revision_on : Side → Channel → PortStep → ℕ
 revision_on Source Sop w = source.revision_bits w.port.source.record
 revision_on Source SopPrime w = 2
 revision_on Sink channel w = sink.revision_bits w.port.sink
 revision_on Plug channel w = 2
 
 -- a message's packet starts
-unfoldable pub packet_starts : Side → Contents → ℕ → Work → Work
+unfoldable pub packet_starts : Side → Contents → ℕ → PortStep → PortStep
 packet_starts side p t w =
     let r = taken w in started (start.Packet side p r.1) (with_line (Message side p r.1 (t + lasts p)) r.0)
 
 -- the GoodCRC for a side's message starts
-unfoldable pub good_crc_starts : Side → Contents → ℕ → Work → Work
+unfoldable pub good_crc_starts : Side → Contents → ℕ → PortStep → PortStep
 good_crc_starts side p t w =
     let hearer = receiver side p.channel in
     let a = acknowledges hearer (revision_on hearer p.channel w) p in
@@ -109,53 +109,53 @@ good_crc_starts side p t w =
     started (start.Packet hearer a r.1) (with_line (GoodCrc side p a r.1 (t + lasts a)) r.0)
 
 -- what is left of a message has been heard, or not
-abbrev pub message_heard : Side → Contents → ℕ → Option Contents → Work → Work
+abbrev pub message_heard : Side → Contents → ℕ → Option Contents → PortStep → PortStep
 message_heard side p t None w = with_line (NoAnswer side p (t + time_out)) w
 message_heard side p t (Some q) w = with_line (Pause side q (t + pause)) w
 
 -- N2: a message has ended. Undisturbed and heard, it is answered after a pause
-unfoldable pub message_ends : Side → Contents → Fate → ℕ → Work → Work
+unfoldable pub message_ends : Side → Contents → Fate → ℕ → PortStep → PortStep
 message_ends side p fate t w =
     message_heard side p t (if hears (receiver side p.channel) w then heard p fate else None) w
 
-abbrev pub told_sent : Side → Contents → ℕ → LayerAct → Work → Work
+abbrev pub told_sent : Side → Contents → ℕ → LayerAct → PortStep → PortStep
 told_sent side p t answer.Sent w = tells_sent side (sent_as (kind_of_header p.header)) t w
 told_sent side p t act w = w
 
 -- what is left of a GoodCRC reaches the sender, or nothing does
-abbrev pub acknowledged : Side → Contents → ℕ → Option Contents → Work → Work
+abbrev pub acknowledged : Side → Contents → ℕ → Option Contents → PortStep → PortStep
 acknowledged side p t None w = with_line (NoAnswer side p (t + rest_of_time_out)) w
 acknowledged side p t (Some a) w =
     let r = good_crc_on side p.channel (id_of a.header) w in told_sent side p t r.1 r.0
 
-abbrev pub told_message : Side → Contents → ℕ → LayerAct → Work → Work
+abbrev pub told_message : Side → Contents → ℕ → LayerAct → PortStep → PortStep
 told_message side p t answer.Up w = tells_message side p t w
 told_message side p t act w = w
 
 -- the receiver's layer takes the message, and its engine is stepped with it where it is no repeat
-unfoldable pub goes_up : Side → Contents → ℕ → Work → Work
+unfoldable pub goes_up : Side → Contents → ℕ → PortStep → PortStep
 goes_up side p t w = let r = received_on side p.channel p.header w in told_message side p t r.1 r.0
 
 -- N3: a GoodCRC has ended
-unfoldable pub good_crc_ends : Side → Contents → Contents → Fate → ℕ → Work → Work
+unfoldable pub good_crc_ends : Side → Contents → Contents → Fate → ℕ → PortStep → PortStep
 good_crc_ends side p a fate t w =
     goes_up (receiver side p.channel) p t (acknowledged side p t (heard a fate) w)
 
-abbrev pub after_time_out : Side → Contents → ℕ → LayerAct → Work → Work
+abbrev pub after_time_out : Side → Contents → ℕ → LayerAct → PortStep → PortStep
 after_time_out side p t (answer.Retry q) w = packet_starts side q t w
 after_time_out side p t answer.Failed w = tells_failed side t (noted (NoGoodCrc side (kind_of_header p.header)) w)
 after_time_out side p t act w = w
 
 -- N4: no GoodCRC has come in time
-unfoldable pub times_out : Side → Contents → ℕ → Work → Work
+unfoldable pub times_out : Side → Contents → ℕ → PortStep → PortStep
 times_out side p t w = let r = timed_out_on side p.channel w in after_time_out side p t r.1 r.0
 
 -- all that waits is dropped
-unfoldable pub waiting_dropped : Work → Work
+unfoldable pub waiting_dropped : PortStep → PortStep
 waiting_dropped w = wait Plug waits.Nothing (wait Sink waits.Nothing (wait Source waits.Nothing w))
 
 -- all layers are reset
-unfoldable pub layers_reset : Work → Work
+unfoldable pub layers_reset : PortStep → PortStep
 layers_reset w = reset_on Plug SopPrime (reset_on Source SopPrime (reset_on Sink Sop (reset_on Source Sop w)))
 
 -- whether a side is this one
@@ -166,20 +166,20 @@ is_side Plug Plug = true
 is_side a b = false
 
 -- a side that hears, and isn't the sender, is stepped with a Hard Reset
-unfoldable pub hears_reset : Side → Side → ℕ → Work → Work
+unfoldable pub hears_reset : Side → Side → ℕ → PortStep → PortStep
 hears_reset sender side t w =
     if is_side side sender then w else (if hears side w then tells_reset side t w else w)
 
 -- the sender's engine is stepped, and then each other side that hears, in the order source, sink, plug
-unfoldable pub all_hear_reset : Side → ℕ → Work → Work
+unfoldable pub all_hear_reset : Side → ℕ → PortStep → PortStep
 all_hear_reset sender t w =
     hears_reset sender Plug t (hears_reset sender Sink t (hears_reset sender Source t (tells_sent sender sent.Other t w)))
 
 -- N5: a Hard Reset has ended
-unfoldable pub hard_reset_ends : Side → ℕ → Work → Work
+unfoldable pub hard_reset_ends : Side → ℕ → PortStep → PortStep
 hard_reset_ends sender t w = all_hear_reset sender t (layers_reset (waiting_dropped w))
 
-abbrev pub line_ends_at : Line → ℕ → Work → Work
+abbrev pub line_ends_at : Line → ℕ → PortStep → PortStep
 line_ends_at Idle t w = w
 line_ends_at (Message side p fate end) t w = message_ends side p fate t w
 line_ends_at (Pause side p end) t w = good_crc_starts side p t w
@@ -188,7 +188,7 @@ line_ends_at (NoAnswer side p end) t w = times_out side p t w
 line_ends_at (HardReset side end) t w = hard_reset_ends side t w
 
 -- the line's due: what is on it has ended
-unfoldable pub line_ends : ℕ → Work → Work
+unfoldable pub line_ends : ℕ → PortStep → PortStep
 line_ends t w = line_ends_at w.port.line t (with_line Idle w)
 
 -- Which channel a side speaks on. The source speaks to the plug in Vendor_Defined messages alone, of type 15.
@@ -198,31 +198,31 @@ channel_for Sink kind = Sop
 channel_for Plug kind = SopPrime
 
 -- what waits on a side
-abbrev pub waiting_on : Side → Work → Waiting
+abbrev pub waiting_on : Side → PortStep → Waiting
 waiting_on Source w = w.port.source_waits
 waiting_on Sink w = w.port.sink_waits
 waiting_on Plug w = w.port.plug_waits
 
-abbrev pub submitted : Side → ℕ → Work × Result Contents MessageData → Work
+abbrev pub submitted : Side → ℕ → PortStep × Result Contents MessageData → PortStep
 submitted side t (w, Ok p) = packet_starts side p t w
 submitted side t (w, Err m) = wait side (waits.Message m) w
 
 -- a message goes to its layer, and starts
-unfoldable pub message_starts : Side → MessageData → ℕ → Work → Work
+unfoldable pub message_starts : Side → MessageData → ℕ → PortStep → PortStep
 message_starts side m t w =
     let channel = channel_for side m.kind in submitted side t (submit_on side channel m (revision_on side channel w) w)
 
 -- A Hard Reset starts. It goes to no layer, and takes no disturbance.
-unfoldable pub hard_reset_starts : Side → ℕ → Work → Work
+unfoldable pub hard_reset_starts : Side → ℕ → PortStep → PortStep
 hard_reset_starts side t w = started (start.HardReset side) (with_line (HardReset side (t + hard_reset_duration)) w)
 
-abbrev pub waiting_starts : Side → ℕ → Waiting → Work → Work
+abbrev pub waiting_starts : Side → ℕ → Waiting → PortStep → PortStep
 waiting_starts side t waits.Nothing w = w
 waiting_starts side t (waits.Message m) w = message_starts side m t w
 waiting_starts side t waits.HardReset w = hard_reset_starts side t w
 
 -- what waits on a side starts
-unfoldable pub side_starts : Side → ℕ → Work → Work
+unfoldable pub side_starts : Side → ℕ → PortStep → PortStep
 side_starts side t w = waiting_starts side t (waiting_on side w) (wait side waits.Nothing w)
 
 abbrev pub is_idle : Line → Bool
@@ -234,7 +234,7 @@ is_waiting waits.Nothing = false
 is_waiting waiting = true
 
 -- N1: where the line is idle, the first that waits starts, in the order source, sink, plug
-unfoldable pub line_starts : ℕ → Work → Work
+unfoldable pub line_starts : ℕ → PortStep → PortStep
 line_starts t w =
     if is_idle w.port.line
     then (if is_waiting w.port.source_waits

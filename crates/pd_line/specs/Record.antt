@@ -11,12 +11,12 @@ use Rattle.pd_sink.specs.Record.{SinkRecord}
 use Rattle.pd_sink.specs.Record as sink
 use Rattle.pd_plug.specs.Record.{PlugRecord}
 use Rattle.pd_plug.specs.Record as plug
-use Rattle.pd_line.specs.declared.record.Record.{Record}
-use Rattle.pd_line.specs.declared.record.Disturbance.{Disturbance}
-use Rattle.pd_line.specs.declared.record.Line.{Line}
-use Rattle.pd_line.specs.declared.record.Line.TheVariants.{Idle}
-use Rattle.pd_line.specs.declared.record.Waiting.{Waiting}
-use Rattle.pd_line.specs.declared.record.Waiting.TheVariants.{Nothing}
+use Rattle.pd_line.specs.declared.port_parts.PortParts.{PortParts}
+use Rattle.pd_line.specs.declared.port_parts.Disturbance.{Disturbance}
+use Rattle.pd_line.specs.declared.port_parts.Line.{Line}
+use Rattle.pd_line.specs.declared.port_parts.Line.TheVariants.{Idle}
+use Rattle.pd_line.specs.declared.port_parts.Waiting.{Waiting}
+use Rattle.pd_line.specs.declared.port_parts.Waiting.TheVariants.{Nothing}
 
 -- the attached cable, the engines, the layers, what waits on each side, the line, and the disturbances that wait for
 -- packets. What the port is set to is no part of it.
@@ -36,7 +36,7 @@ pub record PortRecord : Type 0 where
   pub disturbances : List Disturbance
 
 -- the record without what its source is set to
-abbrev pub without_settings : Record → PortRecord
+abbrev pub without_settings : PortParts → PortRecord
 without_settings r =
     record {
       cable = r.cable;
@@ -55,7 +55,7 @@ without_settings r =
     }
 
 -- and with it again
-abbrev pub with_settings : SourceSettings → PortRecord → Record
+abbrev pub with_settings : SourceSettings → PortRecord → PortParts
 with_settings settings r =
     record {
       cable = r.cable;

@@ -2,13 +2,13 @@
 
 ghost use Rattle.std.specs.Prelude.{◌≡◌, ℕ, ◌+◌, ◌≤◌, length};
 
-use crate::record::Waiting;
-use crate::work::Work;
+use crate::port_parts::Waiting;
+use crate::port_step::PortStep;
 use pd_header::Side;
 use pd_source::Sent;
 use pd_symbols::Channel;
 
-impl Work {
+impl PortStep {
     ghost use Rattle.pd_line.specs.Noise.{most_besides};
     ghost use Rattle.pd_line.specs.Lines.{waiting_dropped, layers_reset, hears_reset, all_hear_reset, hard_reset_ends};
 

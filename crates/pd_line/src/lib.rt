@@ -4,12 +4,10 @@
 mod hard_reset;
 mod lines;
 mod notes;
-mod record;
+mod port_parts;
+mod port_step;
 mod same;
+pub mod stepping;
 mod told;
-mod work;
 
 pub use notes::{Fault, Start};
-pub use record::{Disturbance, Line, Record, Waiting};
-pub use told::{sent_as, source_hears_as};
-pub use work::Work;

@@ -4,9 +4,9 @@ ghost use Rattle.std.specs.Prelude.{◌≡◌, ℕ, ◌+◌, ◌<◌, ◌≤◌,
 ghost use Rattle.pd_line.specs.Lines.{receiver, channel_for, rest_of_time_out, fate_of};
 
 use crate::notes::{Fault, Start};
-use crate::record::{Disturbance, Line, Waiting};
+use crate::port_parts::{Disturbance, Line, Waiting};
+use crate::port_step::PortStep;
 use crate::told::sent_as;
-use crate::work::Work;
 use pd_header::{Side, header_id, header_kind};
 use pd_packet::{Fate, Packet, duration, hard_reset_duration, packet_duration, reaches};
 use pd_protocol::{LayerAct, Message, good_crc_for};
@@ -80,10 +80,10 @@ impl Disturbance {
     }
 }
 
-impl Work {
+impl PortStep {
     ghost use Rattle.pd_packet.specs.Hearing.{heard};
     ghost use Rattle.pd_line.specs.Noise.{most, most_besides};
-    ghost use Rattle.pd_line.specs.Work.{wait};
+    ghost use Rattle.pd_line.specs.PortStep.{wait};
     ghost use Rattle.pd_line.specs.Lines.{hears, taken, revision_on, packet_starts, good_crc_starts, message_ends, goes_up, good_crc_ends, times_out, hard_reset_ends, line_ends, line_starts, acknowledged, waiting_on, message_starts, hard_reset_starts, side_starts};
 
     /// Whether a side hears.
@@ -290,7 +290,7 @@ impl Work {
     }
 
     /// Takes what waits on a side.
-    #[tactic(auto, unfolding(crate::specs::Work::wait))]
+    #[tactic(auto, unfolding(crate::specs::PortStep::wait))]
     fn take_waiting(&mut self, side: Side) -> Waiting
         ensures value { result ≡ waiting_on side self.old }
         ensures after { self.new ≡ wait side Waiting.Nothing self.old }

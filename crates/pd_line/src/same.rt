@@ -2,7 +2,7 @@
 
 ghost use Rattle.std.specs.Prelude.{◌≡◌, ℕ, ◌≤◌, length, IsTrue, ◌↔◌};
 
-use crate::record::{Disturbance, Line, Record, Waiting};
+use crate::port_parts::{Disturbance, Line, PortParts, Waiting};
 use arrayvec::ArrayVec;
 use pd_header::Side;
 use pd_objects::Supply;
@@ -39,7 +39,7 @@ impl Waiting {
 }
 
 impl Line {
-    ghost use Rattle.pd_line.specs.declared.record.Line.TheVariants as lines;
+    ghost use Rattle.pd_line.specs.declared.port_parts.Line.TheVariants as lines;
 
     /// Whether both are the same.
     fn same(&self, other: &Line) -> bool
@@ -221,18 +221,18 @@ fn copy_disturbances(disturbances: &ArrayVec<Disturbance, 8>) -> ArrayVec<Distur
     copy
 }
 
-impl Record {
+impl PortParts {
     ghost use Rattle.pd_source.specs.Record.{SourceSettings};
     ghost use Rattle.pd_line.specs.Record.{without_settings, with_settings, nothing_attached};
 
     /// A port to which nothing is attached.
     #[tactic(auto, unfolding(crate::specs::Record::nothing_attached))]
-    pub fn new(supplies: &[Supply], identity_tries: u8, unconstrained: bool) -> Record
+    pub fn new(supplies: &[Supply], identity_tries: u8, unconstrained: bool) -> PortParts
         requires { length supplies.now ≤ 7 }
         ensures { let settings : SourceSettings = record { supplies = supplies.now; identity_tries = identity_tries; unconstrained = unconstrained } in
             result ≡ with_settings settings (nothing_attached settings) }
     {
-        Record {
+        PortParts {
             cable: None,
             source: Source::new(supplies, identity_tries, unconstrained),
             sink: Sink::new(),
@@ -249,7 +249,7 @@ impl Record {
         }
     }
 
-    fn same_engines(&self, other: &Record) -> bool
+    fn same_engines(&self, other: &PortParts) -> bool
         ensures { IsTrue result ↔ ((self.now.source.record ≡ other.now.source.record) × (self.now.sink ≡ other.now.sink)
             × (self.now.plug ≡ other.now.plug)) }
     {
@@ -258,7 +258,7 @@ impl Record {
             && self.plug.same(&other.plug)
     }
 
-    fn same_layers(&self, other: &Record) -> bool
+    fn same_layers(&self, other: &PortParts) -> bool
         ensures { IsTrue result ↔ ((self.now.source_sop ≡ other.now.source_sop) × (self.now.sink_sop ≡ other.now.sink_sop)
             × (self.now.source_sop_prime ≡ other.now.source_sop_prime) × (self.now.plug_sop_prime ≡ other.now.plug_sop_prime)) }
     {
@@ -268,7 +268,7 @@ impl Record {
             && self.plug_sop_prime.same(&other.plug_sop_prime)
     }
 
-    fn same_waiting(&self, other: &Record) -> bool
+    fn same_waiting(&self, other: &PortParts) -> bool
         ensures { IsTrue result ↔ ((self.now.source_waits ≡ other.now.source_waits) × (self.now.sink_waits ≡ other.now.sink_waits)
             × (self.now.plug_waits ≡ other.now.plug_waits)) }
     {
@@ -278,7 +278,7 @@ impl Record {
     }
 
     /// Whether both are the same, whatever their sources are set to.
-    pub fn same(&self, other: &Record) -> bool
+    pub fn same(&self, other: &PortParts) -> bool
         ensures { IsTrue result ↔ (without_settings self.now ≡ without_settings other.now) }
     {
         self.cable == other.cable
@@ -290,10 +290,10 @@ impl Record {
     }
 
     /// The same record.
-    pub fn copy(&self) -> Record
+    pub fn copy(&self) -> PortParts
         ensures { result ≡ self.now }
     {
-        Record {
+        PortParts {
             cable: self.cable,
             source: self.source.copy(),
             sink: self.sink.copy(),

@@ -31,15 +31,15 @@ use Rattle.pd_setup.specs.declared.event.Happening.{Happening}
 use Rattle.pd_setup.specs.declared.event.Happening.TheVariants.{Port, Budget}
 use Rattle.pd_setup.specs.Settings.{SettingsData}
 use Rattle.pd_line.specs.declared.notes.Fault.TheVariants.{NoGoodCrc, Ignored}
-use Rattle.pd_line.specs.declared.record.Disturbance.{Disturbance}
-use Rattle.pd_line.specs.declared.record.Disturbance.TheVariants.{Lost, Damaged}
-use Rattle.pd_line.specs.declared.record.Record.{Record}
-use Rattle.pd_line.specs.declared.record.Line.{Line}
-use Rattle.pd_line.specs.declared.record.Line.TheVariants.{Idle, Message, Pause, GoodCrc, NoAnswer, HardReset}
-use Rattle.pd_line.specs.declared.work.Work.{Work}
+use Rattle.pd_line.specs.declared.port_parts.Disturbance.{Disturbance}
+use Rattle.pd_line.specs.declared.port_parts.Disturbance.TheVariants.{Lost, Damaged}
+use Rattle.pd_line.specs.declared.port_parts.PortParts.{PortParts}
+use Rattle.pd_line.specs.declared.port_parts.Line.{Line}
+use Rattle.pd_line.specs.declared.port_parts.Line.TheVariants.{Idle, Message, Pause, GoodCrc, NoAnswer, HardReset}
+use Rattle.pd_line.specs.declared.port_step.PortStep.{PortStep}
 use Rattle.pd_line.specs.Record.{without_settings, nothing_attached}
 use Rattle.pd_line.specs.Told.{sent_as, source_hears_as}
-use Rattle.pd_line.specs.Work.{with_port, noted, layer_on, on_layer, good_crc_on, timed_out_on, received_on, sink_steps, plug_steps, source_steps, tells_sent, tells_failed, tells_message, tells_reset, tells_timer, tells_attach}
+use Rattle.pd_line.specs.PortStep.{with_port, noted, layer_on, on_layer, good_crc_on, timed_out_on, received_on, sink_steps, plug_steps, source_steps, tells_sent, tells_failed, tells_message, tells_reset, tells_timer, tells_attach}
 use Rattle.pd_line.specs.Lines.{with_line, receiver, hears, told_sent, acknowledged, told_message, goes_up, good_crc_ends, after_time_out, times_out, waiting_dropped, layers_reset, hears_reset, all_hear_reset, hard_reset_ends, line_ends_at, line_ends, line_starts}
 use Rattle.pd_line.proofs.Kept.{choice, noted_kept, sink_steps_kept, plug_steps_kept, tells_sent_kept, packet_starts_kept, good_crc_starts_kept, message_ends_kept, acknowledged_kept, goes_up_kept, times_out_kept, waiting_dropped_kept, layers_reset_kept, hears_reset_kept, attached_kept, line_starts_kept}
 use Rattle.pd_line.proofs.Parts.{OfSource, unanswered}
@@ -50,24 +50,24 @@ use Rattle.pd_port.specs.declared.due.What.TheVariants as what
 use Rattle.pd_port.specs.declared.entry.Entry.{Entry}
 use Rattle.pd_port.specs.Laws.{source_after_told, source_after}
 use Rattle.pd_port.specs.Happens.{detaches, disturbs, gets_source, gets_sink, happens_attached, happens_detached, shed, budget_changes}
-use Rattle.pd_port.specs.Told.{source_layer, told_if_sent, told_if_up, told_if_failed, told_of_good_crc, told_at_good_crc, told_at_time_out, told_of_reset, told_by_line, told_attached, told_detached, source_told, told_if_shed}
+use Rattle.pd_port.specs.SourceTold.{source_layer, told_if_sent, told_if_up, told_if_failed, told_of_good_crc, told_at_good_crc, told_at_time_out, told_of_reset, told_by_line, told_attached, told_detached, source_told, told_if_shed}
 use Rattle.pd_port.specs.Changes.{contract_change}
 use Rattle.pd_port.specs.Port.{PortRecord, happens, begun, portstep, whole, source_settings, record_after, entry_of, ask, asks}
-use Rattle.pd_port.proofs.Told.{Becomes, AsksNothing, Tells, spares_tell, source_steps_tell, becomes_first, told_first, after_spared, told_then, told_then_with, HasLayers, its_layers, retold, told_sent_tells, told_message_tells, after_time_out_tells, acknowledged_tells, goes_up_tells, others_hear, any_touches, other_good_crc_tells, good_crc_ends_tells, times_out_tells, reset_spares, own_reset_tells, told_if_hears, source_gets_reset, source_hears_reset, other_reset_tells, hard_reset_tells, line_ends_at_tells, line_ends_tells}
+use Rattle.pd_port.proofs.SourceTold.{Becomes, AsksNothing, Tells, spares_tell, source_steps_tell, becomes_first, told_first, after_spared, told_then, told_then_with, HasLayers, its_layers, retold, told_sent_tells, told_message_tells, after_time_out_tells, acknowledged_tells, goes_up_tells, others_hear, any_touches, other_good_crc_tells, good_crc_ends_tells, times_out_tells, reset_spares, own_reset_tells, told_if_hears, source_gets_reset, source_hears_reset, other_reset_tells, hard_reset_tells, line_ends_at_tells, line_ends_tells}
 
-timer_tells : (side : Side) (timer : Timer) (t : ℕ) (w : Work) →
+timer_tells : (side : Side) (timer : Timer) (t : ℕ) (w : PortStep) →
     Tells t (source_told (what.Timer side timer) w.port) w (tells_timer side timer t w) (tells_timer side timer t (unanswered w))
 unfolding tells_timer
 timer_tells Source timer t w = source_steps_tell t (told.Ended timer) w
 timer_tells Sink timer t w = spares_tell t w _ _ (tells_timer_spares Sink tt timer t w)
 timer_tells Plug timer t w = spares_tell t w _ _ (tells_timer_spares Plug tt timer t w)
 
-attach_tells : (cable : Cable) (device : SinkData) (t : ℕ) (w : Work) →
+attach_tells : (cable : Cable) (device : SinkData) (t : ℕ) (w : PortStep) →
     Tells t (Some told.Attach) w (tells_attach cable device t w) (tells_attach cable device t (unanswered w))
 unfolding tells_attach
 attach_tells cable device t w =
     let x : Option Stimulus = Some told.Attach in
-    let a : Work = with_port (record w.port { cable = Some cable }) w in
+    let a : PortStep = with_port (record w.port { cable = Some cable }) w in
     let b = source_steps t told.Attach a in
     let c = sink_steps t (sink_told.Attach device) b in
     told_first t x (plug_steps t _) w c _
@@ -76,19 +76,19 @@ attach_tells cable device t w =
     (sink_steps_kept t (sparing t) (sink_told.Attach device) b refl))
     (plug_steps_kept t (sparing t) _ c refl)
 
-disturbs_spares : (id : ℕ) (d : Disturbance) (t : ℕ) (w : Work) → Spares w (disturbs id d w) (disturbs id d (unanswered w))
+disturbs_spares : (id : ℕ) (d : Disturbance) (t : ℕ) (w : PortStep) → Spares w (disturbs id d w) (disturbs id d (unanswered w))
 unfolding disturbs
 disturbs_spares id d t w =
-    let waits : Work → Work = λ z. with_port (record z.port { disturbances = record { items = z.port.disturbances.items ++ d ∷ [] } }) z in
+    let waits : PortStep → PortStep = λ z. with_port (record z.port { disturbances = record { items = z.port.disturbances.items ++ d ∷ [] } }) z in
     choice t (sparing t) (nat_lt (length w.port.disturbances.items) 8) waits (noted (Ignored id)) w (spares w _ refl refl) (noted_kept t (sparing t) (Ignored id) w)
 
-gets_source_spares : (id t : ℕ) (w : Work) → Spares w (gets_source id t w) (gets_source id t (unanswered w))
+gets_source_spares : (id t : ℕ) (w : PortStep) → Spares w (gets_source id t w) (gets_source id t (unanswered w))
 unfolding gets_source
 gets_source_spares id t w =
     choice t (sparing t) (sink.is_ready w.port.sink) (sink_steps t sink_told.GetSource) (noted (Ignored id)) w
     (sink_steps_kept t (sparing t) sink_told.GetSource w refl) (noted_kept t (sparing t) (Ignored id) w)
 
-gets_sink_tells : (id t : ℕ) (w : Work) →
+gets_sink_tells : (id t : ℕ) (w : PortStep) →
     Tells t (if source.is_ready w.port.source.record then Some told.GetSink else None) w (gets_sink id t w) (gets_sink id t (unanswered w))
 unfolding gets_sink
 gets_sink_tells id t w = either (source.is_ready w.port.source.record) where
@@ -98,13 +98,13 @@ gets_sink_tells id t w = either (source.is_ready w.port.source.record) where
   either false = spares_tell t w _ _ (noted_kept t (sparing t) (Ignored id) w)
 
 -- an event while nothing is attached
-detached_tells : (id : ℕ) (k : EventKind) (t : ℕ) (w : Work) →
+detached_tells : (id : ℕ) (k : EventKind) (t : ℕ) (w : PortStep) →
     Tells t (told_detached k) w (happens_detached id k t w) (happens_detached id k t (unanswered w))
 detached_tells id (Attach cable device) t w = attach_tells cable device t w
 detached_tells id k t w = spares_tell t w _ _ (noted_kept t (sparing t) (Ignored id) w)
 
 -- how a step of the port begins
-abbrev first_work : SettingsData → PortRecord → Option Answer → Work
+abbrev first_work : SettingsData → PortRecord → Option Answer → PortStep
 first_work s r given = begun (whole s r) given
 
 -- what happens makes the source what the law says
@@ -114,11 +114,11 @@ Happens s r x t given =
     Becomes (source_after s r d given) (ask s r d ≡ None) (first_work s r given) (happens x t (first_work s r given)) (happens x t (first_work s r None))
 
 -- what is told at the beginning of a step
-abbrev TellsFirst : SettingsData → PortRecord → Option Stimulus → ℕ → Option Answer → (Work → Work) → Type 0
+abbrev TellsFirst : SettingsData → PortRecord → Option Stimulus → ℕ → Option Answer → (PortStep → PortStep) → Type 0
 TellsFirst s r x t given f = Tells t x (first_work s r given) (f (first_work s r given)) (f (first_work s r None))
 
 -- one thing while a sink is attached, and else another
-by_cable : (b : Bool) (s : SettingsData) (r : PortRecord) (t : ℕ) (given : Option Answer) (x y : Option Stimulus) (f g : Work → Work) →
+by_cable : (b : Bool) (s : SettingsData) (r : PortRecord) (t : ℕ) (given : Option Answer) (x y : Option Stimulus) (f g : PortStep → PortStep) →
     TellsFirst s r x t given f → TellsFirst s r y t given g → TellsFirst s r (if b then x else y) t given (λ z. if b then f z else g z)
 by_cable true s r t given x y f g h k = h
 by_cable false s r t given x y f g h k = k
@@ -159,7 +159,7 @@ kind_happens s r at id t given GetSource =
 kind_happens s r at id t given GetSink = told_event s r id GetSink t given (gets_sink_tells id t (first_work s r given))
 
 -- where the hold may not stay, the source sheds it
-shed_becomes : (a : Option Answer) (t : ℕ) (w : Work) →
+shed_becomes : (a : Option Answer) (t : ℕ) (w : PortStep) →
     (shed a t (unanswered w)).port.source.record ≡ source_after_told w.port.source.settings t (told_if_shed a) None w.port.source.record
 shed_becomes (Some (answers.Fits false)) t w = (source_steps_step t told.Shed (unanswered w)).stepped
 shed_becomes a t w = refl
@@ -197,12 +197,12 @@ portstep-blind s r d a b h = sym ((portstep_becomes s r d a).blind h) ∙ (ports
 
 pub record_after-blind : (s : SettingsData) (r : PortRecord) (d : Due) (a b : Option Answer) → ask s r d ≡ None → record_after s r d a ≡ record_after s r d b
 unfolding record_after
-record_after-blind s r d a b h = ap (λ (w : Work). without_settings w.port) (portstep-blind s r d a b h)
+record_after-blind s r d a b h = ap (λ (w : PortStep). without_settings w.port) (portstep-blind s r d a b h)
 
 pub entry_of-blind : (s : SettingsData) (r : PortRecord) (d : Due) (a b : Option Answer) → ask s r d ≡ None → entry_of s r d a ≡ entry_of s r d b
 unfolding entry_of
 entry_of-blind s r d a b h =
-    let entry : Work → Entry = λ w.
+    let entry : PortStep → Entry = λ w.
     record {
       at = d.time;
       due = d;

@@ -20,7 +20,7 @@ use Rattle.pd_port.specs.declared.due.What.TheVariants as what
 use Rattle.pd_port.specs.Budget.{KeepsOrSheds, RestsEmpty, RestsAreEmpty, EventsComeFirst}
 use Rattle.pd_port.specs.Happens.{is_budget, is_detach}
 use Rattle.pd_port.specs.Laws.{source_after_told}
-use Rattle.pd_port.specs.Told.{source_told, told_if_shed}
+use Rattle.pd_port.specs.SourceTold.{source_told, told_if_shed}
 use Rattle.pd_port.specs.Port.{rank, side_place, is_before, due, detached, source_settings, whole, ask, asks, record_after, hold}
 use Rattle.pd_port.proofs.Asked.{record_after-source}
 use Rattle.pd_port.proofs.PortLaws.{due_event}

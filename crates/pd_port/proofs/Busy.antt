@@ -12,12 +12,12 @@ use Rattle.pd_setup.specs.declared.event.Happening.{Happening}
 use Rattle.pd_setup.specs.declared.event.Happening.TheVariants.{Port, Budget}
 use Rattle.pd_setup.specs.Settings.{SettingsData}
 use Rattle.pd_line.specs.declared.notes.Fault.TheVariants.{Ignored}
-use Rattle.pd_line.specs.declared.record.Disturbance.{Disturbance}
-use Rattle.pd_line.specs.declared.record.Disturbance.TheVariants.{Lost, Damaged}
-use Rattle.pd_line.specs.declared.record.Record.{Record}
-use Rattle.pd_line.specs.declared.work.Work.{Work}
+use Rattle.pd_line.specs.declared.port_parts.Disturbance.{Disturbance}
+use Rattle.pd_line.specs.declared.port_parts.Disturbance.TheVariants.{Lost, Damaged}
+use Rattle.pd_line.specs.declared.port_parts.PortParts.{PortParts}
+use Rattle.pd_line.specs.declared.port_step.PortStep.{PortStep}
 use Rattle.pd_line.specs.Record.{without_settings, nothing_attached}
-use Rattle.pd_line.specs.Work.{with_port, noted, sink_steps, source_steps}
+use Rattle.pd_line.specs.PortStep.{with_port, noted, sink_steps, source_steps}
 use Rattle.pd_line.specs.Lines.{is_idle, line_starts}
 use Rattle.pd_line.proofs.Kept.{choice, noted_kept, sink_steps_kept, tells_attach_kept}
 use Rattle.pd_line.proofs.Busy.{LeavesLine, leaves_line, source_steps_line, StartsOne, line_ends_one, line_starts-busy, tells_timer_line}
@@ -29,31 +29,31 @@ use Rattle.pd_port.specs.Happens.{detaches, disturbs, gets_source, gets_sink, ha
 use Rattle.pd_port.specs.Port.{PortRecord, happens, begun, portstep, whole, detached, record_after, entry_of}
 
 -- a step that leaves the line busy starts nothing more
-pub portstep-busy : (r : Record) (d : Due) (given : Option Answer) → is_idle (happens d.what d.time (begun r given)).port.line ≡ false →
+pub portstep-busy : (r : PortParts) (d : Due) (given : Option Answer) → is_idle (happens d.what d.time (begun r given)).port.line ≡ false →
     portstep r d given ≡ happens d.what d.time (begun r given)
 unfolding portstep
 portstep-busy r d given h = line_starts-busy d.time (happens d.what d.time (begun r given)) h
 
-disturbs_line : (id : ℕ) (d : Disturbance) (t : ℕ) (w : Work) → LeavesLine w (disturbs id d w)
+disturbs_line : (id : ℕ) (d : Disturbance) (t : ℕ) (w : PortStep) → LeavesLine w (disturbs id d w)
 unfolding disturbs
 disturbs_line id d t w =
-    let waits : Work → Work = λ z. with_port (record z.port { disturbances = record { items = z.port.disturbances.items ++ d ∷ [] } }) z in
+    let waits : PortStep → PortStep = λ z. with_port (record z.port { disturbances = record { items = z.port.disturbances.items ++ d ∷ [] } }) z in
     choice t (leaves_line t) (nat_lt (length w.port.disturbances.items) 8) waits (noted (Ignored id)) w
     (record { line = refl; start = refl }) (noted_kept t (leaves_line t) (Ignored id) w)
 
-gets_source_line : (id t : ℕ) (w : Work) → LeavesLine w (gets_source id t w)
+gets_source_line : (id t : ℕ) (w : PortStep) → LeavesLine w (gets_source id t w)
 unfolding gets_source
 gets_source_line id t w =
     choice t (leaves_line t) (sink.is_ready w.port.sink) (sink_steps t sink_told.GetSource) (noted (Ignored id)) w
     (sink_steps_kept t (leaves_line t) sink_told.GetSource w refl) (noted_kept t (leaves_line t) (Ignored id) w)
 
-gets_sink_line : (id t : ℕ) (w : Work) → LeavesLine w (gets_sink id t w)
+gets_sink_line : (id t : ℕ) (w : PortStep) → LeavesLine w (gets_sink id t w)
 unfolding gets_sink
 gets_sink_line id t w =
     choice t (leaves_line t) (source.is_ready w.port.source.record) (source_steps t source_told.GetSink) (noted (Ignored id)) w
     (source_steps_line t source_told.GetSink w) (noted_kept t (leaves_line t) (Ignored id) w)
 
-attached_line : (id : ℕ) (k : EventKind) (t : ℕ) (w : Work) → pulls_out k ≡ false → LeavesLine w (happens_attached id k t w)
+attached_line : (id : ℕ) (k : EventKind) (t : ℕ) (w : PortStep) → pulls_out k ≡ false → LeavesLine w (happens_attached id k t w)
 attached_line id (Attach cable device) t w n = noted_kept t (leaves_line t) (Ignored id) w
 attached_line id Detach t w n = absurd (cc)
 attached_line id (Demand mw) t w n = sink_steps_kept t (leaves_line t) (sink_told.Demand mw) w refl
@@ -62,34 +62,34 @@ attached_line id (Damage d) t w n = disturbs_line id (Damaged d) t w
 attached_line id GetSource t w n = gets_source_line id t w
 attached_line id GetSink t w n = gets_sink_line id t w
 
-detached_line : (id : ℕ) (k : EventKind) (t : ℕ) (w : Work) → LeavesLine w (happens_detached id k t w)
+detached_line : (id : ℕ) (k : EventKind) (t : ℕ) (w : PortStep) → LeavesLine w (happens_detached id k t w)
 detached_line id (Attach cable device) t w = tells_attach_kept t (leaves_line t) tt cable device w
 detached_line id k t w = noted_kept t (leaves_line t) (Ignored id) w
 
-shed_line : (a : Option Answer) (t : ℕ) (w : Work) → LeavesLine w (shed a t (record w { answer = None }))
+shed_line : (a : Option Answer) (t : ℕ) (w : PortStep) → LeavesLine w (shed a t (record w { answer = None }))
 shed_line (Some (answers.Fits false)) t w =
     let h = source_steps_line t source_told.Shed (record w { answer = None }) in record { line = h.line; start = h.start }
 shed_line a t w = record { line = refl; start = refl }
 
-event_line : (h : Happening) (t : ℕ) (w : Work) → pulls_cable h ≡ false → LeavesLine w (event_happens h t w)
+event_line : (h : Happening) (t : ℕ) (w : PortStep) → pulls_cable h ≡ false → LeavesLine w (event_happens h t w)
 unfolding budget_changes
 event_line (Port id k) t w n =
     choice t (leaves_line t) (is_some w.port.cable) (happens_attached id k t) (happens_detached id k t) w (attached_line id k t w n) (detached_line id k t w)
 event_line Budget t w n = shed_line w.answer t w
 
-happens_line : (x : What) (t : ℕ) (w : Work) → is_line x ≡ false → is_detach x ≡ false → LeavesLine w (happens x t w)
+happens_line : (x : What) (t : ℕ) (w : PortStep) → is_line x ≡ false → is_detach x ≡ false → LeavesLine w (happens x t w)
 happens_line (what.Event e) t w n m = event_line e.happening t w m
 happens_line what.Line t w n m = absurd (cc)
 happens_line (what.Timer side timer) t w n m = tells_timer_line side timer t w
 
 -- where the line is busy, and it isn't its end that falls due, it stays as it is
-portstep_line : (r : Record) (d : Due) (given : Option Answer) → is_idle r.line ≡ false → is_line d.what ≡ false → is_detach d.what ≡ false →
+portstep_line : (r : PortParts) (d : Due) (given : Option Answer) → is_idle r.line ≡ false → is_line d.what ≡ false → is_detach d.what ≡ false →
     LeavesLine (begun r given) (portstep r d given)
 portstep_line r d given h n m =
     let w = begun r given in
     let k = happens_line d.what d.time w n m in
     let e = portstep-busy r d given (ap is_idle k.line ∙ h) in
-    record { line = ap (λ (x : Work). x.port.line) e ∙ k.line; start = ap (λ (x : Work). x.start) e ∙ k.start }
+    record { line = ap (λ (x : PortStep). x.port.line) e ∙ k.line; start = ap (λ (x : PortStep). x.start) e ∙ k.start }
 
 pub record_after-line : (s : SettingsData) (r : PortRecord) (d : Due) (given : Option Answer) → is_idle r.line ≡ false → is_line d.what ≡ false →
     is_detach d.what ≡ false → (record_after s r d given).line ≡ r.line
@@ -101,31 +101,31 @@ pub entry_of-start : (s : SettingsData) (r : PortRecord) (d : Due) (given : Opti
 unfolding entry_of
 entry_of-start s r d given h n m = (portstep_line (whole s r) d given h n m).start
 
-detaches_start : (b : Bool) (id : ℕ) (w : Work) → (if b then detaches w else noted (Ignored id) w).start ≡ w.start
+detaches_start : (b : Bool) (id : ℕ) (w : PortStep) → (if b then detaches w else noted (Ignored id) w).start ≡ w.start
 unfolding detaches noted
 detaches_start true id w = refl
 detaches_start false id w = refl
 
-kind_start : (id : ℕ) (k : EventKind) (t : ℕ) (w : Work) → (port_event_happens id k t w).start ≡ w.start
+kind_start : (id : ℕ) (k : EventKind) (t : ℕ) (w : PortStep) → (port_event_happens id k t w).start ≡ w.start
 kind_start id Detach t w = detaches_start (is_some w.port.cable) id w
 kind_start id k t w = (event_line (Port id k) t w refl).start
 
-event_start : (h : Happening) (t : ℕ) (w : Work) → (event_happens h t w).start ≡ w.start
+event_start : (h : Happening) (t : ℕ) (w : PortStep) → (event_happens h t w).start ≡ w.start
 event_start (Port id k) t w = kind_start id k t w
 event_start Budget t w = (event_line Budget t w refl).start
 
-happens_one : (x : What) (t : ℕ) (w : Work) → StartsOne w (happens x t w)
+happens_one : (x : What) (t : ℕ) (w : PortStep) → StartsOne w (happens x t w)
 happens_one (what.Event e) t w = inl (event_start e.happening t w)
 happens_one what.Line t w = line_ends_one t w
 happens_one (what.Timer side timer) t w = inl (tells_timer_line side timer t w).start
 
-one_of : (r : Record) (d : Due) (given : Option Answer) (v : Work) → v ≡ happens d.what d.time (begun r given) → StartsOne (begun r given) v →
+one_of : (r : PortParts) (d : Due) (given : Option Answer) (v : PortStep) → v ≡ happens d.what d.time (begun r given) → StartsOne (begun r given) v →
     (v.start ≡ None) ⊎ (portstep r d given ≡ v)
 one_of r d given v e (inl h) = inl h
-one_of r d given v e (inr h) = inr (portstep-busy r d given (ap (λ (w : Work). is_idle w.port.line) (sym e) ∙ h) ∙ sym e)
+one_of r d given v e (inr h) = inr (portstep-busy r d given (ap (λ (w : PortStep). is_idle w.port.line) (sym e) ∙ h) ∙ sym e)
 
 -- what falls due starts nothing, or else nothing that waits starts
-pub portstep-one : (r : Record) (d : Due) (given : Option Answer) →
+pub portstep-one : (r : PortParts) (d : Due) (given : Option Answer) →
     ((happens d.what d.time (begun r given)).start ≡ None) ⊎ (portstep r d given ≡ happens d.what d.time (begun r given))
 portstep-one r d given = one_of r d given (happens d.what d.time (begun r given)) refl (happens_one d.what d.time (begun r given))
 

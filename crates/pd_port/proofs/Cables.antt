@@ -40,16 +40,16 @@ use Rattle.pd_setup.specs.declared.event.Happening.{Happening}
 use Rattle.pd_setup.specs.declared.event.Happening.TheVariants.{Port, Budget}
 use Rattle.pd_setup.specs.Settings.{SettingsData}
 use Rattle.pd_line.specs.declared.notes.Fault.TheVariants.{Ignored}
-use Rattle.pd_line.specs.declared.record.Disturbance.{Disturbance}
-use Rattle.pd_line.specs.declared.record.Disturbance.TheVariants.{Lost, Damaged}
-use Rattle.pd_line.specs.declared.record.Record.{Record}
-use Rattle.pd_line.specs.declared.record.Line.{Line}
-use Rattle.pd_line.specs.declared.record.Line.TheVariants.{GoodCrc, NoAnswer, HardReset}
-use Rattle.pd_line.specs.declared.work.Work.{Work}
+use Rattle.pd_line.specs.declared.port_parts.Disturbance.{Disturbance}
+use Rattle.pd_line.specs.declared.port_parts.Disturbance.TheVariants.{Lost, Damaged}
+use Rattle.pd_line.specs.declared.port_parts.PortParts.{PortParts}
+use Rattle.pd_line.specs.declared.port_parts.Line.{Line}
+use Rattle.pd_line.specs.declared.port_parts.Line.TheVariants.{GoodCrc, NoAnswer, HardReset}
+use Rattle.pd_line.specs.declared.port_step.PortStep.{PortStep}
 use Rattle.pd_line.specs.Record.{PortRecord, nothing_attached}
 use Rattle.pd_line.specs.Cables.{identity_of, Tells, TellsOn, LineTells, wire, TellsOfCable}
 use Rattle.pd_line.specs.Told.{source_hears_as}
-use Rattle.pd_line.specs.Work.{noted, sink_steps, source_steps}
+use Rattle.pd_line.specs.PortStep.{noted, sink_steps, source_steps}
 use Rattle.pd_line.proofs.Cables.{On}
 use Rattle.pd_line.proofs.CableRules.{noted_on, sink_steps_on, source_steps_on, tells_timer_on, tells_attach_on, line_ends_on, line_starts_on, either_on}
 use Rattle.pd_port.specs.declared.due.Due.{Due}
@@ -58,7 +58,7 @@ use Rattle.pd_port.specs.declared.due.What.TheVariants as what
 use Rattle.pd_port.specs.Cables.{carried, KnowsCable, PortsKnowTheirCables}
 use Rattle.pd_port.specs.Happens.{detaches, disturbs, gets_source, gets_sink, happens_attached, happens_detached, shed, budget_changes, event_happens, pulls_out}
 use Rattle.pd_port.specs.Laws.{source_after_told, source_after}
-use Rattle.pd_port.specs.Told.{told_if_sent, told_if_up, told_if_failed, told_of_good_crc, told_at_good_crc, told_at_time_out, told_of_reset, told_by_line, told_attached, told_detached, told_by_event, source_told, told_if_shed}
+use Rattle.pd_port.specs.SourceTold.{told_if_sent, told_if_up, told_if_failed, told_of_good_crc, told_at_good_crc, told_at_time_out, told_of_reset, told_by_line, told_attached, told_detached, told_by_event, source_told, told_if_shed}
 use Rattle.pd_port.specs.Port.{happens, begun, portstep, whole, detached, source_settings, record_after}
 use Rattle.pd_port.specs.Sound.{IsSoundPort}
 use Rattle.pd_port.proofs.Asked.{record_after-source}
@@ -79,25 +79,25 @@ cable_after x cable = cable
 
 -- ---- what may reach the source
 
-detaches_on : (w : Work) → On None (detaches w)
+detaches_on : (w : PortStep) → On None (detaches w)
 unfolding detaches nothing_attached layer.fresh
 detaches_on w = record { attached = refl; known = inl refl; plug_waits = tt; sink_waits = tt; plug_sent = tt; sink_sent = tt; line = tt }
 
-disturbs_on : (cable : Option Cable) (id : ℕ) (d : Disturbance) (t : ℕ) (w : Work) → On cable w → On cable (disturbs id d w)
+disturbs_on : (cable : Option Cable) (id : ℕ) (d : Disturbance) (t : ℕ) (w : PortStep) → On cable w → On cable (disturbs id d w)
 unfolding disturbs
 disturbs_on cable id d t w h = either_on cable t (nat_lt (length w.port.disturbances.items) 8) _ (noted (Ignored id) w) h (noted_on cable t (Ignored id) w h)
 
-gets_source_on : (cable : Option Cable) (id t : ℕ) (w : Work) → On cable w → On cable (gets_source id t w)
+gets_source_on : (cable : Option Cable) (id t : ℕ) (w : PortStep) → On cable w → On cable (gets_source id t w)
 unfolding gets_source
 gets_source_on cable id t w h =
     either_on cable t (sink.is_ready w.port.sink) (sink_steps t sink_told.GetSource w) (noted (Ignored id) w) (sink_steps_on cable t sink_told.GetSource w h) (noted_on cable t (Ignored id) w h)
 
-gets_sink_on : (cable : Option Cable) (id t : ℕ) (w : Work) → On cable w → On cable (gets_sink id t w)
+gets_sink_on : (cable : Option Cable) (id t : ℕ) (w : PortStep) → On cable w → On cable (gets_sink id t w)
 unfolding gets_sink
 gets_sink_on cable id t w h =
     either_on cable t (source.is_ready w.port.source.record) (source_steps t told.GetSink w) (noted (Ignored id) w) (source_steps_on cable t told.GetSink w h) (noted_on cable t (Ignored id) w h)
 
-attached_on : (c : Cable) (id : ℕ) (k : EventKind) (t : ℕ) (w : Work) → On (Some c) w → On (cable_with k (Some c)) (happens_attached id k t w)
+attached_on : (c : Cable) (id : ℕ) (k : EventKind) (t : ℕ) (w : PortStep) → On (Some c) w → On (cable_with k (Some c)) (happens_attached id k t w)
 attached_on c id (Attach cable device) t w h = noted_on (Some c) t (Ignored id) w h
 attached_on c id Detach t w h = detaches_on w
 attached_on c id (Demand mw) t w h = sink_steps_on (Some c) t (sink_told.Demand mw) w h
@@ -106,27 +106,27 @@ attached_on c id (Damage d) t w h = disturbs_on (Some c) id (Damaged d) t w h
 attached_on c id GetSource t w h = gets_source_on (Some c) id t w h
 attached_on c id GetSink t w h = gets_sink_on (Some c) id t w h
 
-detached_on : (id : ℕ) (k : EventKind) (t : ℕ) (w : Work) → On None w → On (cable_with k None) (happens_detached id k t w)
+detached_on : (id : ℕ) (k : EventKind) (t : ℕ) (w : PortStep) → On None w → On (cable_with k None) (happens_detached id k t w)
 detached_on id (Attach cable device) t w h = tells_attach_on cable device t w h
 detached_on id k t w h = noted_on None t (Ignored id) w h
 
-kind_on : (b : Bool) (cable : Option Cable) (id : ℕ) (k : EventKind) (t : ℕ) (w : Work) → is_some cable ≡ b → On cable w →
+kind_on : (b : Bool) (cable : Option Cable) (id : ℕ) (k : EventKind) (t : ℕ) (w : PortStep) → is_some cable ≡ b → On cable w →
     On (cable_with k cable) (if b then happens_attached id k t w else happens_detached id k t w)
 kind_on true (Some c) id k t w e h = attached_on c id k t w h
 kind_on true None id k t w e h = absurd (cc)
 kind_on false (Some c) id k t w e h = absurd (cc)
 kind_on false None id k t w e h = detached_on id k t w h
 
-shed_on : (cable : Option Cable) (a : Option Answer) (t : ℕ) (w : Work) → On cable w → On cable (shed a t (record w { answer = None }))
+shed_on : (cable : Option Cable) (a : Option Answer) (t : ℕ) (w : PortStep) → On cable w → On cable (shed a t (record w { answer = None }))
 shed_on cable (Some (answers.Fits false)) t w h = source_steps_on cable t told.Shed (record w { answer = None }) h
 shed_on cable a t w h = h
 
-event_on : (cable : Option Cable) (x : Happening) (t : ℕ) (w : Work) → On cable w → On (cable_by x cable) (event_happens x t w)
+event_on : (cable : Option Cable) (x : Happening) (t : ℕ) (w : PortStep) → On cable w → On (cable_by x cable) (event_happens x t w)
 unfolding budget_changes
 event_on cable (Port id k) t w h = kind_on (is_some w.port.cable) cable id k t w (ap is_some (sym h.attached)) h
 event_on cable Budget t w h = shed_on cable w.answer t w h
 
-happens_on : (cable : Option Cable) (x : What) (t : ℕ) (w : Work) → On cable w → On (cable_after x cable) (happens x t w)
+happens_on : (cable : Option Cable) (x : What) (t : ℕ) (w : PortStep) → On cable w → On (cable_after x cable) (happens x t w)
 happens_on cable (what.Event e) t w h = event_on cable e.happening t w h
 happens_on cable what.Line t w h = line_ends_on cable t w h
 happens_on cable (what.Timer side timer) t w h = tells_timer_on cable t side timer w h
@@ -194,17 +194,17 @@ unfolding MayTellSome MayTell
 failed_fits cable answer.Failed = tt
 failed_fits cable act = tt
 
-own_fits : (cable : Option Cable) (p : Contents) (r : Record) (a : Option Contents) → MayTellSome cable (told_of_good_crc p r a)
+own_fits : (cable : Option Cable) (p : Contents) (r : PortParts) (a : Option Contents) → MayTellSome cable (told_of_good_crc p r a)
 unfolding MayTellSome
 own_fits cable p r None = tt
 own_fits cable p r (Some a) = sent_fits cable p _
 
-good_crc_fits : (cable : Option Cable) (side : Side) (p a : Contents) (fate : Fate) (r : Record) → TellsOn cable side p → MayTellSome cable (told_at_good_crc side p a fate r)
+good_crc_fits : (cable : Option Cable) (side : Side) (p a : Contents) (fate : Fate) (r : PortParts) → TellsOn cable side p → MayTellSome cable (told_at_good_crc side p a fate r)
 good_crc_fits cable Source p a fate r h = own_fits cable p r (heard a fate)
 good_crc_fits cable Sink p a fate r h = up_fits cable p _ h
 good_crc_fits cable Plug p a fate r h = up_fits cable p _ h
 
-time_out_fits : (cable : Option Cable) (side : Side) (p : Contents) (r : Record) → MayTellSome cable (told_at_time_out side p r)
+time_out_fits : (cable : Option Cable) (side : Side) (p : Contents) (r : PortParts) → MayTellSome cable (told_at_time_out side p r)
 unfolding MayTellSome
 time_out_fits cable Source p r = failed_fits cable _
 time_out_fits cable Sink p r = tt
@@ -215,20 +215,20 @@ unfolding MayTellSome
 if_fits cable true x h = h
 if_fits cable false x h = tt
 
-reset_fits : (cable : Option Cable) (side : Side) (r : Record) → MayTellSome cable (told_of_reset side r)
+reset_fits : (cable : Option Cable) (side : Side) (r : PortParts) → MayTellSome cable (told_of_reset side r)
 unfolding MayTellSome MayTell
 reset_fits cable Source r = tt
 reset_fits cable Sink r = if_fits cable (source.hears_in r.source.record) told.HardReset tt
 reset_fits cable Plug r = if_fits cable (source.hears_in r.source.record) told.HardReset tt
 
-line_fits : (cable : Option Cable) (line : Line) (r : Record) → LineTells cable line → MayTellSome cable (told_by_line line r)
+line_fits : (cable : Option Cable) (line : Line) (r : PortParts) → LineTells cable line → MayTellSome cable (told_by_line line r)
 unfolding MayTellSome
 line_fits cable (GoodCrc side p a fate end) r h = good_crc_fits cable side p a fate r h
 line_fits cable (NoAnswer side p end) r h = time_out_fits cable side p r
 line_fits cable (HardReset side end) r h = reset_fits cable side r
 line_fits cable line r h = tt
 
-attached_fits : (cable : Option Cable) (k : EventKind) (r : Record) → MayTellSome cable (told_attached k r)
+attached_fits : (cable : Option Cable) (k : EventKind) (r : PortParts) → MayTellSome cable (told_attached k r)
 unfolding MayTellSome MayTell
 attached_fits cable GetSink r = if_fits cable (source.is_ready r.source.record) told.GetSink tt
 attached_fits cable k r = tt
@@ -238,12 +238,12 @@ unfolding MayTellSome MayTell
 detached_fits (Attach cable device) = refl
 detached_fits k = tt
 
-kind_fits : (b : Bool) (cable : Option Cable) (k : EventKind) (r : Record) → is_some cable ≡ b → MayTellSome (cable_with k cable) (if b then told_attached k r else told_detached k)
+kind_fits : (b : Bool) (cable : Option Cable) (k : EventKind) (r : PortParts) → is_some cable ≡ b → MayTellSome (cable_with k cable) (if b then told_attached k r else told_detached k)
 kind_fits true cable k r e = attached_fits (cable_with k cable) k r
 kind_fits false None k r e = detached_fits k
 kind_fits false (Some c) k r e = absurd (cc)
 
-event_fits : (x : Happening) (r : Record) → MayTellSome (cable_by x r.cable) (told_by_event x r)
+event_fits : (x : Happening) (r : PortParts) → MayTellSome (cable_by x r.cable) (told_by_event x r)
 unfolding MayTellSome
 event_fits (Port id k) r = kind_fits (is_some r.cable) r.cable k r refl
 event_fits Budget r = tt

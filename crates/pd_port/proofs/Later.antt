@@ -16,13 +16,13 @@ use Rattle.pd_setup.specs.declared.event.Happening.{Happening}
 use Rattle.pd_setup.specs.declared.event.Happening.TheVariants.{Port, Budget}
 use Rattle.pd_setup.specs.Settings.{SettingsData}
 use Rattle.pd_line.specs.declared.notes.Fault.TheVariants.{Ignored}
-use Rattle.pd_line.specs.declared.record.Disturbance.{Disturbance}
-use Rattle.pd_line.specs.declared.record.Disturbance.TheVariants.{Lost, Damaged}
-use Rattle.pd_line.specs.declared.record.Record.{Record}
-use Rattle.pd_line.specs.declared.work.Work.{Work}
+use Rattle.pd_line.specs.declared.port_parts.Disturbance.{Disturbance}
+use Rattle.pd_line.specs.declared.port_parts.Disturbance.TheVariants.{Lost, Damaged}
+use Rattle.pd_line.specs.declared.port_parts.PortParts.{PortParts}
+use Rattle.pd_line.specs.declared.port_step.PortStep.{PortStep}
 use Rattle.pd_line.specs.Record.{PortRecord, nothing_attached}
 use Rattle.pd_line.specs.Later.{times_of, Later}
-use Rattle.pd_line.specs.Work.{with_port, noted, sink_steps, source_steps, tells_timer}
+use Rattle.pd_line.specs.PortStep.{with_port, noted, sink_steps, source_steps, tells_timer}
 use Rattle.pd_line.specs.Lines.{line_starts}
 use Rattle.pd_line.proofs.Kept.{choice, noted_kept, sink_steps_kept, tells_attach_kept, line_starts_kept}
 use Rattle.pd_line.proofs.Parts.{times}
@@ -35,7 +35,7 @@ use Rattle.pd_port.specs.Happens.{detaches, disturbs, gets_source, gets_sink, ha
 use Rattle.pd_port.specs.Port.{happens, begun, portstep, whole, record_after}
 
 -- nothing runs on a detached port
-detaches_leads : (t : ℕ) (w : Work) → LeadsOn t w (detaches w)
+detaches_leads : (t : ℕ) (w : PortStep) → LeadsOn t w (detaches w)
 unfolding detaches nothing_attached
 detaches_leads t w =
     let a = times w.port in
@@ -44,26 +44,26 @@ detaches_leads t w =
       later = record { source = SetsLater-idle t a.source; sink = SetsLater-idle t a.sink; plug = SetsLater-idle t a.plug; line = λ at e. absurd (cc) };
     }
 
-disturbs_leads : (id : ℕ) (d : Disturbance) (t : ℕ) (w : Work) → LeadsOn t w (disturbs id d w)
+disturbs_leads : (id : ℕ) (d : Disturbance) (t : ℕ) (w : PortStep) → LeadsOn t w (disturbs id d w)
 unfolding disturbs
 disturbs_leads id d t w =
-    let waits : Work → Work = λ z. with_port (record z.port { disturbances = record { items = z.port.disturbances.items ++ d ∷ [] } }) z in
+    let waits : PortStep → PortStep = λ z. with_port (record z.port { disturbances = record { items = z.port.disturbances.items ++ d ∷ [] } }) z in
     choice t (leads t) (nat_lt (length w.port.disturbances.items) 8) waits (noted (Ignored id)) w
     (record { settings_are = refl; later = later_kept t (times w.port) }) (noted_kept t (leads t) (Ignored id) w)
 
-gets_source_leads : (id t : ℕ) (w : Work) → LeadsOn t w (gets_source id t w)
+gets_source_leads : (id t : ℕ) (w : PortStep) → LeadsOn t w (gets_source id t w)
 unfolding gets_source
 gets_source_leads id t w =
     choice t (leads t) (sink.is_ready w.port.sink) (sink_steps t sink_told.GetSource) (noted (Ignored id)) w
     (sink_steps_kept t (leads t) sink_told.GetSource w refl) (noted_kept t (leads t) (Ignored id) w)
 
-gets_sink_leads : (id t : ℕ) (w : Work) → LeadsOn t w (gets_sink id t w)
+gets_sink_leads : (id t : ℕ) (w : PortStep) → LeadsOn t w (gets_sink id t w)
 unfolding gets_sink
 gets_sink_leads id t w =
     choice t (leads t) (source.is_ready w.port.source.record) (source_steps t source_told.GetSink) (noted (Ignored id)) w
     (source_now t source_told.GetSink w refl) (noted_kept t (leads t) (Ignored id) w)
 
-attached_leads : (id : ℕ) (k : EventKind) (t : ℕ) (w : Work) → LeadsOn t w (happens_attached id k t w)
+attached_leads : (id : ℕ) (k : EventKind) (t : ℕ) (w : PortStep) → LeadsOn t w (happens_attached id k t w)
 attached_leads id (Attach cable device) t w = noted_kept t (leads t) (Ignored id) w
 attached_leads id Detach t w = detaches_leads t w
 attached_leads id (Demand mw) t w = sink_steps_kept t (leads t) (sink_told.Demand mw) w refl
@@ -72,32 +72,32 @@ attached_leads id (Damage d) t w = disturbs_leads id (Damaged d) t w
 attached_leads id GetSource t w = gets_source_leads id t w
 attached_leads id GetSink t w = gets_sink_leads id t w
 
-detached_leads : (id : ℕ) (k : EventKind) (t : ℕ) (w : Work) → LeadsOn t w (happens_detached id k t w)
+detached_leads : (id : ℕ) (k : EventKind) (t : ℕ) (w : PortStep) → LeadsOn t w (happens_detached id k t w)
 detached_leads id (Attach cable device) t w = tells_attach_kept t (leads t) tt cable device w
 detached_leads id k t w = noted_kept t (leads t) (Ignored id) w
 
-shed_leads : (a : Option Answer) (t : ℕ) (w : Work) → LeadsOn t w (shed a t (record w { answer = None }))
+shed_leads : (a : Option Answer) (t : ℕ) (w : PortStep) → LeadsOn t w (shed a t (record w { answer = None }))
 shed_leads (Some (answers.Fits false)) t w = source_now t source_told.Shed (record w { answer = None }) refl
 shed_leads a t w = record { settings_are = refl; later = later_kept t (times w.port) }
 
-event_leads : (h : Happening) (t : ℕ) (w : Work) → LeadsOn t w (event_happens h t w)
+event_leads : (h : Happening) (t : ℕ) (w : PortStep) → LeadsOn t w (event_happens h t w)
 unfolding budget_changes
 event_leads (Port id k) t w =
     choice t (leads t) (is_some w.port.cable) (happens_attached id k t) (happens_detached id k t) w (attached_leads id k t w) (detached_leads id k t w)
 event_leads Budget t w = shed_leads w.answer t w
 
-timer_leads : (side : Side) (timer : Timer) (t : ℕ) (w : Work) →
+timer_leads : (side : Side) (timer : Timer) (t : ℕ) (w : PortStep) →
     Leads t w.port.source.settings (without (what.Timer side timer) (times w.port)) (tells_timer side timer t w)
 timer_leads Source timer t w = tells_timer_leads Source timer t w
 timer_leads Sink timer t w = tells_timer_leads Sink timer t w
 timer_leads Plug timer t w = tells_timer_leads Plug timer t w
 
-happens_leads : (x : What) (t : ℕ) (w : Work) → Leads t w.port.source.settings (without x (times w.port)) (happens x t w)
+happens_leads : (x : What) (t : ℕ) (w : PortStep) → Leads t w.port.source.settings (without x (times w.port)) (happens x t w)
 happens_leads (what.Event e) t w = event_leads e.happening t w
 happens_leads what.Line t w = line_ends_leads t w
 happens_leads (what.Timer side timer) t w = timer_leads side timer t w
 
-pub portstep_leads : (r : Record) (d : Due) (given : Option Answer) →
+pub portstep_leads : (r : PortParts) (d : Due) (given : Option Answer) →
     Leads d.time r.source.settings (without d.what (times r)) (portstep r d given)
 unfolding portstep
 portstep_leads r d given =
@@ -106,7 +106,7 @@ portstep_leads r d given =
     (line_starts_kept d.time (leads d.time) tt tt tt w)
 
 -- a step leaves what the source is set to
-pub portstep-settings : (r : Record) (d : Due) (given : Option Answer) → (portstep r d given).port.source.settings ≡ r.source.settings
+pub portstep-settings : (r : PortParts) (d : Due) (given : Option Answer) → (portstep r d given).port.source.settings ≡ r.source.settings
 portstep-settings r d given = (portstep_leads r d given).settings_are
 
 pub record_after-later : (s : SettingsData) (r : PortRecord) (d : Due) (given : Option Answer) →

@@ -29,7 +29,7 @@ use Rattle.pd_setup.specs.Settings.{SettingsData, floor_of}
 use Rattle.pd_port.specs.Budget.{contract_power}
 use Rattle.pd_port.specs.Laws.{NotBefore, pending_at, pending, without, IsOneOf, IsEarliest, source_after_told}
 use Rattle.pd_port.specs.Happens.{is_budget, is_detach}
-use Rattle.pd_port.specs.Told.{source_told, told_if_shed}
+use Rattle.pd_port.specs.SourceTold.{source_told, told_if_shed}
 use Rattle.pd_port.specs.Port.{is_event, event_due, line_due, timer_due, dues, due, detached, source_settings, whole, ask, asks, record_after, hold}
 use Rattle.pd_port.proofs.Earliest.{is_before-time, due-IsEarliest}
 use Rattle.pd_port.proofs.Asked.{record_after-source}

@@ -23,9 +23,9 @@ use Rattle.pd_source.proofs.Rests.{hold_of-nothing}
 use Rattle.pd_source.proofs.Silent.{silent-off, silent-shed, silent-stepped}
 use Rattle.pd_line.specs.Later.{line_end}
 use Rattle.pd_line.specs.Told.{source_hears_as}
-use Rattle.pd_line.specs.declared.record.Record.{Record}
-use Rattle.pd_line.specs.declared.record.Line.{Line}
-use Rattle.pd_line.specs.declared.record.Line.TheVariants.{GoodCrc, NoAnswer, HardReset}
+use Rattle.pd_line.specs.declared.port_parts.PortParts.{PortParts}
+use Rattle.pd_line.specs.declared.port_parts.Line.{Line}
+use Rattle.pd_line.specs.declared.port_parts.Line.TheVariants.{GoodCrc, NoAnswer, HardReset}
 use Rattle.pd_setup.specs.declared.event.EventKind.{EventKind}
 use Rattle.pd_setup.specs.declared.event.EventKind.TheVariants.{Attach, GetSink}
 use Rattle.pd_setup.specs.declared.event.Happening.{Happening}
@@ -38,7 +38,7 @@ use Rattle.pd_port.specs.declared.due.What.TheVariants as what
 use Rattle.pd_port.specs.Budget.{RestsEmpty}
 use Rattle.pd_port.specs.Happens.{is_budget, is_detach}
 use Rattle.pd_port.specs.Laws.{IsOneOf, source_after_told}
-use Rattle.pd_port.specs.Told.{told_if_sent, told_if_up, told_if_failed, told_of_good_crc, told_at_good_crc, told_at_time_out, told_of_reset, told_by_line, told_attached, told_detached, told_by_event, source_told, told_if_shed}
+use Rattle.pd_port.specs.SourceTold.{told_if_sent, told_if_up, told_if_failed, told_of_good_crc, told_at_good_crc, told_at_time_out, told_of_reset, told_by_line, told_attached, told_detached, told_by_event, source_told, told_if_shed}
 use Rattle.pd_port.specs.Port.{PortRecord, line_due, timer_due, dues, due, source_settings, whole, record_after, hold}
 use Rattle.pd_port.specs.Sheds.{HoldsFloorAlone, ShedsLast}
 use Rattle.pd_port.proofs.Asked.{record_after-source}
@@ -77,17 +77,17 @@ unfolding EndsNone ends
 failed_ends answer.Failed = refl
 failed_ends act = tt
 
-own_ends : (p : Contents) (r : Record) (a : Option Contents) → EndsNone (told_of_good_crc p r a)
+own_ends : (p : Contents) (r : PortParts) (a : Option Contents) → EndsNone (told_of_good_crc p r a)
 unfolding EndsNone
 own_ends p r None = tt
 own_ends p r (Some a) = sent_ends p _
 
-good_crc_ends : (side : Side) (p a : Contents) (fate : Fate) (r : Record) → EndsNone (told_at_good_crc side p a fate r)
+good_crc_ends : (side : Side) (p a : Contents) (fate : Fate) (r : PortParts) → EndsNone (told_at_good_crc side p a fate r)
 good_crc_ends Source p a fate r = own_ends p r (heard a fate)
 good_crc_ends Sink p a fate r = up_ends p _
 good_crc_ends Plug p a fate r = up_ends p _
 
-time_out_ends : (side : Side) (p : Contents) (r : Record) → EndsNone (told_at_time_out side p r)
+time_out_ends : (side : Side) (p : Contents) (r : PortParts) → EndsNone (told_at_time_out side p r)
 unfolding EndsNone
 time_out_ends Source p r = failed_ends _
 time_out_ends Sink p r = tt
@@ -98,20 +98,20 @@ unfolding EndsNone
 if_ends true x h = h
 if_ends false x h = tt
 
-reset_ends : (side : Side) (r : Record) → EndsNone (told_of_reset side r)
+reset_ends : (side : Side) (r : PortParts) → EndsNone (told_of_reset side r)
 unfolding EndsNone ends
 reset_ends Source r = refl
 reset_ends Sink r = if_ends (source.hears_in r.source.record) told.HardReset refl
 reset_ends Plug r = if_ends (source.hears_in r.source.record) told.HardReset refl
 
-line_ends : (line : Line) (r : Record) → EndsNone (told_by_line line r)
+line_ends : (line : Line) (r : PortParts) → EndsNone (told_by_line line r)
 unfolding EndsNone
 line_ends (GoodCrc side p a fate end) r = good_crc_ends side p a fate r
 line_ends (NoAnswer side p end) r = time_out_ends side p r
 line_ends (HardReset side end) r = reset_ends side r
 line_ends line r = tt
 
-attached_ends : (k : EventKind) (r : Record) → EndsNone (told_attached k r)
+attached_ends : (k : EventKind) (r : PortParts) → EndsNone (told_attached k r)
 unfolding EndsNone ends
 attached_ends GetSink r = if_ends (source.is_ready r.source.record) told.GetSink refl
 attached_ends k r = tt
@@ -121,11 +121,11 @@ unfolding EndsNone ends
 detached_ends (Attach cable device) = refl
 detached_ends k = tt
 
-kind_ends : (b : Bool) (k : EventKind) (r : Record) → EndsNone (if b then told_attached k r else told_detached k)
+kind_ends : (b : Bool) (k : EventKind) (r : PortParts) → EndsNone (if b then told_attached k r else told_detached k)
 kind_ends true k r = attached_ends k r
 kind_ends false k r = detached_ends k
 
-event_ends : (x : Happening) (r : Record) → EndsNone (told_by_event x r)
+event_ends : (x : Happening) (r : PortParts) → EndsNone (told_by_event x r)
 unfolding EndsNone
 event_ends (Port id k) r = kind_ends (is_some r.cable) k r
 event_ends Budget r = tt

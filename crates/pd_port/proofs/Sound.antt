@@ -21,7 +21,7 @@ use Rattle.pd_setup.specs.Settings.{SettingsData}
 use Rattle.pd_port.specs.declared.due.Due.{Due}
 use Rattle.pd_port.specs.Happens.{is_budget, is_detach}
 use Rattle.pd_port.specs.Laws.{source_after_told}
-use Rattle.pd_port.specs.Told.{source_told, told_if_shed}
+use Rattle.pd_port.specs.SourceTold.{source_told, told_if_shed}
 use Rattle.pd_port.specs.Port.{detached, source_settings, whole, ask, asks, record_after, hold}
 use Rattle.pd_port.specs.Sound.{IsSoundPort, IsAnswerTo, PortsStaySound}
 use Rattle.pd_port.proofs.Asked.{record_after-source}

@@ -7,7 +7,7 @@ use Rattle.pd_source.specs.Step as source
 use Rattle.pd_source.specs.declared.kinds.Stimulus.{Stimulus}
 use Rattle.pd_timers.specs.declared.Timer.{Timer}
 use Rattle.pd_timers.specs.Deadlines.{timers, deadline, stopped}
-use Rattle.pd_line.specs.declared.record.Record.{Record}
+use Rattle.pd_line.specs.declared.port_parts.PortParts.{PortParts}
 use Rattle.pd_line.specs.Record.{PortRecord}
 use Rattle.pd_line.specs.Lines.{is_idle}
 use Rattle.pd_line.specs.Later.{Times, times_of, Later}
@@ -17,7 +17,7 @@ use Rattle.pd_port.specs.declared.due.What.TheVariants as what
 use Rattle.pd_setup.specs.Events.{EventData}
 use Rattle.pd_setup.specs.Settings.{SettingsData}
 use Rattle.pd_port.specs.Happens.{is_budget, is_detach}
-use Rattle.pd_port.specs.Told.{source_told, told_if_shed}
+use Rattle.pd_port.specs.SourceTold.{source_told, told_if_shed}
 use Rattle.pd_port.specs.Port.{dues, due, is_before, begun, happens, portstep, whole, detached, source_settings, ask, record_after, entry_of}
 
 -- the next event isn't before t
@@ -103,14 +103,14 @@ AnswersMatterOnlyWhereAsked =
 -- where what falls due leaves the line busy, the step does no more: nothing that waits starts
 abbrev pub WaitsWhileBusy : Type 0
 WaitsWhileBusy =
-    (r : Record) (d : Due) (given : Option Answer) →
+    (r : PortParts) (d : Due) (given : Option Answer) →
     is_idle (happens d.what d.time (begun r given)).port.line ≡ false →
     portstep r d given ≡ happens d.what d.time (begun r given)
 
 -- what falls due starts no packet, or else the step does no more: no step starts two
 abbrev pub StartsNoTwo : Type 0
 StartsNoTwo =
-    (r : Record) (d : Due) (given : Option Answer) →
+    (r : PortParts) (d : Due) (given : Option Answer) →
     ((happens d.what d.time (begun r given)).start ≡ None) ⊎ (portstep r d given ≡ happens d.what d.time (begun r given))
 
 -- whether the end of what is on the line falls due

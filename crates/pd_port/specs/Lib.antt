@@ -7,4 +7,4 @@ pub mod Meter
 pub mod Port
 pub mod Sheds
 pub mod Sound
-pub mod Told
+pub mod SourceTold

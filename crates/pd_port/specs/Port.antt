@@ -13,12 +13,12 @@ use Rattle.pd_source.specs.Step as source
 use Rattle.pd_source.specs.declared.kinds.Stimulus.{Stimulus}
 use Rattle.pd_setup.specs.Events.{EventData}
 use Rattle.pd_setup.specs.Settings.{SettingsData, floor_of}
-use Rattle.pd_line.specs.declared.record.Record.{Record}
-use Rattle.pd_line.specs.declared.work.Work.{Work}
+use Rattle.pd_line.specs.declared.port_parts.PortParts.{PortParts}
+use Rattle.pd_line.specs.declared.port_step.PortStep.{PortStep}
 pub use Rattle.pd_line.specs.Record.{PortRecord}
 use Rattle.pd_line.specs.Record.{with_settings, without_settings, nothing_attached}
 use Rattle.pd_line.specs.Later.{line_end}
-use Rattle.pd_line.specs.Work.{tells_timer}
+use Rattle.pd_line.specs.PortStep.{tells_timer}
 use Rattle.pd_line.specs.Lines.{line_ends, line_starts}
 use Rattle.pd_port.specs.declared.due.Due.{Due}
 use Rattle.pd_port.specs.declared.due.What.{What}
@@ -26,7 +26,7 @@ use Rattle.pd_port.specs.declared.due.What.TheVariants as what
 use Rattle.pd_port.specs.declared.entry.Entry.{Entry}
 use Rattle.pd_port.specs.Changes.{contract_change}
 use Rattle.pd_port.specs.Happens.{event_happens, is_budget}
-use Rattle.pd_port.specs.Told.{source_told}
+use Rattle.pd_port.specs.SourceTold.{source_told}
 
 -- what a port is set to, and what it keeps from step to step
 pub record PortData : Type 0 where
@@ -85,24 +85,24 @@ is_event (what.Event e) = true
 is_event _ = false
 
 -- what falls due happens
-abbrev pub happens : What → ℕ → Work → Work
+abbrev pub happens : What → ℕ → PortStep → PortStep
 happens (what.Event e) t w = event_happens e.happening t w
 happens what.Line t w = line_ends t w
 happens (what.Timer side timer) t w = tells_timer side timer t w
 
 -- a step that begins
-abbrev pub begun : Record → Option Answer → Work
+abbrev pub begun : PortParts → Option Answer → PortStep
 begun r given = record { port = r; answer = given; faults = record { items = [] }; start = None }
 
 -- the step for this due: it happens, and then, where the line is idle, what waits starts
-unfoldable pub portstep : Record → Due → Option Answer → Work
+unfoldable pub portstep : PortParts → Due → Option Answer → PortStep
 portstep r d given = line_starts d.time (happens d.what d.time (begun r given))
 
 -- what the source is set to
 abbrev pub source_settings : SettingsData → SourceSettings
 source_settings s = record { supplies = s.supplies; identity_tries = s.identity_tries; unconstrained = s.unconstrained }
 
-abbrev pub whole : SettingsData → PortRecord → Record
+abbrev pub whole : SettingsData → PortRecord → PortParts
 whole s r = with_settings (source_settings s) r
 
 -- the record at the start
@@ -118,7 +118,7 @@ unfoldable pub hold : SettingsData → PortRecord → ℕ
 hold s r = source.hold_of (source_settings s) (floor_of s) r.source
 
 -- what the source asks before it is stepped with this
-abbrev pub asks : Record → Option Stimulus → Option Query
+abbrev pub asks : PortParts → Option Stimulus → Option Query
 asks r x = option_and_then (λ y. source.query_of r.source.settings y r.source.record) x
 
 -- What the port asks of the shared budget before the step for this due: where the budget has changed, whether its hold

@@ -2,17 +2,17 @@
 
 ghost use Rattle.std.specs.Prelude.{◌≡◌};
 ghost use Rattle.pd_port.specs.Happens.{is_budget};
-ghost use Rattle.pd_port.specs.Told.{source_layer, told_at_good_crc, told_at_time_out, told_of_reset, told_by_line, told_by_event, source_told};
+ghost use Rattle.pd_port.specs.SourceTold.{source_layer, told_at_good_crc, told_at_time_out, told_of_reset, told_by_line, told_by_event, source_told};
 
 use crate::{EventKind, Happening, What};
 use pd_header::{Side, header_id};
-use pd_line::{Line, Record, sent_as, source_hears_as};
+use pd_line::stepping::{Line, PortParts, sent_as, source_hears_as};
 use pd_packet::{Fate, Packet, reaches};
 use pd_protocol::{Layer, LayerAct};
 use pd_source::{Sent, Stimulus};
 use pd_symbols::Channel;
 
-fn copy_of_source_layer(port: &Record, channel: Channel) -> Layer
+fn copy_of_source_layer(port: &PortParts, channel: Channel) -> Layer
     ensures { result ≡ source_layer channel port.now }
 {
     match channel {
@@ -22,7 +22,7 @@ fn copy_of_source_layer(port: &Record, channel: Channel) -> Layer
 }
 
 fn told_at_good_crc(
-    port: &Record,
+    port: &PortParts,
     side: Side,
     packet: &Packet,
     answer: &Packet,
@@ -46,7 +46,7 @@ fn told_at_good_crc(
     }
 }
 
-fn told_at_time_out(port: &Record, side: Side, packet: &Packet) -> Option<Stimulus>
+fn told_at_time_out(port: &PortParts, side: Side, packet: &Packet) -> Option<Stimulus>
     ensures { result ≡ told_at_time_out side packet.now port.now }
 {
     if side != Side::Source {
@@ -58,7 +58,7 @@ fn told_at_time_out(port: &Record, side: Side, packet: &Packet) -> Option<Stimul
     }
 }
 
-fn told_of_reset(port: &Record, side: Side) -> Option<Stimulus>
+fn told_of_reset(port: &PortParts, side: Side) -> Option<Stimulus>
     ensures { result ≡ told_of_reset side port.now }
 {
     if let Side::Source = side {
@@ -71,7 +71,7 @@ fn told_of_reset(port: &Record, side: Side) -> Option<Stimulus>
     }
 }
 
-fn told_by_line(port: &Record) -> Option<Stimulus>
+fn told_by_line(port: &PortParts) -> Option<Stimulus>
     ensures { result ≡ told_by_line port.now.line port.now }
 {
     match &port.line {
@@ -88,7 +88,7 @@ fn told_by_line(port: &Record) -> Option<Stimulus>
     }
 }
 
-fn told_by_event(port: &Record, happening: &Happening) -> Option<Stimulus>
+fn told_by_event(port: &PortParts, happening: &Happening) -> Option<Stimulus>
     ensures { result ≡ told_by_event happening.now port.now }
 {
     let Happening::Port { kind, .. } = happening else {
@@ -103,7 +103,7 @@ fn told_by_event(port: &Record, happening: &Happening) -> Option<Stimulus>
 }
 
 /// With what the source is stepped for what falls due, where that is no change of the budget.
-pub(crate) fn source_told(port: &Record, what: &What) -> Option<Stimulus>
+pub(crate) fn source_told(port: &PortParts, what: &What) -> Option<Stimulus>
     ensures { result ≡ source_told what.now port.now }
 {
     match what {

@@ -7,7 +7,7 @@ ghost use Rattle.pd_port.specs.Port.{side_place, rank, is_before, earlier, line_
 
 use crate::{Due, Event, What};
 use pd_header::Side;
-use pd_line::Line;
+use pd_line::stepping::Line;
 use pd_timers::{Timer, place_of};
 
 fn place_of_side(side: Side) -> usize

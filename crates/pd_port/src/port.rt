@@ -12,7 +12,7 @@ use crate::happens::event_happens;
 use crate::{Due, Entry, Event, Meter, Settings, What};
 use arrayvec::ArrayVec;
 use pd_header::Side;
-use pd_line::{Record, Work};
+use pd_line::stepping::{PortParts, PortStep};
 use pd_objects::{Answer, Contract, Query};
 use std::marker::Model;
 use std::mem;
@@ -21,7 +21,7 @@ use std::mem;
 #[derive(Drop)]
 pub struct Port {
     settings: Settings,
-    work: Work,
+    under_way: PortStep,
 }
 
 impl Model for Port {
@@ -31,13 +31,13 @@ impl Model for Port {
 
     ghost Value = { PortData };
 
-    ghost view = { λ p. record { settings = p.settings; port_record = without_settings p.work.port } };
+    ghost view = { λ p. record { settings = p.settings; port_record = without_settings p.under_way.port } };
 
-    ghost invariant = { λ p. (p.work.faults.items ≡ []) × (p.work.start ≡ None) × (p.work.port.source.settings ≡ source_settings p.settings) };
+    ghost invariant = { λ p. (p.under_way.faults.items ≡ []) × (p.under_way.start ≡ None) × (p.under_way.port.source.settings ≡ source_settings p.settings) };
 }
 
 #[tactic(auto, unfolding(crate::specs::Port::due))]
-fn due_of(port: &Record, next: Option<&Event>) -> Option<Due>
+fn due_of(port: &PortParts, next: Option<&Event>) -> Option<Due>
     ensures { result ≡ the_due (without_settings port.now) (option_copied next.entry) }
 {
     let plug = due_of_timer(Side::Plug, port.plug.first());
@@ -49,16 +49,16 @@ fn due_of(port: &Record, next: Option<&Event>) -> Option<Due>
 }
 
 /// What falls due happens.
-fn happens(work: &mut Work, settings: &Settings, what: &What, t: u64)
+fn happens(step: &mut PortStep, settings: &Settings, what: &What, t: u64)
     requires time { t ≤ 120000000 }
-    requires room { length work.old.faults.items ≤ 4 }
-    requires settings { work.old.port.source.settings ≡ source_settings settings.now }
-    ensures { work.new ≡ happens what.now t work.old }
+    requires room { length step.old.faults.items ≤ 4 }
+    requires settings { step.old.port.source.settings ≡ source_settings settings.now }
+    ensures { step.new ≡ happens what.now t step.old }
 {
     match what {
-        What::Event(event) => event_happens(work, settings, &event.happening(), t),
-        What::Line => work.line_ends(t),
-        What::Timer { side, timer } => work.tell_timer(*side, *timer, t),
+        What::Event(event) => event_happens(step, settings, &event.happening(), t),
+        What::Line => step.line_ends(t),
+        What::Timer { side, timer } => step.tell_timer(*side, *timer, t),
     }
 }
 
@@ -73,16 +73,11 @@ impl Port {
     {
         Port {
             settings: settings.copy(),
-            work: Work {
-                port: Record::new(
-                    settings.supplies(),
-                    settings.identity_tries(),
-                    settings.unconstrained(),
-                ),
-                answer: None,
-                faults: ArrayVec::new(),
-                start: None,
-            },
+            under_way: PortStep::at_rest(PortParts::new(
+                settings.supplies(),
+                settings.identity_tries(),
+                settings.unconstrained(),
+            )),
         }
     }
 
@@ -97,7 +92,7 @@ impl Port {
     pub fn due(&self, next: Option<&Event>) -> Option<Due>
         ensures { result ≡ the_due self.now.port_record (option_copied next.entry) }
     {
-        due_of(&self.work.port, next)
+        due_of(&self.under_way.port, next)
     }
 
     /// What the port asks of the shared budget before the step for this due.
@@ -108,8 +103,8 @@ impl Port {
         if is_budget(&due.what) {
             return Some(Query::Keep { power: self.hold() });
         }
-        let stimulus = source_told(&self.work.port, &due.what)?;
-        self.work.port.source.ask(&stimulus)
+        let stimulus = source_told(&self.under_way.port, &due.what)?;
+        self.under_way.port.source.ask(&stimulus)
     }
 
     /// The step for this due, with the answer to what the port asked. The meter rises by one.
@@ -123,18 +118,18 @@ impl Port {
         let query = self.ask(due);
         let before = self.contract();
         meter.rise();
-        self.work.answer = answer;
-        happens(&mut self.work, &self.settings, &due.what, due.time);
-        self.work.line_starts(due.time);
-        self.work.answer = None;
-        let after = self.work.port.source.contract();
+        self.under_way.answer = answer;
+        happens(&mut self.under_way, &self.settings, &due.what, due.time);
+        self.under_way.line_starts(due.time);
+        self.under_way.answer = None;
+        let after = self.under_way.port.source.contract();
         Entry {
             at: due.time,
             due: *due,
             query,
-            faults: mem::replace(&mut self.work.faults, ArrayVec::new()),
+            faults: mem::replace(&mut self.under_way.faults, ArrayVec::new()),
             contract: change_of(before, after),
-            start: self.work.start.take(),
+            start: self.under_way.start.take(),
         }
     }
 
@@ -143,7 +138,7 @@ impl Port {
     pub fn hold(&self) -> u64
         ensures { result ≡ hold self.now.settings self.now.port_record }
     {
-        self.work
+        self.under_way
             .port
             .source
             .hold(u64::from(self.settings.floor_mw()) * 1_000)
@@ -153,14 +148,14 @@ impl Port {
     pub fn contract(&self) -> Option<Contract>
         ensures { result ≡ self.now.port_record.source.contract }
     {
-        self.work.port.source.contract()
+        self.under_way.port.source.contract()
     }
 
     /// Whether both ports' records are the same, whatever the ports are set to.
     pub fn same(&self, other: &Port) -> bool
         ensures { IsTrue result ↔ (self.now.port_record ≡ other.now.port_record) }
     {
-        self.work.port.same(&other.work.port)
+        self.under_way.port.same(&other.under_way.port)
     }
 
     /// A port with the same settings and the same record.
@@ -169,12 +164,7 @@ impl Port {
     {
         Port {
             settings: self.settings.copy(),
-            work: Work {
-                port: self.work.port.copy(),
-                answer: None,
-                faults: ArrayVec::new(),
-                start: None,
-            },
+            under_way: PortStep::at_rest(self.under_way.port.copy()),
         }
     }
 }

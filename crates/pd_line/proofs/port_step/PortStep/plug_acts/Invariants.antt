@@ -1,6 +1,6 @@
 use Rattle.std.proofs.Common.{◌≡◌, length}
-use Rattle.pd_line.specs.Work.{plug_acts}
-use Rattle.pd_line.proofs.work.Work.plug_acts.Given as goal
+use Rattle.pd_line.specs.PortStep.{plug_acts}
+use Rattle.pd_line.proofs.port_step.PortStep.plug_acts.Given as goal
 
 abbrev pub invariant-acts : goal.invariant-acts
 invariant-acts l = record {

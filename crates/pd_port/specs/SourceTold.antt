@@ -24,14 +24,14 @@ use Rattle.pd_setup.specs.declared.event.EventKind.TheVariants.{Attach, GetSink}
 use Rattle.pd_setup.specs.declared.event.Happening.{Happening}
 use Rattle.pd_setup.specs.declared.event.Happening.TheVariants.{Port, Budget}
 use Rattle.pd_line.specs.Told.{sent_as, source_hears_as}
-use Rattle.pd_line.specs.declared.record.Record.{Record}
-use Rattle.pd_line.specs.declared.record.Line.{Line}
-use Rattle.pd_line.specs.declared.record.Line.TheVariants.{GoodCrc, NoAnswer, HardReset}
+use Rattle.pd_line.specs.declared.port_parts.PortParts.{PortParts}
+use Rattle.pd_line.specs.declared.port_parts.Line.{Line}
+use Rattle.pd_line.specs.declared.port_parts.Line.TheVariants.{GoodCrc, NoAnswer, HardReset}
 use Rattle.pd_port.specs.declared.due.What.{What}
 use Rattle.pd_port.specs.declared.due.What.TheVariants as what
 
 -- the source's layer on a channel
-abbrev pub source_layer : Channel → Record → LayerRecord
+abbrev pub source_layer : Channel → PortParts → LayerRecord
 source_layer Sop r = r.source_sop
 source_layer SopPrime r = r.source_sop_prime
 
@@ -47,31 +47,31 @@ abbrev pub told_if_failed : LayerAct → Option Stimulus
 told_if_failed answer.Failed = Some told.Failed
 told_if_failed act = None
 
-abbrev pub told_of_good_crc : Contents → Record → Option Contents → Option Stimulus
+abbrev pub told_of_good_crc : Contents → PortParts → Option Contents → Option Stimulus
 told_of_good_crc p r None = None
 told_of_good_crc p r (Some a) = told_if_sent p (layer.good_crc (source_layer p.channel r) (id_of a.header)).1
 
-abbrev pub told_at_good_crc : Side → Contents → Contents → Fate → Record → Option Stimulus
+abbrev pub told_at_good_crc : Side → Contents → Contents → Fate → PortParts → Option Stimulus
 told_at_good_crc Source p a fate r = told_of_good_crc p r (heard a fate)
 told_at_good_crc side p a fate r = told_if_up p (layer.received (source_layer p.channel r) p.header).1
 
-abbrev pub told_at_time_out : Side → Contents → Record → Option Stimulus
+abbrev pub told_at_time_out : Side → Contents → PortParts → Option Stimulus
 told_at_time_out Source p r = told_if_failed (layer.timed_out (source_layer p.channel r)).1
 told_at_time_out side p r = None
 
 -- a Hard Reset has ended, the source's own or another side's
-abbrev pub told_of_reset : Side → Record → Option Stimulus
+abbrev pub told_of_reset : Side → PortParts → Option Stimulus
 told_of_reset Source r = Some (told.Sent sent.Other)
 told_of_reset side r = if source.hears_in r.source.record then Some told.HardReset else None
 
-abbrev pub told_by_line : Line → Record → Option Stimulus
+abbrev pub told_by_line : Line → PortParts → Option Stimulus
 told_by_line (GoodCrc side p a fate end) r = told_at_good_crc side p a fate r
 told_by_line (NoAnswer side p end) r = told_at_time_out side p r
 told_by_line (HardReset side end) r = told_of_reset side r
 told_by_line line r = None
 
 -- an event while a sink is attached
-abbrev pub told_attached : EventKind → Record → Option Stimulus
+abbrev pub told_attached : EventKind → PortParts → Option Stimulus
 told_attached GetSink r = if source.is_ready r.source.record then Some told.GetSink else None
 told_attached kind r = None
 
@@ -80,12 +80,12 @@ abbrev pub told_detached : EventKind → Option Stimulus
 told_detached (Attach cable device) = Some told.Attach
 told_detached kind = None
 
-abbrev pub told_by_event : Happening → Record → Option Stimulus
+abbrev pub told_by_event : Happening → PortParts → Option Stimulus
 told_by_event (Port id kind) r = if is_some r.cable then told_attached kind r else told_detached kind
 told_by_event Budget r = None
 
 -- with what the source's engine is stepped for this due, where it is no change of the budget
-abbrev pub source_told : What → Record → Option Stimulus
+abbrev pub source_told : What → PortParts → Option Stimulus
 source_told (what.Event e) r = told_by_event e.happening r
 source_told what.Line r = told_by_line r.line r
 source_told (what.Timer Source timer) r = Some (told.Ended timer)

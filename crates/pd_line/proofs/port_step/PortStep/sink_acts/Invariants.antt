@@ -1,7 +1,7 @@
 use Rattle.std.proofs.Common.{◌≡◌, ◌+◌, ◌≤◌, length}
 use Rattle.pd_sink.specs.Acts.{noise}
-use Rattle.pd_line.specs.Work.{sink_acts}
-use Rattle.pd_line.proofs.work.Work.sink_acts.Given as goal
+use Rattle.pd_line.specs.PortStep.{sink_acts}
+use Rattle.pd_line.proofs.port_step.PortStep.sink_acts.Given as goal
 
 abbrev pub invariant-acts : goal.invariant-acts
 invariant-acts l = record {

@@ -1,7 +1,7 @@
 use Rattle.std.proofs.Common.{◌≡◌, ◌+◌, ◌≤◌, length}
 use Rattle.pd_source.specs.Acts.{noise}
-use Rattle.pd_line.specs.Work.{source_acts}
-use Rattle.pd_line.proofs.work.Work.source_acts.Given as goal
+use Rattle.pd_line.specs.PortStep.{source_acts}
+use Rattle.pd_line.proofs.port_step.PortStep.source_acts.Given as goal
 
 abbrev pub invariant-acts : goal.invariant-acts
 invariant-acts l = record {

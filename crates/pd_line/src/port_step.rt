@@ -3,7 +3,7 @@
 ghost use Rattle.std.specs.Prelude.{◌≡◌, ℕ, ◌<◌, ◌≤◌, length};
 
 use crate::notes::{Fault, Start};
-use crate::record::{Record, Waiting};
+use crate::port_parts::{PortParts, Waiting};
 use crate::told::{
     plug_hears_as, plug_message, sink_fault, sink_hears_as, sink_message, source_fault,
     source_hears_as, source_message,
@@ -21,25 +21,49 @@ use pd_source::{Act as SourceAct, Sent, Stimulus as SourceStimulus};
 use pd_symbols::Channel;
 use pd_timers::Timer;
 
+/// A call of the layer of a side on a channel: the source has one on each channel, the sink on SOP, the plug on SOP'.
+macro_rules! on_layer {
+    ($step:expr, $side:expr, $channel:expr, $call:ident($($argument:expr),*)) => {
+        match ($side, $channel) {
+            (Side::Source, Channel::Sop) => $step.port.source_sop.$call($($argument),*),
+            (Side::Source, Channel::SopPrime) => $step.port.source_sop_prime.$call($($argument),*),
+            (Side::Sink, _) => $step.port.sink_sop.$call($($argument),*),
+            (Side::Plug, _) => $step.port.plug_sop_prime.$call($($argument),*),
+        }
+    };
+}
+
 /// A step under way: the port, the answer of the shared budget until the source has used it, the faults so far, and
 /// what has started on the line.
 #[derive(Drop)]
-pub struct Work {
-    pub port: Record,
+pub struct PortStep {
+    pub port: PortParts,
     pub answer: Option<Answer>,
     pub faults: ArrayVec<Fault, 8>,
     pub start: Option<Start>,
 }
 
-impl Work {
+impl PortStep {
     ghost use Rattle.std.specs.Prelude.{◌+◌};
     ghost use Rattle.pd_source.specs.Acts.{noise as source_noise, noise_of as source_noise_of};
     ghost use Rattle.pd_sink.specs.Acts.{noise as sink_noise, noise_of as sink_noise_of};
     ghost use Rattle.pd_line.specs.Noise.{most};
-    ghost use Rattle.pd_line.specs.Work.{wait, reset_on, sink_act, sink_acts, sink_steps, plug_act, plug_acts, plug_steps, source_act, source_acts, source_steps, noted, submit_on, good_crc_on, timed_out_on, received_on, tells_sent, tells_failed, tells_message, tells_reset, tells_timer, tells_attach};
+    ghost use Rattle.pd_line.specs.PortStep.{at_rest, wait, reset_on, sink_act, sink_acts, sink_steps, plug_act, plug_acts, plug_steps, source_act, source_acts, source_steps, noted, submit_on, good_crc_on, timed_out_on, received_on, tells_sent, tells_failed, tells_message, tells_reset, tells_timer, tells_attach};
+
+    /// A port on which no step is under way.
+    pub fn at_rest(port: PortParts) -> PortStep
+        ensures { result ≡ at_rest port }
+    {
+        PortStep {
+            port,
+            answer: None,
+            faults: ArrayVec::new(),
+            start: None,
+        }
+    }
 
     /// Notes a fault.
-    #[tactic(auto, unfolding(crate::specs::Work::noted))]
+    #[tactic(auto, unfolding(crate::specs::PortStep::noted))]
     pub fn note(&mut self, fault: Fault)
         requires { length self.old.faults.items < 8 }
         ensures after { self.new ≡ noted fault self.old }
@@ -49,7 +73,7 @@ impl Work {
     }
 
     /// Puts what waits on a side.
-    #[tactic(auto, unfolding(crate::specs::Work::wait))]
+    #[tactic(auto, unfolding(crate::specs::PortStep::wait))]
     pub(crate) fn wait(&mut self, side: Side, waiting: Waiting)
         ensures after { self.new ≡ wait side waiting self.old }
         ensures faults { self.new.faults ≡ self.old.faults }
@@ -62,7 +86,7 @@ impl Work {
     }
 
     /// Submits a message to the layer of a side.
-    #[tactic(auto, unfolding(crate::specs::Work::submit_on))]
+    #[tactic(auto, unfolding(crate::specs::PortStep::submit_on))]
     pub(crate) fn submit_on(
         &mut self,
         side: Side,
@@ -75,73 +99,46 @@ impl Work {
         ensures answer { result ≡ (submit_on side channel message revision self.old).1 }
         ensures faults { self.new.faults ≡ self.old.faults }
     {
-        match (side, channel) {
-            (Side::Source, Channel::Sop) => self.port.source_sop.submit(message, revision),
-            (Side::Source, Channel::SopPrime) => {
-                self.port.source_sop_prime.submit(message, revision)
-            }
-            (Side::Sink, _) => self.port.sink_sop.submit(message, revision),
-            (Side::Plug, _) => self.port.plug_sop_prime.submit(message, revision),
-        }
+        on_layer!(self, side, channel, submit(message, revision))
     }
 
     /// Hands a GoodCRC to the layer of a side.
-    #[tactic(auto, unfolding(crate::specs::Work::good_crc_on))]
+    #[tactic(auto, unfolding(crate::specs::PortStep::good_crc_on))]
     pub(crate) fn good_crc_on(&mut self, side: Side, channel: Channel, id: u8) -> LayerAct
         ensures after { self.new ≡ (good_crc_on side channel id self.old).0 }
         ensures answer { result ≡ (good_crc_on side channel id self.old).1 }
         ensures faults { self.new.faults ≡ self.old.faults }
     {
-        match (side, channel) {
-            (Side::Source, Channel::Sop) => self.port.source_sop.good_crc(id),
-            (Side::Source, Channel::SopPrime) => self.port.source_sop_prime.good_crc(id),
-            (Side::Sink, _) => self.port.sink_sop.good_crc(id),
-            (Side::Plug, _) => self.port.plug_sop_prime.good_crc(id),
-        }
+        on_layer!(self, side, channel, good_crc(id))
     }
 
     /// Tells the layer of a side that no GoodCRC has come.
-    #[tactic(auto, unfolding(crate::specs::Work::timed_out_on))]
+    #[tactic(auto, unfolding(crate::specs::PortStep::timed_out_on))]
     pub(crate) fn timed_out_on(&mut self, side: Side, channel: Channel) -> LayerAct
         ensures after { self.new ≡ (timed_out_on side channel self.old).0 }
         ensures answer { result ≡ (timed_out_on side channel self.old).1 }
         ensures faults { self.new.faults ≡ self.old.faults }
     {
-        match (side, channel) {
-            (Side::Source, Channel::Sop) => self.port.source_sop.timed_out(),
-            (Side::Source, Channel::SopPrime) => self.port.source_sop_prime.timed_out(),
-            (Side::Sink, _) => self.port.sink_sop.timed_out(),
-            (Side::Plug, _) => self.port.plug_sop_prime.timed_out(),
-        }
+        on_layer!(self, side, channel, timed_out())
     }
 
     /// Hands a message's header to the layer of a side.
-    #[tactic(auto, unfolding(crate::specs::Work::received_on))]
+    #[tactic(auto, unfolding(crate::specs::PortStep::received_on))]
     pub(crate) fn received_on(&mut self, side: Side, channel: Channel, header: u16) -> LayerAct
         ensures after { self.new ≡ (received_on side channel header self.old).0 }
         ensures answer { result ≡ (received_on side channel header self.old).1 }
         ensures faults { self.new.faults ≡ self.old.faults }
     {
-        match (side, channel) {
-            (Side::Source, Channel::Sop) => self.port.source_sop.received(header),
-            (Side::Source, Channel::SopPrime) => self.port.source_sop_prime.received(header),
-            (Side::Sink, _) => self.port.sink_sop.received(header),
-            (Side::Plug, _) => self.port.plug_sop_prime.received(header),
-        }
+        on_layer!(self, side, channel, received(header))
     }
 
     /// Resets the layer of a side.
-    #[tactic(auto, unfolding(crate::specs::Work::reset_on))]
+    #[tactic(auto, unfolding(crate::specs::PortStep::reset_on))]
     pub(crate) fn reset_on(&mut self, side: Side, channel: Channel)
         ensures after { self.new ≡ reset_on side channel self.old }
         ensures faults { self.new.faults ≡ self.old.faults }
     {
-        match (side, channel) {
-            (Side::Source, Channel::Sop) => self.port.source_sop.reset(),
-            (Side::Source, Channel::SopPrime) => self.port.source_sop_prime.reset(),
-            (Side::Sink, _) => self.port.sink_sop.reset(),
-            (Side::Plug, _) => self.port.plug_sop_prime.reset(),
-        }
+        on_layer!(self, side, channel, reset())
     }
 
     /// An act of the sink.
@@ -174,7 +171,7 @@ impl Work {
     }
 
     /// Steps the sink's engine.
-    #[tactic(auto, unfolding(crate::specs::Work::sink_steps))]
+    #[tactic(auto, unfolding(crate::specs::PortStep::sink_steps))]
     pub fn sink_steps(&mut self, t: u64, stimulus: &SinkStimulus)
         requires time { t ≤ 120000000 }
         requires room { length self.old.faults.items + 1 ≤ 8 }
@@ -210,7 +207,7 @@ impl Work {
     }
 
     /// Steps the plug's engine.
-    #[tactic(auto, unfolding(crate::specs::Work::plug_steps))]
+    #[tactic(auto, unfolding(crate::specs::PortStep::plug_steps))]
     pub(crate) fn plug_steps(&mut self, t: u64, stimulus: &PlugStimulus)
         requires { t ≤ 120000000 }
         ensures after { self.new ≡ plug_steps t stimulus.now self.old }
@@ -254,7 +251,7 @@ impl Work {
     }
 
     /// Steps the source's engine.
-    #[tactic(auto, unfolding(crate::specs::Work::source_steps))]
+    #[tactic(auto, unfolding(crate::specs::PortStep::source_steps))]
     pub fn source_steps(&mut self, t: u64, stimulus: &SourceStimulus)
         requires time { t ≤ 120000000 }
         requires room { length self.old.faults.items + 2 ≤ 8 }
@@ -266,7 +263,7 @@ impl Work {
     }
 
     /// What a side has sent has reached its receiver.
-    #[tactic(auto, unfolding(crate::specs::Work::tells_sent))]
+    #[tactic(auto, unfolding(crate::specs::PortStep::tells_sent))]
     pub(crate) fn tell_sent(&mut self, side: Side, sent: Sent, t: u64)
         requires time { t ≤ 120000000 }
         requires room { length self.old.faults.items + most side ≤ 8 }
@@ -281,7 +278,7 @@ impl Work {
     }
 
     /// A side's message was sent as often as it may be, and nobody has answered.
-    #[tactic(auto, unfolding(crate::specs::Work::tells_failed))]
+    #[tactic(auto, unfolding(crate::specs::PortStep::tells_failed))]
     pub(crate) fn tell_failed(&mut self, side: Side, t: u64)
         requires time { t ≤ 120000000 }
         requires room { length self.old.faults.items + most side ≤ 8 }
@@ -296,7 +293,7 @@ impl Work {
     }
 
     /// A side gets a message.
-    #[tactic(auto, unfolding(crate::specs::Work::tells_message))]
+    #[tactic(auto, unfolding(crate::specs::PortStep::tells_message))]
     pub(crate) fn tell_message(&mut self, side: Side, packet: &Packet, t: u64)
         requires time { t ≤ 120000000 }
         requires room { length self.old.faults.items + most side ≤ 8 }
@@ -311,7 +308,7 @@ impl Work {
     }
 
     /// A side gets a Hard Reset.
-    #[tactic(auto, unfolding(crate::specs::Work::tells_reset))]
+    #[tactic(auto, unfolding(crate::specs::PortStep::tells_reset))]
     pub(crate) fn tell_reset(&mut self, side: Side, t: u64)
         requires time { t ≤ 120000000 }
         requires room { length self.old.faults.items + most side ≤ 8 }
@@ -326,7 +323,7 @@ impl Work {
     }
 
     /// A side's timer has ended.
-    #[tactic(auto, unfolding(crate::specs::Work::tells_timer))]
+    #[tactic(auto, unfolding(crate::specs::PortStep::tells_timer))]
     pub fn tell_timer(&mut self, side: Side, timer: Timer, t: u64)
         requires time { t ≤ 120000000 }
         requires room { length self.old.faults.items + most side ≤ 8 }
@@ -341,7 +338,7 @@ impl Work {
     }
 
     /// A sink is attached through a cable.
-    #[tactic(auto, unfolding(crate::specs::Work::tells_attach))]
+    #[tactic(auto, unfolding(crate::specs::PortStep::tells_attach))]
     pub fn tell_attach(&mut self, cable: Cable, sink: SinkSettings, t: u64)
         requires time { t ≤ 120000000 }
         requires room { length self.old.faults.items + 3 ≤ 8 }

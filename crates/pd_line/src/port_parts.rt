@@ -66,7 +66,7 @@ pub enum Line {
 /// All that a port keeps from step to step: its cable, the engines, the layers, what waits, what is on the line, and
 /// the disturbances that wait for packets.
 #[derive(Drop)]
-pub struct Record {
+pub struct PortParts {
     pub cable: Option<Cable>,
     pub source: Source,
     pub sink: Sink,

@@ -31,15 +31,15 @@ use Rattle.pd_setup.specs.declared.event.Happening.{Happening}
 use Rattle.pd_setup.specs.declared.event.Happening.TheVariants.{Port, Budget}
 use Rattle.pd_setup.specs.Settings.{SettingsData}
 use Rattle.pd_line.specs.declared.notes.Fault.TheVariants.{NoGoodCrc, Ignored}
-use Rattle.pd_line.specs.declared.record.Disturbance.{Disturbance}
-use Rattle.pd_line.specs.declared.record.Disturbance.TheVariants.{Lost, Damaged}
-use Rattle.pd_line.specs.declared.record.Record.{Record}
-use Rattle.pd_line.specs.declared.record.Line.{Line}
-use Rattle.pd_line.specs.declared.record.Line.TheVariants.{Idle, Message, Pause, GoodCrc, NoAnswer, HardReset}
-use Rattle.pd_line.specs.declared.work.Work.{Work}
+use Rattle.pd_line.specs.declared.port_parts.Disturbance.{Disturbance}
+use Rattle.pd_line.specs.declared.port_parts.Disturbance.TheVariants.{Lost, Damaged}
+use Rattle.pd_line.specs.declared.port_parts.PortParts.{PortParts}
+use Rattle.pd_line.specs.declared.port_parts.Line.{Line}
+use Rattle.pd_line.specs.declared.port_parts.Line.TheVariants.{Idle, Message, Pause, GoodCrc, NoAnswer, HardReset}
+use Rattle.pd_line.specs.declared.port_step.PortStep.{PortStep}
 use Rattle.pd_line.specs.Record.{without_settings, nothing_attached}
 use Rattle.pd_line.specs.Told.{sent_as, source_hears_as}
-use Rattle.pd_line.specs.Work.{with_port, noted, layer_on, on_layer, good_crc_on, timed_out_on, received_on, sink_steps, plug_steps, source_steps, tells_sent, tells_failed, tells_message, tells_reset, tells_timer, tells_attach}
+use Rattle.pd_line.specs.PortStep.{with_port, noted, layer_on, on_layer, good_crc_on, timed_out_on, received_on, sink_steps, plug_steps, source_steps, tells_sent, tells_failed, tells_message, tells_reset, tells_timer, tells_attach}
 use Rattle.pd_line.specs.Lines.{with_line, receiver, hears, told_sent, acknowledged, told_message, goes_up, good_crc_ends, after_time_out, times_out, waiting_dropped, layers_reset, hears_reset, all_hear_reset, hard_reset_ends, line_ends_at, line_ends, line_starts}
 use Rattle.pd_line.proofs.Kept.{choice, noted_kept, sink_steps_kept, plug_steps_kept, tells_sent_kept, packet_starts_kept, good_crc_starts_kept, message_ends_kept, acknowledged_kept, goes_up_kept, times_out_kept, waiting_dropped_kept, layers_reset_kept, hears_reset_kept, attached_kept, line_starts_kept}
 use Rattle.pd_line.proofs.Parts.{OfSource, unanswered}
@@ -50,13 +50,13 @@ use Rattle.pd_port.specs.declared.due.What.TheVariants as what
 use Rattle.pd_port.specs.declared.entry.Entry.{Entry}
 use Rattle.pd_port.specs.Laws.{source_after_told, source_after}
 use Rattle.pd_port.specs.Happens.{detaches, disturbs, gets_source, gets_sink, happens_attached, happens_detached, shed, budget_changes}
-use Rattle.pd_port.specs.Told.{source_layer, told_if_sent, told_if_up, told_if_failed, told_of_good_crc, told_at_good_crc, told_at_time_out, told_of_reset, told_by_line, told_attached, told_detached, source_told, told_if_shed}
+use Rattle.pd_port.specs.SourceTold.{source_layer, told_if_sent, told_if_up, told_if_failed, told_of_good_crc, told_at_good_crc, told_at_time_out, told_of_reset, told_by_line, told_attached, told_detached, source_told, told_if_shed}
 use Rattle.pd_port.specs.Changes.{contract_change}
 use Rattle.pd_port.specs.Port.{PortRecord, happens, begun, portstep, whole, source_settings, record_after, entry_of, ask, asks}
 
 -- What was done to w makes the source this, and is v now. Where nothing is asked, the answer doesn't matter: done to w
 -- without its answer it is u, which is v without its answer.
-pub record Becomes (after : SourceRecord) (unasked : Type 0) (w v u : Work) : Type 0 where
+pub record Becomes (after : SourceRecord) (unasked : Type 0) (w v u : PortStep) : Type 0 where
   pub becomes : v.port.source.record ≡ after
   pub blind : unasked → u ≡ unanswered v
 
@@ -65,28 +65,28 @@ abbrev pub AsksNothing : Option Stimulus → SourceData → Type 0
 AsksNothing x s = option_and_then (λ y. source.query_of s.settings y s.record) x ≡ None
 
 -- what was done to w tells the source x
-abbrev pub Tells : ℕ → Option Stimulus → Work → Work → Work → Type 0
+abbrev pub Tells : ℕ → Option Stimulus → PortStep → PortStep → PortStep → Type 0
 Tells t x w v u = Becomes (source_after_told w.port.source.settings t x w.answer w.port.source.record) (AsksNothing x w.port.source) w v u
 
-pub spares_tell : (t : ℕ) (w v u : Work) → Spares w v u → Tells t None w v u
+pub spares_tell : (t : ℕ) (w v u : PortStep) → Spares w v u → Tells t None w v u
 spares_tell t w v u h = record { becomes = ap (λ (s : SourceData). s.record) h.source; blind = λ q. h.blind }
 
-pub source_steps_tell : (t : ℕ) (x : Stimulus) (w : Work) → Tells t (Some x) w (source_steps t x w) (source_steps t x (unanswered w))
+pub source_steps_tell : (t : ℕ) (x : Stimulus) (w : PortStep) → Tells t (Some x) w (source_steps t x w) (source_steps t x (unanswered w))
 source_steps_tell t x w = let h = source_steps_step t x w in record { becomes = h.stepped; blind = h.blind }
 
 -- first the source becomes this, and what comes then spares it
-pub becomes_first : (after : SourceRecord) (unasked : Type 0) (g : Work → Work) (w v u : Work) → Becomes after unasked w v u →
+pub becomes_first : (after : SourceRecord) (unasked : Type 0) (g : PortStep → PortStep) (w v u : PortStep) → Becomes after unasked w v u →
     Spares v (g v) (g (unanswered v)) → Becomes after unasked w (g v) (g u)
 becomes_first after unasked g w v u h k =
     record { becomes = ap (λ (s : SourceData). s.record) k.source ∙ h.becomes; blind = λ q. ap g (h.blind q) ∙ k.blind }
 
-pub told_first : (t : ℕ) (x : Option Stimulus) (g : Work → Work) (w v u : Work) → Tells t x w v u → Spares v (g v) (g (unanswered v)) →
+pub told_first : (t : ℕ) (x : Option Stimulus) (g : PortStep → PortStep) (w v u : PortStep) → Tells t x w v u → Spares v (g v) (g (unanswered v)) →
     Tells t x w (g v) (g u)
 told_first t x g w v u h k =
     becomes_first (source_after_told w.port.source.settings t x w.answer w.port.source.record) (AsksNothing x w.port.source) g w v u h k
 
 -- what the source is told, after something that spared it
-pub after_spared : (t : ℕ) (x : Option Stimulus) (w v : Work) (s : SourceData) → v.port.source ≡ w.port.source → v.answer ≡ w.answer →
+pub after_spared : (t : ℕ) (x : Option Stimulus) (w v : PortStep) (s : SourceData) → v.port.source ≡ w.port.source → v.answer ≡ w.answer →
     s.record ≡ source_after_told v.port.source.settings t x v.answer v.port.source.record →
     s.record ≡ source_after_told w.port.source.settings t x w.answer w.port.source.record
 after_spared t x w v s e f h =
@@ -94,7 +94,7 @@ after_spared t x w v s e f h =
     ∙ ap (λ (a : Option Answer). source_after_told w.port.source.settings t x a w.port.source.record) f
 
 -- first something that spares the source, and then it is told
-pub told_then : (t : ℕ) (x : Option Stimulus) (g : Work → Work) (w v u : Work) → Spares w v u → Tells t x v (g v) (g (unanswered v)) →
+pub told_then : (t : ℕ) (x : Option Stimulus) (g : PortStep → PortStep) (w v u : PortStep) → Spares w v u → Tells t x v (g v) (g (unanswered v)) →
     Tells t x w (g v) (g u)
 told_then t x g w v u h k =
     record {
@@ -102,7 +102,7 @@ told_then t x g w v u h k =
       blind = λ q. ap g h.blind ∙ k.blind (subst (AsksNothing x) (sym h.source) q);
     }
 
-pub told_then_with : {A : Type 0} (t : ℕ) (x : Option Stimulus) (g : Work × A → Work) (w : Work) (v u : Work × A) → SparesWith A w v u →
+pub told_then_with : {A : Type 0} (t : ℕ) (x : Option Stimulus) (g : PortStep × A → PortStep) (w : PortStep) (v u : PortStep × A) → SparesWith A w v u →
     Tells t x v.0 (g v) (g (unanswered v.0, v.1)) → Tells t x w (g v) (g u)
 told_then_with t x g w v u h k =
     record {
@@ -111,30 +111,30 @@ told_then_with t x g w v u h k =
     }
 
 -- the layers of the source are those of this record
-abbrev pub HasLayers : Work → Record → Type 0
+abbrev pub HasLayers : PortStep → PortParts → Type 0
 HasLayers w r = (c : Channel) → layer_on Source c w ≡ source_layer c r
 
-pub its_layers : (w : Work) → HasLayers w w.port
+pub its_layers : (w : PortStep) → HasLayers w w.port
 its_layers w Sop = refl
 its_layers w SopPrime = refl
 
 -- what the source is told is known otherwise
-pub retold : (t : ℕ) (x y : Option Stimulus) (w v u : Work) → x ≡ y → Tells t x w v u → Tells t y w v u
+pub retold : (t : ℕ) (x y : Option Stimulus) (w v u : PortStep) → x ≡ y → Tells t x w v u → Tells t y w v u
 retold t x y w v u e h = subst (λ (z : Option Stimulus). Tells t z w v u) e h
 
-pub told_sent_tells : (p : Contents) (t : ℕ) (act : LayerAct) (w : Work) →
+pub told_sent_tells : (p : Contents) (t : ℕ) (act : LayerAct) (w : PortStep) →
     Tells t (told_if_sent p act) w (told_sent Source p t act w) (told_sent Source p t act (unanswered w))
 unfolding tells_sent
 told_sent_tells p t answer.Sent w = source_steps_tell t (told.Sent (sent_as (kind_of_header p.header))) w
 told_sent_tells p t act w = spares_tell t w _ _ (none w)
 
-pub told_message_tells : (p : Contents) (t : ℕ) (act : LayerAct) (w : Work) →
+pub told_message_tells : (p : Contents) (t : ℕ) (act : LayerAct) (w : PortStep) →
     Tells t (told_if_up p act) w (told_message Source p t act w) (told_message Source p t act (unanswered w))
 unfolding tells_message
 told_message_tells p t answer.Up w = source_steps_tell t (source_hears_as (kind_of_header p.header) p.header p.objects) w
 told_message_tells p t act w = spares_tell t w _ _ (none w)
 
-pub after_time_out_tells : (p : Contents) (t : ℕ) (act : LayerAct) (w : Work) →
+pub after_time_out_tells : (p : Contents) (t : ℕ) (act : LayerAct) (w : PortStep) →
     Tells t (told_if_failed act) w (after_time_out Source p t act w) (after_time_out Source p t act (unanswered w))
 unfolding tells_failed
 after_time_out_tells p t (answer.Retry q) w = spares_tell t w _ _ (packet_starts_kept t (sparing t) tt tt Source q w)
@@ -144,7 +144,7 @@ after_time_out_tells p t answer.Failed w =
     told_then t (Some told.Failed) (source_steps t told.Failed) w v _ (noted_kept t (sparing t) f w) (source_steps_tell t told.Failed v)
 after_time_out_tells p t act w = spares_tell t w _ _ (none w)
 
-pub acknowledged_tells : (p : Contents) (t : ℕ) (a : Option Contents) (w : Work) (r : Record) → HasLayers w r →
+pub acknowledged_tells : (p : Contents) (t : ℕ) (a : Option Contents) (w : PortStep) (r : PortParts) → HasLayers w r →
     Tells t (told_of_good_crc p r a) w (acknowledged Source p t a w) (acknowledged Source p t a (unanswered w))
 unfolding good_crc_on
 acknowledged_tells p t None w r h = spares_tell t w _ _ (line_spares _ w)
@@ -154,7 +154,7 @@ acknowledged_tells p t (Some a) w r h =
     retold t (told_if_sent p v.1) _ w _ _ (ap (λ (l : LayerRecord). told_if_sent p (call l).1) (h p.channel))
     (told_then_with t (told_if_sent p v.1) (λ z. told_sent Source p t z.1 z.0) w v _ (on_layer_spares LayerAct Source p.channel call w) (told_sent_tells p t v.1 v.0))
 
-pub goes_up_tells : (p : Contents) (t : ℕ) (w : Work) (r : Record) → HasLayers w r →
+pub goes_up_tells : (p : Contents) (t : ℕ) (w : PortStep) (r : PortParts) → HasLayers w r →
     Tells t (told_if_up p (layer.received (source_layer p.channel r) p.header).1) w (goes_up Source p t w) (goes_up Source p t (unanswered w))
 unfolding goes_up received_on
 goes_up_tells p t w r h =
@@ -174,7 +174,7 @@ any_touches Sink = tt
 any_touches Plug = tt
 
 -- another side's message is acknowledged, and goes up to the source
-pub other_good_crc_tells : (side : Side) → OfSource ⊥ side → (p a : Contents) (fate : Fate) (t : ℕ) (w : Work) (r : Record) → HasLayers w r →
+pub other_good_crc_tells : (side : Side) → OfSource ⊥ side → (p a : Contents) (fate : Fate) (t : ℕ) (w : PortStep) (r : PortParts) → HasLayers w r →
     Tells t (told_if_up p (layer.received (source_layer p.channel r) p.header).1) w
     (goes_up Source p t (acknowledged side p t (heard a fate) w)) (goes_up Source p t (acknowledged side p t (heard a fate) (unanswered w)))
 other_good_crc_tells side o p a fate t w r h =
@@ -182,7 +182,7 @@ other_good_crc_tells side o p a fate t w r h =
     told_then t _ (goes_up Source p t) w v _ (acknowledged_kept t (sparing t) tt side (any_touches side) o p (heard a fate) w)
     (goes_up_tells p t v r (λ c. acknowledged_layer side o p t (heard a fate) c w ∙ h c))
 
-pub good_crc_ends_tells : (side : Side) (p a : Contents) (fate : Fate) (t : ℕ) (w : Work) (r : Record) → HasLayers w r →
+pub good_crc_ends_tells : (side : Side) (p a : Contents) (fate : Fate) (t : ℕ) (w : PortStep) (r : PortParts) → HasLayers w r →
     Tells t (told_at_good_crc side p a fate r) w (good_crc_ends side p a fate t w) (good_crc_ends side p a fate t (unanswered w))
 unfolding good_crc_ends
 good_crc_ends_tells Source p a fate t w r h =
@@ -193,7 +193,7 @@ good_crc_ends_tells Source p a fate t w r h =
 good_crc_ends_tells Sink p a fate t w r h = other_good_crc_tells Sink tt p a fate t w r h
 good_crc_ends_tells Plug p a fate t w r h = other_good_crc_tells Plug tt p a fate t w r h
 
-pub times_out_tells : (side : Side) (p : Contents) (t : ℕ) (w : Work) (r : Record) → HasLayers w r →
+pub times_out_tells : (side : Side) (p : Contents) (t : ℕ) (w : PortStep) (r : PortParts) → HasLayers w r →
     Tells t (told_at_time_out side p r) w (times_out side p t w) (times_out side p t (unanswered w))
 unfolding times_out timed_out_on
 times_out_tells Source p t w r h =
@@ -204,13 +204,13 @@ times_out_tells Sink p t w r h = spares_tell t w _ _ (times_out_kept t (sparing 
 times_out_tells Plug p t w r h = spares_tell t w _ _ (times_out_kept t (sparing t) tt tt Plug tt tt p w)
 
 -- all is reset at a Hard Reset's end, which spares the source
-pub reset_spares : (t : ℕ) (w : Work) → Spares w (layers_reset (waiting_dropped w)) (layers_reset (waiting_dropped (unanswered w)))
+pub reset_spares : (t : ℕ) (w : PortStep) → Spares w (layers_reset (waiting_dropped w)) (layers_reset (waiting_dropped (unanswered w)))
 reset_spares t w =
     let v = waiting_dropped w in
     joins layers_reset w v _ (waiting_dropped_kept t (sparing t) w) (layers_reset_kept t (sparing t) tt v)
 
 -- the source's own Hard Reset
-pub own_reset_tells : (t : ℕ) (w : Work) →
+pub own_reset_tells : (t : ℕ) (w : PortStep) →
     Tells t (Some (told.Sent sent.Other)) w (hard_reset_ends Source t w) (hard_reset_ends Source t (unanswered w))
 unfolding hard_reset_ends all_hear_reset hears_reset tells_sent
 own_reset_tells t w =
@@ -228,13 +228,13 @@ pub told_if_hears : Bool → Option Stimulus
 told_if_hears b = if b then Some told.HardReset else None
 
 -- the source gets another side's Hard Reset, where it hears
-pub source_gets_reset : (b : Bool) (t : ℕ) (w : Work) →
+pub source_gets_reset : (b : Bool) (t : ℕ) (w : PortStep) →
     Tells t (told_if_hears b) w (if b then source_steps t told.HardReset w else w) (if b then source_steps t told.HardReset (unanswered w) else unanswered w)
 unfolding told_if_hears
 source_gets_reset true t w = source_steps_tell t told.HardReset w
 source_gets_reset false t w = spares_tell t w _ _ (none w)
 
-pub source_hears_reset : (side : Side) → OfSource ⊥ side → (t : ℕ) (w : Work) →
+pub source_hears_reset : (side : Side) → OfSource ⊥ side → (t : ℕ) (w : PortStep) →
     Tells t (told_if_hears (source.hears_in w.port.source.record)) w (hears_reset side Source t w) (hears_reset side Source t (unanswered w))
 unfolding hears_reset hears tells_reset
 source_hears_reset Source o t w = absurd o
@@ -242,7 +242,7 @@ source_hears_reset Sink o t w = source_gets_reset (source.hears_in w.port.source
 source_hears_reset Plug o t w = source_gets_reset (source.hears_in w.port.source.record) t w
 
 -- another side's Hard Reset
-pub other_reset_tells : (side : Side) → OfSource ⊥ side → (t : ℕ) (w : Work) →
+pub other_reset_tells : (side : Side) → OfSource ⊥ side → (t : ℕ) (w : PortStep) →
     Tells t (told_if_hears (source.hears_in w.port.source.record)) w (hard_reset_ends side t w) (hard_reset_ends side t (unanswered w))
 unfolding hard_reset_ends all_hear_reset
 other_reset_tells side o t w =
@@ -260,7 +260,7 @@ other_reset_tells side o t w =
     (hears_reset_kept t (sparing t) side Sink tt c))
     (hears_reset_kept t (sparing t) side Plug tt d)
 
-pub hard_reset_tells : (side : Side) (t : ℕ) (w : Work) (r : Record) → w.port.source ≡ r.source →
+pub hard_reset_tells : (side : Side) (t : ℕ) (w : PortStep) (r : PortParts) → w.port.source ≡ r.source →
     Tells t (told_of_reset side r) w (hard_reset_ends side t w) (hard_reset_ends side t (unanswered w))
 unfolding told_if_hears
 hard_reset_tells Source t w r e = own_reset_tells t w
@@ -271,7 +271,7 @@ hard_reset_tells Plug t w r e =
     retold t (told_if_hears (source.hears_in w.port.source.record)) _ w _ _ (ap (λ (z : SourceData). told_if_hears (source.hears_in z.record)) e)
     (other_reset_tells Plug tt t w)
 
-pub line_ends_at_tells : (line : Line) (t : ℕ) (w : Work) (r : Record) → HasLayers w r → w.port.source ≡ r.source →
+pub line_ends_at_tells : (line : Line) (t : ℕ) (w : PortStep) (r : PortParts) → HasLayers w r → w.port.source ≡ r.source →
     Tells t (told_by_line line r) w (line_ends_at line t w) (line_ends_at line t (unanswered w))
 line_ends_at_tells Idle t w r h e = spares_tell t w _ _ (none w)
 line_ends_at_tells (Message side p fate end) t w r h e = spares_tell t w _ _ (message_ends_kept t (sparing t) tt side p fate w)
@@ -280,7 +280,7 @@ line_ends_at_tells (GoodCrc side p a fate end) t w r h e = good_crc_ends_tells s
 line_ends_at_tells (NoAnswer side p end) t w r h e = times_out_tells side p t w r h
 line_ends_at_tells (HardReset side end) t w r h e = hard_reset_tells side t w r e
 
-pub line_ends_tells : (t : ℕ) (w : Work) → Tells t (told_by_line w.port.line w.port) w (line_ends t w) (line_ends t (unanswered w))
+pub line_ends_tells : (t : ℕ) (w : PortStep) → Tells t (told_by_line w.port.line w.port) w (line_ends t w) (line_ends t (unanswered w))
 unfolding line_ends
 line_ends_tells t w =
     let v = with_line Idle w in
