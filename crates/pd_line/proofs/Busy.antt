@@ -25,9 +25,12 @@ use Rattle.pd_line.specs.declared.notes.Fault.TheVariants.{NoGoodCrc}
 use Rattle.pd_line.specs.declared.port_parts.Line.{Line}
 use Rattle.pd_line.specs.declared.port_parts.Line.TheVariants.{Idle, Message, Pause, GoodCrc, NoAnswer, HardReset}
 use Rattle.pd_line.specs.declared.port_step.PortStep.{PortStep}
-use Rattle.pd_line.specs.PortStep.{with_layer, on_layer, timed_out_on, noted, sink_steps, plug_steps, source_after, source_steps, tells_timer}
-use Rattle.pd_line.specs.Lines.{with_line, started, packet_starts, good_crc_starts, after_time_out, times_out, line_ends_at, line_ends, is_idle, line_starts}
-use Rattle.pd_line.proofs.Kept.{sink_acts_kept, plug_acts_kept, source_acts_kept, noted_kept, tells_failed_kept, message_ends_kept, good_crc_ends_kept, hard_reset_ends_kept}
+use Rattle.pd_line.specs.PortStep.{with_layer, on_layer, timed_out_on, noted, sink_steps, plug_steps, source_after, source_steps}
+use Rattle.pd_line.specs.PortStep.{tells_timer}
+use Rattle.pd_line.specs.Lines.{with_line, started, packet_starts, good_crc_starts, after_time_out, times_out, line_ends_at}
+use Rattle.pd_line.specs.Lines.{line_ends, is_idle, line_starts}
+use Rattle.pd_line.proofs.Kept.{sink_acts_kept, plug_acts_kept, source_acts_kept, noted_kept, tells_failed_kept}
+use Rattle.pd_line.proofs.Kept.{message_ends_kept, good_crc_ends_kept, hard_reset_ends_kept}
 use Rattle.pd_line.proofs.Parts.{Kept, of_any, Watched, sink_after, plug_after}
 
 -- while the line is busy, nothing starts
@@ -141,7 +144,8 @@ good_crc_starts_one : (side : Side) (p : Contents) (t : ℕ) (w : PortStep) → 
 unfolding good_crc_starts started with_line
 good_crc_starts_one side p t w = inr refl
 
-on_layer_start : (A : Type 0) (side : Side) (channel : Channel) (call : LayerRecord → LayerRecord × A) (w : PortStep) → (on_layer side channel call w).0.start ≡ w.start
+on_layer_start : (A : Type 0) (side : Side) (channel : Channel) (call : LayerRecord → LayerRecord × A)
+    (w : PortStep) → (on_layer side channel call w).0.start ≡ w.start
 on_layer_start A Source Sop call w = refl
 on_layer_start A Source SopPrime call w = refl
 on_layer_start A Sink channel call w = refl
@@ -158,7 +162,8 @@ times_out_one : (side : Side) (p : Contents) (t : ℕ) (w : PortStep) → Starts
 unfolding times_out timed_out_on
 times_out_one side p t w =
     let r = timed_out_on side p.channel w in
-    then_one w r.0 (after_time_out side p t r.1 r.0) (on_layer_start _ side p.channel layer.timed_out w) (after_time_out_one side p t r.1 r.0)
+    then_one w r.0 (after_time_out side p t r.1 r.0) (on_layer_start _ side p.channel layer.timed_out w)
+    (after_time_out_one side p t r.1 r.0)
 
 line_ends_at_one : (line : Line) (t : ℕ) (w : PortStep) → StartsOne w (line_ends_at line t w)
 line_ends_at_one Idle t w = inl refl
@@ -170,4 +175,6 @@ line_ends_at_one (HardReset side end) t w = inl (hard_reset_ends_kept t (starts_
 
 pub line_ends_one : (t : ℕ) (w : PortStep) → StartsOne w (line_ends t w)
 unfolding line_ends
-line_ends_one t w = let v = with_line Idle w in then_one w v (line_ends_at w.port.line t v) (line_start Idle w) (line_ends_at_one w.port.line t v)
+line_ends_one t w = let v =
+    with_line Idle w in
+    then_one w v (line_ends_at w.port.line t v) (line_start Idle w) (line_ends_at_one w.port.line t v)

@@ -1,5 +1,6 @@
 -- Each rule of the line keeps what reaches the source to the attached cable.
-use Rattle.std.proofs.Common.{◌≡◌, ◌⊎◌, inl, inr, ℕ, ◌+◌, Bool, true, false, if◌then◌else◌, Option, Some, None, Result, Ok, Err, refl, sym, subst, List, [], ◌∷◌}
+use Rattle.std.proofs.Common.{◌≡◌, ◌⊎◌, inl, inr, ℕ, ◌+◌, Bool, true, false, if◌then◌else◌, Option, Some, None, Result, Ok, Err}
+use Rattle.std.proofs.Common.{refl, sym, subst, List, [], ◌∷◌}
 use Rattle.pd_symbols.specs.declared.channel.Channel.{Channel}
 use Rattle.pd_symbols.specs.declared.channel.Channel.TheVariants.{Sop, SopPrime}
 use Rattle.pd_header.specs.declared.side.Side.{Side}
@@ -15,7 +16,8 @@ use Rattle.pd_protocol.specs.Layer as layer
 use Rattle.pd_protocol.specs.LayerRecord.{LayerRecord}
 use Rattle.pd_protocol.specs.declared.layer.LayerAct.{LayerAct}
 use Rattle.pd_protocol.specs.declared.layer.LayerAct.TheVariants as answer
-use Rattle.pd_protocol.proofs.Resent.{IsOfSent, IsOfRetry, IsOfPacket, reset_sent, received_sent, good_crc_sent, timed_out_sent, submit_sent}
+use Rattle.pd_protocol.proofs.Resent.{IsOfSent, IsOfRetry, IsOfPacket, reset_sent, received_sent, good_crc_sent, timed_out_sent}
+use Rattle.pd_protocol.proofs.Resent.{submit_sent}
 use Rattle.pd_timers.specs.declared.Timer.{Timer}
 use Rattle.pd_source.specs.Step as source
 use Rattle.pd_source.specs.declared.kinds.Act.{Act as SourceAct}
@@ -49,25 +51,58 @@ use Rattle.pd_line.specs.declared.port_parts.Waiting.TheVariants as waits
 use Rattle.pd_line.specs.declared.port_step.PortStep.{PortStep}
 use Rattle.pd_line.specs.Cables.{TellsOn, WaitsToTell, LineTells}
 use Rattle.pd_line.specs.Told.{plug_hears_as, source_hears_as, sink_hears_as, sink_fault, source_fault, sink_message, plug_message}
-use Rattle.pd_line.specs.PortStep.{with_port, noted, wait, layer_on, with_layer, submit_on, good_crc_on, timed_out_on, received_on, reset_on, sink_act, sink_acts, sink_steps, plug_acts, plug_steps, source_act, source_acts, source_after, source_steps, tells_sent, tells_failed, tells_message, tells_reset, tells_timer, tells_attach}
-use Rattle.pd_line.specs.Lines.{lasts, with_line, started, receiver, hears, revision_on, taken_from, taken, packet_starts, good_crc_starts, message_heard, message_ends, told_sent, acknowledged, told_message, goes_up, good_crc_ends, after_time_out, times_out, is_side, waiting_dropped, layers_reset, hears_reset, all_hear_reset, hard_reset_ends, line_ends_at, line_ends, submitted, message_starts, hard_reset_starts, waiting_starts, waiting_on, side_starts, is_idle, is_waiting, line_starts, channel_for}
-use Rattle.pd_line.proofs.Cables.{KnownBefore, KeepsCable, hears_keeps, heard_on, none_waits, none_again, none_line, sink_tells, plug_tells, packet_tells, sent_by, by_sent, source_sent, On}
+use Rattle.pd_line.specs.PortStep.{with_port, noted, wait, layer_on, with_layer, submit_on, good_crc_on, timed_out_on}
+use Rattle.pd_line.specs.PortStep.{received_on, reset_on, sink_act, sink_acts, sink_steps, plug_acts, plug_steps, source_act}
+use Rattle.pd_line.specs.PortStep.{source_acts, source_after, source_steps, tells_sent, tells_failed, tells_message, tells_reset}
+use Rattle.pd_line.specs.PortStep.{tells_timer, tells_attach}
+use Rattle.pd_line.specs.Lines.{lasts, with_line, started, receiver, hears, revision_on, taken_from, taken, packet_starts}
+use Rattle.pd_line.specs.Lines.{good_crc_starts, message_heard, message_ends, told_sent, acknowledged, told_message, goes_up}
+use Rattle.pd_line.specs.Lines.{good_crc_ends, after_time_out, times_out, is_side, waiting_dropped, layers_reset, hears_reset}
+use Rattle.pd_line.specs.Lines.{all_hear_reset, hard_reset_ends, line_ends_at, line_ends, submitted, message_starts}
+use Rattle.pd_line.specs.Lines.{hard_reset_starts, waiting_starts, waiting_on, side_starts, is_idle, is_waiting, line_starts}
+use Rattle.pd_line.specs.Lines.{channel_for}
+use Rattle.pd_line.proofs.Cables.{KnownBefore, KeepsCable, hears_keeps, heard_on, none_waits, none_again, none_line, sink_tells}
+use Rattle.pd_line.proofs.Cables.{plug_tells, packet_tells, sent_by, by_sent, source_sent, On}
 
 module _ (cable : Option Cable) (t : ℕ) where
   line_on : (line : Line) (w : PortStep) → LineTells cable line → On cable w → On cable (with_line line w)
   unfolding with_line
   line_on line w l h =
-      record { attached = h.attached; known = h.known; plug_waits = h.plug_waits; sink_waits = h.sink_waits; plug_sent = h.plug_sent; sink_sent = h.sink_sent; line = l }
+      record {
+        attached = h.attached;
+        known = h.known;
+        plug_waits = h.plug_waits;
+        sink_waits = h.sink_waits;
+        plug_sent = h.plug_sent;
+        sink_sent = h.sink_sent;
+        line = l;
+      }
 
   sink_waits_on : (x : Waiting) (w : PortStep) → WaitsToTell cable x → On cable w → On cable (wait Sink x w)
   unfolding wait
   sink_waits_on x w k h =
-      record { attached = h.attached; known = h.known; plug_waits = h.plug_waits; sink_waits = k; plug_sent = h.plug_sent; sink_sent = h.sink_sent; line = h.line }
+      record {
+        attached = h.attached;
+        known = h.known;
+        plug_waits = h.plug_waits;
+        sink_waits = k;
+        plug_sent = h.plug_sent;
+        sink_sent = h.sink_sent;
+        line = h.line;
+      }
 
   plug_waits_on : (x : Waiting) (w : PortStep) → WaitsToTell cable x → On cable w → On cable (wait Plug x w)
   unfolding wait
   plug_waits_on x w k h =
-      record { attached = h.attached; known = h.known; plug_waits = k; sink_waits = h.sink_waits; plug_sent = h.plug_sent; sink_sent = h.sink_sent; line = h.line }
+      record {
+        attached = h.attached;
+        known = h.known;
+        plug_waits = k;
+        sink_waits = h.sink_waits;
+        plug_sent = h.plug_sent;
+        sink_sent = h.sink_sent;
+        line = h.line;
+      }
 
   source_waits_on : (x : Waiting) (w : PortStep) → On cable w → On cable (wait Source x w)
   unfolding wait
@@ -88,13 +123,30 @@ module _ (cable : Option Cable) (t : ℕ) where
   sent_on Sink c w h = sent_by cable Sink w.port.sink_sop.outstanding h.sink_sent
   sent_on Plug c w h = sent_by cable Plug w.port.plug_sop_prime.outstanding h.plug_sent
 
-  layer_is_on : (side : Side) (c : Channel) (l : LayerRecord) (w : PortStep) → IsOfSent (TellsOn cable side) l.outstanding → On cable w → On cable (with_layer side c l w)
+  layer_is_on : (side : Side) (c : Channel) (l : LayerRecord) (w : PortStep) →
+      IsOfSent (TellsOn cable side) l.outstanding → On cable w → On cable (with_layer side c l w)
   layer_is_on Source Sop l w k h = h
   layer_is_on Source SopPrime l w k h = h
   layer_is_on Sink c l w k h =
-      record { attached = h.attached; known = h.known; plug_waits = h.plug_waits; sink_waits = h.sink_waits; plug_sent = h.plug_sent; sink_sent = by_sent cable Sink l.outstanding k; line = h.line }
+      record {
+        attached = h.attached;
+        known = h.known;
+        plug_waits = h.plug_waits;
+        sink_waits = h.sink_waits;
+        plug_sent = h.plug_sent;
+        sink_sent = by_sent cable Sink l.outstanding k;
+        line = h.line;
+      }
   layer_is_on Plug c l w k h =
-      record { attached = h.attached; known = h.known; plug_waits = h.plug_waits; sink_waits = h.sink_waits; plug_sent = by_sent cable Plug l.outstanding k; sink_sent = h.sink_sent; line = h.line }
+      record {
+        attached = h.attached;
+        known = h.known;
+        plug_waits = h.plug_waits;
+        sink_waits = h.sink_waits;
+        plug_sent = by_sent cable Plug l.outstanding k;
+        sink_sent = h.sink_sent;
+        line = h.line;
+      }
 
   reset_is_on : (side : Side) (c : Channel) (w : PortStep) → On cable w → On cable (reset_on side c w)
   unfolding reset_on
@@ -116,7 +168,8 @@ module _ (cable : Option Cable) (t : ℕ) where
   unfolding sink_steps
   sink_steps_on x w h = sink_acts_on (sink.acts_of t x w.port.sink) (with_port (record w.port { sink = sink.stepped t x w.port.sink }) w) h
 
-  plug_acts_on : (known : Option Cable) → (known ≡ None) ⊎ (known ≡ cable) → (rest : List PlugAct) (w : PortStep) → SendOf known rest → On cable w → On cable (plug_acts rest w)
+  plug_acts_on : (known : Option Cable) → (known ≡ None) ⊎ (known ≡ cable) → (rest : List PlugAct) (w : PortStep) →
+      SendOf known rest → On cable w → On cable (plug_acts rest w)
   plug_acts_on known k [] w s h = h
   plug_acts_on known k (plug_act_is.DropWaiting ∷ rest) w s h =
       plug_acts_on known k rest (wait Plug waits.Nothing w) s (plug_waits_on waits.Nothing w tt h)
@@ -124,9 +177,18 @@ module _ (cable : Option Cable) (t : ℕ) where
       let x : Waiting = waits.Message (plug_message objects.items) in
       plug_acts_on known k rest (wait Plug x w) s.1 (plug_waits_on x w (plug_tells cable known objects.items k s.0) h)
 
-  plug_known_on : (r : PlugRecord) (w : PortStep) → (r.cable ≡ None) ⊎ (r.cable ≡ cable) → On cable w → On cable (with_port (record w.port { plug = r }) w)
+  plug_known_on : (r : PlugRecord) (w : PortStep) → (r.cable ≡ None) ⊎ (r.cable ≡ cable) → On cable w →
+      On cable (with_port (record w.port { plug = r }) w)
   plug_known_on r w k h =
-      record { attached = h.attached; known = k; plug_waits = h.plug_waits; sink_waits = h.sink_waits; plug_sent = h.plug_sent; sink_sent = h.sink_sent; line = h.line }
+      record {
+        attached = h.attached;
+        known = k;
+        plug_waits = h.plug_waits;
+        sink_waits = h.sink_waits;
+        plug_sent = h.plug_sent;
+        sink_sent = h.sink_sent;
+        line = h.line;
+      }
 
   pub plug_knows_on : (x : PlugStimulus) (w : PortStep) → KnownBefore cable x w.port.plug → On cable w → On cable (plug_steps t x w)
   unfolding plug_steps
@@ -134,7 +196,8 @@ module _ (cable : Option Cable) (t : ℕ) where
       let p = w.port.plug in
       let n : ((plug.stepped t x p).cable ≡ None) ⊎ ((plug.stepped t x p).cable ≡ cable) =
       subst (λ (c : Option Cable). (c ≡ None) ⊎ (c ≡ cable)) (sym (cable-stepped t x p)) k in
-      plug_acts_on (plug.before_row x p).cable k (plug.acts_of t x p) (with_port (record w.port { plug = plug.stepped t x p }) w) (acts_of-of t x p)
+      plug_acts_on (plug.before_row x p).cable k (plug.acts_of t x p)
+      (with_port (record w.port { plug = plug.stepped t x p }) w) (acts_of-of t x p)
       (plug_known_on (plug.stepped t x p) w n h)
 
   plug_steps_on : (x : PlugStimulus) (w : PortStep) → KeepsCable x w.port.plug → On cable w → On cable (plug_steps t x w)
@@ -203,20 +266,24 @@ module _ (cable : Option Cable) (t : ℕ) where
       let r = taken_from w.port.disturbances.items w in
       starts_on _ (Message side p r.1 (t + lasts p)) r.0 k (taken_on w.port.disturbances.items w h)
 
-  good_crc_starts_on : (side : Side) (p : Contents) (w : PortStep) → TellsOn cable side p → On cable w → On cable (good_crc_starts side p t w)
+  good_crc_starts_on : (side : Side) (p : Contents) (w : PortStep) → TellsOn cable side p → On cable w →
+      On cable (good_crc_starts side p t w)
   unfolding good_crc_starts taken
   good_crc_starts_on side p w k h = starts_on _ _ (taken_from w.port.disturbances.items w).0 k (taken_on w.port.disturbances.items w h)
 
-  message_heard_on : (side : Side) (p : Contents) (o : Option Contents) (w : PortStep) → TellsOn cable side p → ((q : Contents) → o ≡ Some q → TellsOn cable side q) →
+  message_heard_on : (side : Side) (p : Contents) (o : Option Contents) (w : PortStep) → TellsOn cable side p →
+      ((q : Contents) → o ≡ Some q → TellsOn cable side q) →
       On cable w → On cable (message_heard side p t o w)
   message_heard_on side p None w k m h = line_on _ w k h
   message_heard_on side p (Some q) w k m h = line_on _ w (m q refl) h
 
-  heard_by : (b : Bool) (side : Side) (p q : Contents) (fate : Fate) → TellsOn cable side p → (if b then heard p fate else None) ≡ Some q → TellsOn cable side q
+  heard_by : (b : Bool) (side : Side) (p q : Contents) (fate : Fate) → TellsOn cable side p → (if b then heard p fate
+      else None) ≡ Some q → TellsOn cable side q
   heard_by true side p q fate k e = heard_on cable side p q fate e k
   heard_by false side p q fate k e = absurd (cc)
 
-  message_ends_on : (side : Side) (p : Contents) (fate : Fate) (w : PortStep) → TellsOn cable side p → On cable w → On cable (message_ends side p fate t w)
+  message_ends_on : (side : Side) (p : Contents) (fate : Fate) (w : PortStep) → TellsOn cable side p → On cable w →
+      On cable (message_ends side p fate t w)
   unfolding message_ends
   message_ends_on side p fate w k h =
       let b = hears (receiver side p.channel) w in
@@ -226,7 +293,8 @@ module _ (cable : Option Cable) (t : ℕ) where
   told_sent_on side p answer.Sent w h = tells_sent_on side _ w h
   told_sent_on side p a w h = h
 
-  acknowledged_on : (side : Side) (p : Contents) (a : Option Contents) (w : PortStep) → TellsOn cable side p → On cable w → On cable (acknowledged side p t a w)
+  acknowledged_on : (side : Side) (p : Contents) (a : Option Contents) (w : PortStep) → TellsOn cable side p →
+      On cable w → On cable (acknowledged side p t a w)
   unfolding good_crc_on
   acknowledged_on side p None w k h = line_on _ w k h
   acknowledged_on side p (Some a) w k h =
@@ -247,12 +315,14 @@ module _ (cable : Option Cable) (t : ℕ) where
       told_message_on side p r.1 (with_layer side p.channel r.0 w)
       (layer_is_on side p.channel r.0 w (received_sent (TellsOn cable side) l p.header (sent_on side p.channel w h)) h)
 
-  good_crc_ends_on : (side : Side) (p a : Contents) (fate : Fate) (w : PortStep) → TellsOn cable side p → On cable w → On cable (good_crc_ends side p a fate t w)
+  good_crc_ends_on : (side : Side) (p a : Contents) (fate : Fate) (w : PortStep) → TellsOn cable side p → On cable w →
+      On cable (good_crc_ends side p a fate t w)
   unfolding good_crc_ends
   good_crc_ends_on side p a fate w k h =
       goes_up_on (receiver side p.channel) p (acknowledged side p t (heard a fate) w) (acknowledged_on side p (heard a fate) w k h)
 
-  after_time_out_on : (side : Side) (p : Contents) (a : LayerAct) (w : PortStep) → IsOfRetry (TellsOn cable side) a → On cable w → On cable (after_time_out side p t a w)
+  after_time_out_on : (side : Side) (p : Contents) (a : LayerAct) (w : PortStep) → IsOfRetry (TellsOn cable side) a →
+      On cable w → On cable (after_time_out side p t a w)
   after_time_out_on side p (answer.Retry q) w k h = packet_starts_on side q w k h
   after_time_out_on side p answer.Failed w k h =
       let f : Fault = NoGoodCrc side (kind_of_header p.header) in tells_failed_on side (noted f w) (noted_on f w h)
@@ -326,7 +396,8 @@ module _ (cable : Option Cable) (t : ℕ) where
   side_waits Sink w h = h.sink_waits
   side_waits Plug w h = h.plug_waits
 
-  side_packet : (side from : Side) (channel : Channel) (revision id : ℕ) (m : MessageData) → SideWaits side (waits.Message m) → TellsOn cable side (packet_of from channel revision id m)
+  side_packet : (side from : Side) (channel : Channel) (revision id : ℕ) (m : MessageData) →
+      SideWaits side (waits.Message m) → TellsOn cable side (packet_of from channel revision id m)
   unfolding SideWaits
   side_packet Source from channel revision id m k = tt
   side_packet Sink from channel revision id m k = packet_tells cable Sink from channel revision id m k
@@ -338,19 +409,23 @@ module _ (cable : Option Cable) (t : ℕ) where
   waits_on Sink x w k h = sink_waits_on x w k h
   waits_on Plug x w k h = plug_waits_on x w k h
 
-  submitted_on : (side : Side) (m : MessageData) (r : Result Contents MessageData) (w : PortStep) → SideWaits side (waits.Message m) → IsOfPacket (TellsOn cable side) m r →
+  submitted_on : (side : Side) (m : MessageData) (r : Result Contents MessageData) (w : PortStep) →
+      SideWaits side (waits.Message m) → IsOfPacket (TellsOn cable side) m r →
       On cable w → On cable (submitted side t (w, r))
   submitted_on side m (Ok p) w s k h = packet_starts_on side p w k h
-  submitted_on side m (Err n) w s e h = waits_on side (waits.Message n) w (subst (λ (m : MessageData). SideWaits side (waits.Message m)) (sym e) s) h
+  submitted_on side m (Err n) w s e h =
+      waits_on side (waits.Message n) w (subst (λ (m : MessageData). SideWaits side (waits.Message m)) (sym e) s) h
 
-  message_starts_on : (side : Side) (m : MessageData) (w : PortStep) → SideWaits side (waits.Message m) → On cable w → On cable (message_starts side m t w)
+  message_starts_on : (side : Side) (m : MessageData) (w : PortStep) → SideWaits side (waits.Message m) → On cable w →
+      On cable (message_starts side m t w)
   unfolding message_starts submit_on
   message_starts_on side m w s h =
       let c = channel_for side m.kind in
       let l = layer_on side c w in
       let revision = revision_on side c w in
       let r = layer.submit l revision m in
-      let k = submit_sent (TellsOn cable side) l revision m (sent_on side c w h) (side_packet side l.side l.channel revision l.next_id m s) in
+      let k = submit_sent (TellsOn cable side) l revision m (sent_on side c w h)
+      (side_packet side l.side l.channel revision l.next_id m s) in
       submitted_on side m r.1 (with_layer side c r.0 w) s k.1 (layer_is_on side c r.0 w k.0 h)
 
   waiting_starts_on : (side : Side) (x : Waiting) (w : PortStep) → SideWaits side x → On cable w → On cable (waiting_starts side t x w)
@@ -361,7 +436,9 @@ module _ (cable : Option Cable) (t : ℕ) where
 
   side_starts_on : (side : Side) (w : PortStep) → On cable w → On cable (side_starts side t w)
   unfolding side_starts
-  side_starts_on side w h = waiting_starts_on side (waiting_on side w) (wait side waits.Nothing w) (side_waits side w h) (nothing_waits_on side w h)
+  side_starts_on side w h =
+      waiting_starts_on side (waiting_on side w) (wait side waits.Nothing w) (side_waits side w h)
+      (nothing_waits_on side w h)
 
   pub either_on : (b : Bool) (v w : PortStep) → On cable v → On cable w → On cable (if b then v else w)
   either_on true v w h k = h

@@ -1,5 +1,6 @@
 -- What reaches the source tells it of the attached cable alone: each rule of the line keeps this.
-use Rattle.std.proofs.Common.{◌≡◌, ◌⊎◌, inl, inr, ℕ, ◌==◌, ◌%◌, ◌^◌, ◌<◌, Bool, true, false, if◌then◌else◌, Option, Some, None, refl, sym, subst, ◌∙◌, ap, List, [], ◌∷◌}
+use Rattle.std.proofs.Common.{◌≡◌, ◌⊎◌, inl, inr, ℕ, ◌==◌, ◌%◌, ◌^◌, ◌<◌, Bool, true, false, if◌then◌else◌, Option, Some, None}
+use Rattle.std.proofs.Common.{refl, sym, subst, ◌∙◌, ap, List, [], ◌∷◌}
 use Rattle.std.specs.List.{AllByRecursion}
 use Rattle.pd_symbols.specs.declared.channel.Channel.{Channel}
 use Rattle.pd_header.specs.declared.side.Side.{Side}
@@ -55,19 +56,22 @@ identity_fits : (cable : Option Cable) → AllByRecursion (λ w. w < 2 ^ 32) (id
 identity_fits None = tt
 identity_fits (Some c) = answer_fits c
 
-told_fits : (cable : Option Cable) (objects : List ℕ) → (objects ≡ []) ⊎ (objects ≡ identity_of cable) → AllByRecursion (λ w. w < 2 ^ 32) objects
+told_fits : (cable : Option Cable) (objects : List ℕ) → (objects ≡ []) ⊎ (objects ≡ identity_of cable) →
+    AllByRecursion (λ w. w < 2 ^ 32) objects
 told_fits cable objects (inl e) = subst (AllByRecursion (λ w. w < 2 ^ 32)) (sym e) tt
 told_fits cable objects (inr e) = subst (AllByRecursion (λ w. w < 2 ^ 32)) (sym e) (identity_fits cable)
 
 -- what is heard tells no more than what was sent
-heard_tells : (cable : Option Cable) (p q : Contents) (fate : Fate) → heard p fate ≡ Some q → Tells cable (type_of p.header) p.objects → Tells cable (type_of q.header) q.objects
+heard_tells : (cable : Option Cable) (p q : Contents) (fate : Fate) → heard p fate ≡ Some q →
+    Tells cable (type_of p.header) p.objects → Tells cable (type_of q.header) q.objects
 heard_tells cable p q fate e h is_15 =
     let s = heard_alike p q fate e in
     let k = h (sym (type_alike p q s) ∙ is_15) in
     let same : p.objects ≡ q.objects = sym (objects_alike p q s (told_fits cable p.objects k)) in
     subst (λ (objects : List ℕ). (objects ≡ []) ⊎ (objects ≡ identity_of cable)) same k
 
-pub heard_on : (cable : Option Cable) (side : Side) (p q : Contents) (fate : Fate) → heard p fate ≡ Some q → TellsOn cable side p → TellsOn cable side q
+pub heard_on : (cable : Option Cable) (side : Side) (p q : Contents) (fate : Fate) → heard p fate ≡ Some q →
+    TellsOn cable side p → TellsOn cable side q
 heard_on cable Source p q fate e h = tt
 heard_on cable Sink p q fate e h = heard_tells cable p q fate e h
 heard_on cable Plug p q fate e h = heard_tells cable p q fate e h
@@ -107,26 +111,31 @@ sink_tells cable sink_sending.Accept e = absurd (cc)
 sink_tells cable sink_sending.SoftReset e = absurd (cc)
 
 -- the plug's message has what the cable answers that it knows
-pub plug_tells : (cable known : Option Cable) (objects : List ℕ) → (known ≡ None) ⊎ (known ≡ cable) → objects ≡ identity_of known → WaitsToTell cable (waits.Message (plug_message objects))
+pub plug_tells : (cable known : Option Cable) (objects : List ℕ) → (known ≡ None) ⊎ (known ≡ cable) →
+    objects ≡ identity_of known → WaitsToTell cable (waits.Message (plug_message objects))
 plug_tells cable known objects (inl k) e is_15 = inl (e ∙ ap identity_of k)
 plug_tells cable known objects (inr k) e is_15 = inr (e ∙ ap identity_of k)
 
 -- the packet of a message tells what the message does
-packet_as : (cable : Option Cable) (from : Side) (channel : Channel) (revision id : ℕ) (m : MessageData) → WaitsToTell cable (waits.Message m) → TellsOn cable Plug (packet_of from channel revision id m)
+packet_as : (cable : Option Cable) (from : Side) (channel : Channel) (revision id : ℕ) (m : MessageData) →
+    WaitsToTell cable (waits.Message m) → TellsOn cable Plug (packet_of from channel revision id m)
 packet_as cable from channel revision id m h e =
     subst (λ (objects : List ℕ). (objects ≡ []) ⊎ (objects ≡ identity_of cable)) (sym (packet_objects from channel revision id m))
     (h (sym (packet_type from channel revision id m) ∙ e))
 
-pub packet_tells : (cable : Option Cable) (side from : Side) (channel : Channel) (revision id : ℕ) (m : MessageData) → WaitsToTell cable (waits.Message m) → TellsOn cable side (packet_of from channel revision id m)
+pub packet_tells : (cable : Option Cable) (side from : Side) (channel : Channel) (revision id : ℕ) (m : MessageData) →
+    WaitsToTell cable (waits.Message m) → TellsOn cable side (packet_of from channel revision id m)
 packet_tells cable Source from channel revision id m h = tt
 packet_tells cable Sink from channel revision id m h = packet_as cable from channel revision id m h
 packet_tells cable Plug from channel revision id m h = packet_as cable from channel revision id m h
 
-pub sent_by : (cable : Option Cable) (side : Side) (o : Option OutstandingData) → MayTellAgain cable side o → IsOfSent (TellsOn cable side) o
+pub sent_by : (cable : Option Cable) (side : Side) (o : Option OutstandingData) → MayTellAgain cable side o →
+    IsOfSent (TellsOn cable side) o
 sent_by cable side None h = tt
 sent_by cable side (Some o) h = h
 
-pub by_sent : (cable : Option Cable) (side : Side) (o : Option OutstandingData) → IsOfSent (TellsOn cable side) o → MayTellAgain cable side o
+pub by_sent : (cable : Option Cable) (side : Side) (o : Option OutstandingData) → IsOfSent (TellsOn cable side) o →
+    MayTellAgain cable side o
 by_sent cable side None h = tt
 by_sent cable side (Some o) h = h
 

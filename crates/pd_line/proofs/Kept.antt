@@ -1,5 +1,6 @@
 -- What each part of a step keeps, the rules of the line keep, which are made of the parts.
-use Rattle.std.proofs.Common.{◌≡◌, ℕ, ◌+◌, ◌<◌, Bool, true, false, if◌then◌else◌, Option, Some, None, Result, Ok, Err, refl, List, [], ◌∷◌, arith, lit<}
+use Rattle.std.proofs.Common.{◌≡◌, ℕ, ◌+◌, ◌<◌, Bool, true, false, if◌then◌else◌, Option, Some, None, Result, Ok, Err, refl}
+use Rattle.std.proofs.Common.{List, [], ◌∷◌, arith, lit<}
 use Rattle.pd_symbols.specs.declared.channel.Channel.{Channel}
 use Rattle.pd_symbols.specs.declared.channel.Channel.TheVariants.{Sop, SopPrime}
 use Rattle.pd_header.specs.declared.side.Side.{Side}
@@ -45,9 +46,19 @@ use Rattle.pd_line.specs.declared.port_parts.Waiting.TheVariants as waits
 use Rattle.pd_line.specs.declared.port_step.PortStep.{PortStep}
 use Rattle.pd_line.specs.Told.{source_hears_as, sink_hears_as, plug_hears_as, sent_as, sink_fault, source_fault}
 use Rattle.pd_line.specs.Later.{line_end}
-use Rattle.pd_line.specs.PortStep.{with_port, noted, wait, layer_on, with_layer, on_layer, submit_on, good_crc_on, timed_out_on, received_on, reset_on, sink_act, sink_acts, sink_steps, plug_act, plug_acts, plug_steps, source_act, source_acts, source_steps, tells_sent, tells_failed, tells_message, tells_reset, tells_attach}
-use Rattle.pd_line.specs.Lines.{time_out, pause, rest_of_time_out, lasts, with_line, started, receiver, hears, revision_on, fate_of, taken_from, taken, packet_starts, good_crc_starts, message_heard, message_ends, told_sent, acknowledged, told_message, goes_up, good_crc_ends, after_time_out, times_out, is_side, waiting_dropped, layers_reset, hears_reset, all_hear_reset, hard_reset_ends, line_ends_at, submitted, message_starts, hard_reset_starts, waiting_starts, waiting_on, side_starts, is_idle, is_waiting, line_starts, channel_for}
-use Rattle.pd_line.proofs.Parts.{sink_after, plug_after, EndsNoneOfSink, EndsNoneOfPlug, Kept, OfSource, of_any, is_later, layer_blind, hears_blind, revision_blind, waiting_blind, source_hears_now, sink_hears_now, plug_hears_now, lasts_positive, some_rest}
+use Rattle.pd_line.specs.PortStep.{with_port, noted, wait, layer_on, with_layer, on_layer, submit_on, good_crc_on, timed_out_on}
+use Rattle.pd_line.specs.PortStep.{received_on, reset_on, sink_act, sink_acts, sink_steps, plug_act, plug_acts, plug_steps}
+use Rattle.pd_line.specs.PortStep.{source_act, source_acts, source_steps, tells_sent, tells_failed, tells_message, tells_reset}
+use Rattle.pd_line.specs.PortStep.{tells_attach}
+use Rattle.pd_line.specs.Lines.{time_out, pause, rest_of_time_out, lasts, with_line, started, receiver, hears, revision_on}
+use Rattle.pd_line.specs.Lines.{fate_of, taken_from, taken, packet_starts, good_crc_starts, message_heard, message_ends}
+use Rattle.pd_line.specs.Lines.{told_sent, acknowledged, told_message, goes_up, good_crc_ends, after_time_out, times_out}
+use Rattle.pd_line.specs.Lines.{is_side, waiting_dropped, layers_reset, hears_reset, all_hear_reset, hard_reset_ends}
+use Rattle.pd_line.specs.Lines.{line_ends_at, submitted, message_starts, hard_reset_starts, waiting_starts, waiting_on}
+use Rattle.pd_line.specs.Lines.{side_starts, is_idle, is_waiting, line_starts, channel_for}
+use Rattle.pd_line.proofs.Parts.{sink_after, plug_after, EndsNoneOfSink, EndsNoneOfPlug, Kept, OfSource, of_any, is_later}
+use Rattle.pd_line.proofs.Parts.{layer_blind, hears_blind, revision_blind, waiting_blind, source_hears_now, sink_hears_now}
+use Rattle.pd_line.proofs.Parts.{plug_hears_now, lasts_positive, some_rest}
 
 module _ (t : ℕ) (k : Kept t) where
   -- a choice keeps what both ways keep
@@ -71,8 +82,10 @@ module _ (t : ℕ) (k : Kept t) where
   layer_kept Plug m c l w = k.leaves (with_layer Plug c l) w refl refl
 
   -- a call of a layer, and then what goes by its answer
-  called : (A : Type 0) (side : Side) → OfSource k.touches side → (c : Channel) (call : LayerRecord → LayerRecord × A) (g : A → PortStep → PortStep) (w : PortStep) →
-      k.holds (on_layer side c call w).0 (g (on_layer side c call w).1) → k.holds w (λ z. g (on_layer side c call z).1 (on_layer side c call z).0)
+  called : (A : Type 0) (side : Side) → OfSource k.touches side → (c : Channel) (call : LayerRecord → LayerRecord × A)
+      (g : A → PortStep → PortStep) (w : PortStep) →
+      k.holds (on_layer side c call w).0 (g (on_layer side c call w).1) →
+      k.holds w (λ z. g (on_layer side c call z).1 (on_layer side c call z).0)
   called A side m c call g w p =
       let l = layer_on side c w in
       k.reads LayerRecord (layer_on side c) (λ x z. g (call x).1 (with_layer side c (call x).0 z)) w (layer_blind side c w)
@@ -175,7 +188,8 @@ module _ (t : ℕ) (k : Kept t) where
       (plug_steps_kept (plug_told.Attach cable) (c w) refl)
 
   -- a packet starts with its fate, and something follows that goes by it
-  taken_kept : (g : Fate → PortStep → PortStep) (w : PortStep) → ((fate : Fate) (v : PortStep) → k.holds v (g fate)) → k.holds w (λ z. g (taken z).1 (taken z).0)
+  taken_kept : (g : Fate → PortStep → PortStep) (w : PortStep) → ((fate : Fate) (v : PortStep) → k.holds v (g fate)) →
+      k.holds w (λ z. g (taken z).1 (taken z).0)
   unfolding taken
   taken_kept g w h =
       k.reads (List Disturbance) (λ z. z.port.disturbances.items) (λ row z. g (taken_from row z).1 (taken_from row z).0) w refl
@@ -190,7 +204,8 @@ module _ (t : ℕ) (k : Kept t) where
   lasting : k.lines → k.starts → (s : Start) (line : Line) (n : ℕ) → line_end line ≡ Some (t + n) → 0 < n → (w : PortStep) →
       k.holds w (λ z. started s (with_line line z))
   lasting l s x line n e h w =
-      k.joins (with_line line) (started x) w (k.line l line w (rw e (is_later t n (line_end w.port.line) h))) (k.start s x (with_line line w))
+      k.joins (with_line line) (started x) w (k.line l line w (rw e (is_later t n (line_end w.port.line) h)))
+      (k.start s x (with_line line w))
 
   pub packet_starts_kept : k.lines → k.starts → (side : Side) (p : Contents) (w : PortStep) → k.holds w (packet_starts side p t)
   unfolding packet_starts
@@ -203,11 +218,14 @@ module _ (t : ℕ) (k : Kept t) where
   good_crc_starts_kept l s side p w =
       let hearer = receiver side p.channel in
       let a : ℕ → Contents = λ revision. acknowledges hearer revision p in
-      let begins : ℕ → Fate → PortStep → PortStep = λ revision fate z. started (start.Packet hearer (a revision) fate) (with_line (GoodCrc side p (a revision) fate (t + lasts (a revision))) z) in
+      let begins : ℕ → Fate → PortStep → PortStep =
+      λ revision fate z. started (start.Packet hearer (a revision) fate)
+      (with_line (GoodCrc side p (a revision) fate (t + lasts (a revision))) z) in
       let r = revision_on hearer p.channel w in
       k.reads ℕ (revision_on hearer p.channel) (λ revision z. begins revision (taken z).1 (taken z).0) w (revision_blind hearer p.channel w)
       (taken_kept (begins r) w
-      (λ fate v. lasting l s (start.Packet hearer (a r) fate) (GoodCrc side p (a r) fate (t + lasts (a r))) (lasts (a r)) refl (lasts_positive _) v))
+      (λ fate v. lasting l s (start.Packet hearer (a r) fate) (GoodCrc side p (a r) fate (t + lasts (a r)))
+      (lasts (a r)) refl (lasts_positive _) v))
 
   message_heard_kept : k.lines → (side : Side) (p : Contents) (q : Option Contents) (w : PortStep) → k.holds w (message_heard side p t q)
   message_heard_kept l side p None w = k.line l _ w (is_later t time_out _ (omega arith))
@@ -224,7 +242,8 @@ module _ (t : ℕ) (k : Kept t) where
   told_sent_kept side s p answer.Sent w = tells_sent_kept side s (sent_as (kind_of_header p.header)) w
   told_sent_kept side s p a w = k.nothing w
 
-  pub acknowledged_kept : k.lines → (side : Side) → OfSource k.touches side → OfSource k.steps side → (p : Contents) (a : Option Contents) (w : PortStep) →
+  pub acknowledged_kept : k.lines → (side : Side) → OfSource k.touches side → OfSource k.steps side →
+      (p : Contents) (a : Option Contents) (w : PortStep) →
       k.holds w (acknowledged side p t a)
   unfolding good_crc_on
   acknowledged_kept l side m s p None w = k.line l _ w (is_later t rest_of_time_out _ some_rest)
@@ -233,18 +252,21 @@ module _ (t : ℕ) (k : Kept t) where
       let r = on_layer side p.channel call w in
       called LayerAct side m p.channel call (λ act. told_sent side p t act) w (told_sent_kept side s p r.1 r.0)
 
-  told_message_kept : (side : Side) → OfSource k.steps side → (p : Contents) (a : LayerAct) (w : PortStep) → k.holds w (told_message side p t a)
+  told_message_kept : (side : Side) → OfSource k.steps side → (p : Contents) (a : LayerAct) (w : PortStep) →
+      k.holds w (told_message side p t a)
   told_message_kept side s p answer.Up w = tells_message_kept side s p w
   told_message_kept side s p a w = k.nothing w
 
-  pub goes_up_kept : (side : Side) → OfSource k.touches side → OfSource k.steps side → (p : Contents) (w : PortStep) → k.holds w (goes_up side p t)
+  pub goes_up_kept : (side : Side) → OfSource k.touches side → OfSource k.steps side → (p : Contents) (w : PortStep) →
+      k.holds w (goes_up side p t)
   unfolding goes_up received_on
   goes_up_kept side m s p w =
       let call : LayerRecord → LayerRecord × LayerAct = λ x. layer.received x p.header in
       let r = on_layer side p.channel call w in
       called LayerAct side m p.channel call (λ act. told_message side p t act) w (told_message_kept side s p r.1 r.0)
 
-  pub good_crc_ends_kept : k.lines → k.touches → k.steps → (side : Side) (p a : Contents) (fate : Fate) (w : PortStep) → k.holds w (good_crc_ends side p a fate t)
+  pub good_crc_ends_kept : k.lines → k.touches → k.steps →
+      (side : Side) (p a : Contents) (fate : Fate) (w : PortStep) → k.holds w (good_crc_ends side p a fate t)
   unfolding good_crc_ends
   good_crc_ends_kept l m s side p a fate w =
       let hearer = receiver side p.channel in
@@ -260,7 +282,8 @@ module _ (t : ℕ) (k : Kept t) where
       k.joins (noted f) (tells_failed side t) w (noted_kept f w) (tells_failed_kept side e (noted f w))
   after_time_out_kept l s side e p a w = k.nothing w
 
-  pub times_out_kept : k.lines → k.starts → (side : Side) → OfSource k.touches side → OfSource k.steps side → (p : Contents) (w : PortStep) →
+  pub times_out_kept : k.lines → k.starts → (side : Side) → OfSource k.touches side → OfSource k.steps side →
+      (p : Contents) (w : PortStep) →
       k.holds w (times_out side p t)
   unfolding times_out timed_out_on
   times_out_kept l s side m e p w =
@@ -320,25 +343,29 @@ module _ (t : ℕ) (k : Kept t) where
   line_ends_at_kept l s m e (NoAnswer side p end) w = times_out_kept l s side (of_any k.touches side m) (of_any k.steps side e) p w
   line_ends_at_kept l s m e (HardReset side end) w = hard_reset_ends_kept m e side w
 
-  submitted_kept : k.lines → k.starts → (side : Side) (r : Result Contents MessageData) (w : PortStep) → k.holds w (λ z. submitted side t (z, r))
+  submitted_kept : k.lines → k.starts → (side : Side) (r : Result Contents MessageData) (w : PortStep) →
+      k.holds w (λ z. submitted side t (z, r))
   submitted_kept l s side (Ok p) w = packet_starts_kept l s side p w
   submitted_kept l s side (Err m) w = wait_kept side (waits.Message m) w
 
-  message_starts_kept : k.lines → k.starts → (side : Side) → OfSource k.touches side → (m : MessageData) (w : PortStep) → k.holds w (message_starts side m t)
+  message_starts_kept : k.lines → k.starts → (side : Side) → OfSource k.touches side →
+      (m : MessageData) (w : PortStep) → k.holds w (message_starts side m t)
   unfolding message_starts submit_on
   message_starts_kept l s side e m w =
       let c = channel_for side m.kind in
       let call : ℕ → LayerRecord → LayerRecord × Result Contents MessageData = λ revision x. layer.submit x revision m in
       let v = on_layer side c (call (revision_on side c w)) w in
       k.reads ℕ (revision_on side c) (λ revision z. submitted side t (on_layer side c (call revision) z)) w (revision_blind side c w)
-      (called (Result Contents MessageData) side e c (call (revision_on side c w)) (λ r z. submitted side t (z, r)) w (submitted_kept l s side v.1 v.0))
+      (called (Result Contents MessageData) side e c (call (revision_on side c w)) (λ r z. submitted side t (z, r)) w
+      (submitted_kept l s side v.1 v.0))
 
   hard_reset_starts_kept : k.lines → k.starts → (side : Side) (w : PortStep) → k.holds w (hard_reset_starts side t)
   unfolding hard_reset_starts
   hard_reset_starts_kept l s side w =
       lasting l s (start.HardReset side) (HardReset side (t + hard_reset_duration)) hard_reset_duration refl (lit< tt) w
 
-  waiting_starts_kept : k.lines → k.starts → (side : Side) → OfSource k.touches side → (x : Waiting) (w : PortStep) → k.holds w (waiting_starts side t x)
+  waiting_starts_kept : k.lines → k.starts → (side : Side) → OfSource k.touches side → (x : Waiting) (w : PortStep) →
+      k.holds w (waiting_starts side t x)
   waiting_starts_kept l s side e waits.Nothing w = k.nothing w
   waiting_starts_kept l s side e (waits.Message m) w = message_starts_kept l s side e m w
   waiting_starts_kept l s side e waits.HardReset w = hard_reset_starts_kept l s side w
@@ -348,7 +375,8 @@ module _ (t : ℕ) (k : Kept t) where
   side_starts_kept l s side e w =
       let x = waiting_on side w in
       k.reads Waiting (waiting_on side) (λ y z. waiting_starts side t y (wait side waits.Nothing z)) w (waiting_blind side w)
-      (k.joins (wait side waits.Nothing) (waiting_starts side t x) w (wait_kept side waits.Nothing w) (waiting_starts_kept l s side e x (wait side waits.Nothing w)))
+      (k.joins (wait side waits.Nothing) (waiting_starts side t x) w (wait_kept side waits.Nothing w)
+      (waiting_starts_kept l s side e x (wait side waits.Nothing w)))
 
   -- what waits on a side starts, or else something else comes
   or_else : k.lines → k.starts → k.touches → (side : Side) (g : PortStep → PortStep) (w : PortStep) → k.holds w g →

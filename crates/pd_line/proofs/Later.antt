@@ -26,7 +26,8 @@ use Rattle.pd_line.specs.declared.port_parts.Line.{Line}
 use Rattle.pd_line.specs.declared.port_parts.Line.TheVariants.{Idle}
 use Rattle.pd_line.specs.declared.port_step.PortStep.{PortStep}
 use Rattle.pd_line.specs.Later.{Times, line_end, KeptOrLater, Later}
-use Rattle.pd_line.specs.PortStep.{with_layer, sink_acts, sink_steps, plug_acts, plug_steps, source_acts, source_after, source_steps, tells_timer}
+use Rattle.pd_line.specs.PortStep.{with_layer, sink_acts, sink_steps, plug_acts, plug_steps, source_acts, source_after}
+use Rattle.pd_line.specs.PortStep.{source_steps, tells_timer}
 use Rattle.pd_line.specs.Lines.{with_line, started, line_ends}
 use Rattle.pd_line.proofs.Kept.{sink_acts_kept, plug_acts_kept, source_acts_kept, line_ends_at_kept}
 use Rattle.pd_line.proofs.Parts.{Kept, EndsNoneOfSource, EndsNoneOfSink, EndsNoneOfPlug, Watched, watched, times, sink_after, plug_after}
@@ -95,7 +96,8 @@ sink_leads t x w =
 
 pub sink_now : (t : ℕ) (x : SinkStimulus) (w : PortStep) → EndsNoneOfSink x w.port.sink → LeadsOn t w (sink_after t x w)
 sink_now t x w e =
-    subst (λ (d : List (Option ℕ)). Leads t w.port.source.settings (record (times w.port) { sink = d }) (sink_after t x w)) e (sink_leads t x w)
+    subst (λ (d : List (Option ℕ)). Leads t w.port.source.settings (record (times w.port) { sink = d })
+    (sink_after t x w)) e (sink_leads t x w)
 
 -- the times before the plug's row is taken
 abbrev pub plug_before : PlugStimulus → PortParts → Times
@@ -110,13 +112,15 @@ plug_leads t x w =
 
 pub plug_now : (t : ℕ) (x : PlugStimulus) (w : PortStep) → EndsNoneOfPlug x w.port.plug → LeadsOn t w (plug_after t x w)
 plug_now t x w e =
-    subst (λ (d : List (Option ℕ)). Leads t w.port.source.settings (record (times w.port) { plug = d }) (plug_after t x w)) e (plug_leads t x w)
+    subst (λ (d : List (Option ℕ)). Leads t w.port.source.settings (record (times w.port) { plug = d })
+    (plug_after t x w)) e (plug_leads t x w)
 
 pub layer_leads : (t : ℕ) (c : Channel) (l : LayerRecord) (w : PortStep) → LeadsOn t w (with_layer Source c l w)
 layer_leads t Sop l w = record { settings_are = refl; later = later_kept t (times w.port) }
 layer_leads t SopPrime l w = record { settings_are = refl; later = later_kept t (times w.port) }
 
-pub line_leads : (t : ℕ) (line : Line) (w : PortStep) → KeptOrLater t (line_end w.port.line) (line_end line) → LeadsOn t w (with_line line w)
+pub line_leads : (t : ℕ) (line : Line) (w : PortStep) → KeptOrLater t (line_end w.port.line) (line_end line) →
+    LeadsOn t w (with_line line w)
 unfolding with_line
 line_leads t line w h =
     record { settings_are = refl; later = record { source = sets_kept t _; sink = sets_kept t _; plug = sets_kept t _; line = h } }
@@ -126,7 +130,8 @@ unfolding started
 start_leads t s w = record { settings_are = refl; later = later_kept t (times w.port) }
 
 -- what the steps of the source keep, so do all rules
-abbrev leading : (t : ℕ) (steps : Type 0) → (steps → (x : SourceStimulus) (w : PortStep) → EndsNoneOfSource x w.port.source.record → LeadsOn t w (source_steps t x w)) → Kept t
+abbrev leading : (t : ℕ) (steps : Type 0) → (steps → (x : SourceStimulus) (w : PortStep) →
+    EndsNoneOfSource x w.port.source.record → LeadsOn t w (source_steps t x w)) → Kept t
 leading t steps source =
     record {
       holds = λ w f. LeadsOn t w (f w);
@@ -153,7 +158,8 @@ leading_besides t = leading t ⊥ (λ s. absurd s)
 abbrev pub source_before : SourceStimulus → PortParts → Times
 source_before x r = record (times r) { source = (source.before_row x r.source.record).deadlines }
 
-pub source_steps_lead : (t : ℕ) (x : SourceStimulus) (w : PortStep) → Leads t w.port.source.settings (source_before x w.port) (source_steps t x w)
+pub source_steps_lead : (t : ℕ) (x : SourceStimulus) (w : PortStep) →
+    Leads t w.port.source.settings (source_before x w.port) (source_steps t x w)
 unfolding source_steps
 source_steps_lead t x w =
     let v = source_after t x w in
@@ -161,14 +167,20 @@ source_steps_lead t x w =
     let h : Leads t s.settings (source_before x w.port) v =
     record {
       settings_are = refl;
-      later = record { source = source_later s.settings t x w.answer s.record; sink = sets_kept t _; plug = sets_kept t _; line = line_kept t _ };
+      later = record {
+        source = source_later s.settings t x w.answer s.record;
+        sink = sets_kept t _;
+        plug = sets_kept t _;
+        line = line_kept t _;
+      };
     } in
     let acts = source.acts_of s.settings t x w.answer s.record in
     joins t s.settings (source_before x w.port) v (source_acts t acts v) h (source_acts_kept t (leading_besides t) tt acts v)
 
 pub source_now : (t : ℕ) (x : SourceStimulus) (w : PortStep) → EndsNoneOfSource x w.port.source.record → LeadsOn t w (source_steps t x w)
 source_now t x w e =
-    subst (λ (d : List (Option ℕ)). Leads t w.port.source.settings (record (times w.port) { source = d }) (source_steps t x w)) e (source_steps_lead t x w)
+    subst (λ (d : List (Option ℕ)). Leads t w.port.source.settings (record (times w.port) { source = d })
+    (source_steps t x w)) e (source_steps_lead t x w)
 
 -- each rule leads on
 abbrev pub leads : (t : ℕ) → Kept t

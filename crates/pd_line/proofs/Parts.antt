@@ -1,5 +1,6 @@
 -- A relation between the work before a part of a step and after it: what it has to be for all parts to keep it.
-use Rattle.std.proofs.Common.{◌≡◌, ℕ, ◌+◌, ◌<◌, ◌==◌, Bool, true, false, if◌then◌else◌, inr, Option, Some, None, refl, List, [], ◌∷◌, arith, lit<}
+use Rattle.std.proofs.Common.{◌≡◌, ℕ, ◌+◌, ◌<◌, ◌==◌, Bool, true, false, if◌then◌else◌, inr, Option, Some, None, refl, List, []}
+use Rattle.std.proofs.Common.{◌∷◌, arith, lit<}
 use Rattle.pd_symbols.specs.declared.channel.Channel.{Channel}
 use Rattle.pd_symbols.specs.declared.channel.Channel.TheVariants.{Sop, SopPrime}
 use Rattle.pd_header.specs.declared.side.Side.{Side}

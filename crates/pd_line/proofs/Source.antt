@@ -20,7 +20,8 @@ use Rattle.pd_plug.specs.declared.kinds.Stimulus.TheVariants as plug_told
 use Rattle.pd_line.specs.declared.notes.Start.{Start}
 use Rattle.pd_line.specs.declared.port_parts.Line.{Line}
 use Rattle.pd_line.specs.declared.port_step.PortStep.{PortStep}
-use Rattle.pd_line.specs.PortStep.{tells_timer, with_layer, layer_on, on_layer, sink_acts, sink_steps, plug_acts, plug_steps, source_acts, source_after, source_steps}
+use Rattle.pd_line.specs.PortStep.{tells_timer, with_layer, layer_on, on_layer, sink_acts, sink_steps, plug_acts, plug_steps}
+use Rattle.pd_line.specs.PortStep.{source_acts, source_after, source_steps}
 use Rattle.pd_line.specs.Lines.{with_line, started, acknowledged}
 use Rattle.pd_line.proofs.Kept.{sink_acts_kept, plug_acts_kept, source_acts_kept, acknowledged_kept}
 use Rattle.pd_line.proofs.Parts.{Kept, OfSource, Watched, unanswered, sink_after, plug_after}
@@ -57,7 +58,8 @@ on_layer_spares A Source SopPrime call w = record { source = refl; answer = refl
 on_layer_spares A Sink channel call w = record { source = refl; answer = refl; blind = refl }
 on_layer_spares A Plug channel call w = record { source = refl; answer = refl; blind = refl }
 
-pub layer_spares : (c : Channel) (l : LayerRecord) (w : PortStep) → Spares w (with_layer Source c l w) (with_layer Source c l (unanswered w))
+pub layer_spares : (c : Channel) (l : LayerRecord) (w : PortStep) →
+    Spares w (with_layer Source c l w) (with_layer Source c l (unanswered w))
 layer_spares Sop l w = spares w _ refl refl
 layer_spares SopPrime l w = spares w _ refl refl
 

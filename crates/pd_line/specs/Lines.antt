@@ -31,7 +31,8 @@ use Rattle.pd_line.specs.declared.port_parts.Waiting.{Waiting}
 use Rattle.pd_line.specs.declared.port_parts.Waiting.TheVariants as waits
 use Rattle.pd_line.specs.declared.port_step.PortStep.{PortStep}
 use Rattle.pd_line.specs.Told.{sent_as}
-use Rattle.pd_line.specs.PortStep.{with_port, wait, noted, submit_on, good_crc_on, timed_out_on, received_on, reset_on, tells_sent, tells_failed, tells_message, tells_reset}
+use Rattle.pd_line.specs.PortStep.{with_port, wait, noted, submit_on, good_crc_on, timed_out_on, received_on, reset_on}
+use Rattle.pd_line.specs.PortStep.{tells_sent, tells_failed, tells_message, tells_reset}
 
 -- how long, in microseconds, the receiver waits before its GoodCRC
 abbrev pub pause : ℕ

@@ -34,7 +34,8 @@ use Rattle.pd_line.specs.declared.port_parts.PortParts.{PortParts}
 use Rattle.pd_line.specs.declared.port_parts.Waiting.{Waiting}
 use Rattle.pd_line.specs.declared.port_parts.Waiting.TheVariants.{Nothing, Message, HardReset}
 use Rattle.pd_line.specs.declared.port_step.PortStep.{PortStep}
-use Rattle.pd_line.specs.Told.{source_hears_as, sink_hears_as, plug_hears_as, source_message, sink_message, plug_message, source_fault, sink_fault}
+use Rattle.pd_line.specs.Told.{source_hears_as, sink_hears_as, plug_hears_as, source_message, sink_message, plug_message}
+use Rattle.pd_line.specs.Told.{source_fault, sink_fault}
 
 -- the port is this
 abbrev pub with_port : PortParts → PortStep → PortStep

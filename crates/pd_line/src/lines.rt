@@ -84,7 +84,9 @@ impl PortStep {
     ghost use Rattle.pd_packet.specs.Hearing.{heard};
     ghost use Rattle.pd_line.specs.Noise.{most, most_besides};
     ghost use Rattle.pd_line.specs.PortStep.{wait};
-    ghost use Rattle.pd_line.specs.Lines.{hears, taken, revision_on, packet_starts, good_crc_starts, message_ends, goes_up, good_crc_ends, times_out, hard_reset_ends, line_ends, line_starts, acknowledged, waiting_on, message_starts, hard_reset_starts, side_starts};
+    ghost use Rattle.pd_line.specs.Lines.{hears, taken, revision_on, packet_starts, good_crc_starts, message_ends, goes_up};
+    ghost use Rattle.pd_line.specs.Lines.{good_crc_ends, times_out, hard_reset_ends, line_ends, line_starts, acknowledged};
+    ghost use Rattle.pd_line.specs.Lines.{waiting_on, message_starts, hard_reset_starts, side_starts};
 
     /// Whether a side hears.
     #[tactic(auto, unfolding(crate::specs::Lines::hears))]

@@ -48,7 +48,10 @@ impl PortStep {
     ghost use Rattle.pd_source.specs.Acts.{noise as source_noise, noise_of as source_noise_of};
     ghost use Rattle.pd_sink.specs.Acts.{noise as sink_noise, noise_of as sink_noise_of};
     ghost use Rattle.pd_line.specs.Noise.{most};
-    ghost use Rattle.pd_line.specs.PortStep.{at_rest, wait, reset_on, sink_act, sink_acts, sink_steps, plug_act, plug_acts, plug_steps, source_act, source_acts, source_steps, noted, submit_on, good_crc_on, timed_out_on, received_on, tells_sent, tells_failed, tells_message, tells_reset, tells_timer, tells_attach};
+    ghost use Rattle.pd_line.specs.PortStep.{at_rest, wait, reset_on, sink_act, sink_acts, sink_steps, plug_act, plug_acts};
+    ghost use Rattle.pd_line.specs.PortStep.{plug_steps, source_act, source_acts, source_steps, noted, submit_on, good_crc_on};
+    ghost use Rattle.pd_line.specs.PortStep.{timed_out_on, received_on, tells_sent, tells_failed, tells_message, tells_reset};
+    ghost use Rattle.pd_line.specs.PortStep.{tells_timer, tells_attach};
 
     /// A port on which no step is under way.
     pub fn at_rest(port: PortParts) -> PortStep

@@ -229,7 +229,8 @@ impl PortParts {
     #[tactic(auto, unfolding(crate::specs::Record::nothing_attached))]
     pub fn new(supplies: &[Supply], identity_tries: u8, unconstrained: bool) -> PortParts
         requires { length supplies.now ≤ 7 }
-        ensures { let settings : SourceSettings = record { supplies = supplies.now; identity_tries = identity_tries; unconstrained = unconstrained } in
+        ensures { let settings : SourceSettings =
+            record { supplies = supplies.now; identity_tries = identity_tries; unconstrained = unconstrained } in
             result ≡ with_settings settings (nothing_attached settings) }
     {
         PortParts {

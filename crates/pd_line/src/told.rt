@@ -2,7 +2,8 @@
 
 ghost use Rattle.std.specs.Prelude.{◌≡◌, ◌≤◌, length, [], ◌∷◌};
 ghost use Rattle.pd_header.specs.Kinds.{kind_of_header};
-ghost use Rattle.pd_line.specs.Told.{source_hears_as, sink_hears_as, plug_hears_as, sent_as, source_message, sink_message, plug_message, source_fault, sink_fault};
+ghost use Rattle.pd_line.specs.Told.{source_hears_as, sink_hears_as, plug_hears_as, sent_as, source_message, sink_message};
+ghost use Rattle.pd_line.specs.Told.{plug_message, source_fault, sink_fault};
 
 use crate::notes::Fault;
 use arrayvec::ArrayVec;

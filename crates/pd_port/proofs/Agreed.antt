@@ -22,7 +22,14 @@ same : (s : SourceSettings) (a : Option Answer) (r : SourceRecord) → Agrees s 
 same s a r = record { contract = inl refl; accepted = inl refl; delivered = inl refl; kept = inl refl; made = inr (still r) }
 
 nothing : (s : SourceSettings) (a : Option Answer) (r : SourceRecord) → Agrees s a r (off s)
-nothing s a r = record { contract = inr (inl refl); accepted = inr (inl refl); delivered = inr (inl refl); kept = inr (inr refl); made = inr (switched_off s r) }
+nothing s a r =
+    record {
+      contract = inr (inl refl);
+      accepted = inr (inl refl);
+      delivered = inr (inl refl);
+      kept = inr (inr refl);
+      made = inr (switched_off s r);
+    }
 
 step : (s : SourceSettings) (t : ℕ) (x : Stimulus) (a : Option Answer) (r : SourceRecord) → Agrees s a r (stepped s t x a r)
 step s t x a r = record {
@@ -40,13 +47,22 @@ none_taken a r new (inr (inl h)) = inr (inl h)
 none_taken a r new (inr (inr h)) = absurd (let e : false ≡ true = h.2 in cc)
 
 unanswered : (s : SourceSettings) (a : Option Answer) (r new : SourceRecord) → Agrees s None r new → Agrees s a r new
-unanswered s a r new h = record { contract = h.contract; accepted = none_taken a r new.accepted_request h.accepted; delivered = h.delivered; kept = h.kept; made = h.made }
+unanswered s a r new h =
+    record {
+      contract = h.contract;
+      accepted = none_taken a r new.accepted_request h.accepted;
+      delivered = h.delivered;
+      kept = h.kept;
+      made = h.made;
+    }
 
-after_told : (s : SourceSettings) (t : ℕ) (x : Option Stimulus) (a : Option Answer) (r : SourceRecord) → Agrees s a r (source_after_told s t x a r)
+after_told : (s : SourceSettings) (t : ℕ) (x : Option Stimulus) (a : Option Answer) (r : SourceRecord) →
+    Agrees s a r (source_after_told s t x a r)
 after_told s t None a r = same s a r
 after_told s t (Some x) a r = step s t x a r
 
-by_detach : (b : Bool) (s : SourceSettings) (a : Option Answer) (r new : SourceRecord) → Agrees s a r new → Agrees s a r (if b then off s else new)
+by_detach : (b : Bool) (s : SourceSettings) (a : Option Answer) (r new : SourceRecord) → Agrees s a r new →
+    Agrees s a r (if b then off s else new)
 by_detach true s a r new h = nothing s a r
 by_detach false s a r new h = h
 
@@ -60,5 +76,8 @@ by_budget false s r d a =
     by_detach (is_detach d.what && is_some r.cable) (source_settings s) a r.source _
     (after_told (source_settings s) d.time (source_told d.what (whole s r)) a r.source)
 
-pub ports_agree : (s : SettingsData) (r : PortRecord) (d : Due) (a : Option Answer) → Agrees (source_settings s) a r.source (record_after s r d a).source
-ports_agree s r d a = subst (Agrees (source_settings s) a r.source) (sym (record_after-source s r d a)) (by_budget (is_budget d.what) s r d a)
+pub ports_agree : (s : SettingsData) (r : PortRecord) (d : Due) (a : Option Answer) →
+    Agrees (source_settings s) a r.source (record_after s r d a).source
+ports_agree s r d a =
+    subst (Agrees (source_settings s) a r.source) (sym (record_after-source s r d a)) (by_budget (is_budget d.what)
+    s r d a)

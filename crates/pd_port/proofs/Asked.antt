@@ -1,5 +1,6 @@
 -- What a port asks is what its source's engine asks: the step steps it once, with what `source_told` says.
-use Rattle.std.proofs.Common.{◌≡◌, ℕ, Bool, true, false, is_some, if◌then◌else◌, nat_lt, ◌++◌, [], ◌∷◌, length, Option, Some, None, option_and_then, refl, ◌∙◌, sym, ap, subst}
+use Rattle.std.proofs.Common.{◌≡◌, ℕ, Bool, true, false, is_some, if◌then◌else◌, nat_lt, ◌++◌, [], ◌∷◌, length, Option, Some}
+use Rattle.std.proofs.Common.{None, option_and_then, refl, ◌∙◌, sym, ap, subst}
 use Rattle.pd_symbols.specs.declared.channel.Channel.{Channel}
 use Rattle.pd_symbols.specs.declared.channel.Channel.TheVariants.{Sop, SopPrime}
 use Rattle.pd_header.specs.declared.side.Side.{Side}
@@ -39,21 +40,35 @@ use Rattle.pd_line.specs.declared.port_parts.Line.TheVariants.{Idle, Message, Pa
 use Rattle.pd_line.specs.declared.port_step.PortStep.{PortStep}
 use Rattle.pd_line.specs.Record.{without_settings, nothing_attached}
 use Rattle.pd_line.specs.Told.{sent_as, source_hears_as}
-use Rattle.pd_line.specs.PortStep.{with_port, noted, layer_on, on_layer, good_crc_on, timed_out_on, received_on, sink_steps, plug_steps, source_steps, tells_sent, tells_failed, tells_message, tells_reset, tells_timer, tells_attach}
-use Rattle.pd_line.specs.Lines.{with_line, receiver, hears, told_sent, acknowledged, told_message, goes_up, good_crc_ends, after_time_out, times_out, waiting_dropped, layers_reset, hears_reset, all_hear_reset, hard_reset_ends, line_ends_at, line_ends, line_starts}
-use Rattle.pd_line.proofs.Kept.{choice, noted_kept, sink_steps_kept, plug_steps_kept, tells_sent_kept, packet_starts_kept, good_crc_starts_kept, message_ends_kept, acknowledged_kept, goes_up_kept, times_out_kept, waiting_dropped_kept, layers_reset_kept, hears_reset_kept, attached_kept, line_starts_kept}
+use Rattle.pd_line.specs.PortStep.{with_port, noted, layer_on, on_layer, good_crc_on, timed_out_on, received_on, sink_steps}
+use Rattle.pd_line.specs.PortStep.{plug_steps, source_steps, tells_sent, tells_failed, tells_message, tells_reset, tells_timer}
+use Rattle.pd_line.specs.PortStep.{tells_attach}
+use Rattle.pd_line.specs.Lines.{with_line, receiver, hears, told_sent, acknowledged, told_message, goes_up, good_crc_ends}
+use Rattle.pd_line.specs.Lines.{after_time_out, times_out, waiting_dropped, layers_reset, hears_reset, all_hear_reset}
+use Rattle.pd_line.specs.Lines.{hard_reset_ends, line_ends_at, line_ends, line_starts}
+use Rattle.pd_line.proofs.Kept.{choice, noted_kept, sink_steps_kept, plug_steps_kept, tells_sent_kept, packet_starts_kept}
+use Rattle.pd_line.proofs.Kept.{good_crc_starts_kept, message_ends_kept, acknowledged_kept, goes_up_kept, times_out_kept}
+use Rattle.pd_line.proofs.Kept.{waiting_dropped_kept, layers_reset_kept, hears_reset_kept, attached_kept, line_starts_kept}
 use Rattle.pd_line.proofs.Parts.{OfSource, unanswered}
-use Rattle.pd_line.proofs.Source.{acknowledged_layer, line_layer, tells_timer_spares, Spares, SparesWith, spares, none, joins, on_layer_spares, source_steps_step, line_spares, sparing}
+use Rattle.pd_line.proofs.Source.{acknowledged_layer, line_layer, tells_timer_spares, Spares, SparesWith, spares, none, joins}
+use Rattle.pd_line.proofs.Source.{on_layer_spares, source_steps_step, line_spares, sparing}
 use Rattle.pd_port.specs.declared.due.Due.{Due}
 use Rattle.pd_port.specs.declared.due.What.{What}
 use Rattle.pd_port.specs.declared.due.What.TheVariants as what
 use Rattle.pd_port.specs.declared.entry.Entry.{Entry}
 use Rattle.pd_port.specs.Laws.{source_after_told, source_after}
 use Rattle.pd_port.specs.Happens.{detaches, disturbs, gets_source, gets_sink, happens_attached, happens_detached, shed, budget_changes}
-use Rattle.pd_port.specs.SourceTold.{source_layer, told_if_sent, told_if_up, told_if_failed, told_of_good_crc, told_at_good_crc, told_at_time_out, told_of_reset, told_by_line, told_attached, told_detached, source_told, told_if_shed}
+use Rattle.pd_port.specs.SourceTold.{source_layer, told_if_sent, told_if_up, told_if_failed, told_of_good_crc, told_at_good_crc}
+use Rattle.pd_port.specs.SourceTold.{told_at_time_out, told_of_reset, told_by_line, told_attached, told_detached, source_told}
+use Rattle.pd_port.specs.SourceTold.{told_if_shed}
 use Rattle.pd_port.specs.Changes.{contract_change}
 use Rattle.pd_port.specs.Port.{PortRecord, happens, begun, portstep, whole, source_settings, record_after, entry_of, ask, asks}
-use Rattle.pd_port.proofs.SourceTold.{Becomes, AsksNothing, Tells, spares_tell, source_steps_tell, becomes_first, told_first, after_spared, told_then, told_then_with, HasLayers, its_layers, retold, told_sent_tells, told_message_tells, after_time_out_tells, acknowledged_tells, goes_up_tells, others_hear, any_touches, other_good_crc_tells, good_crc_ends_tells, times_out_tells, reset_spares, own_reset_tells, told_if_hears, source_gets_reset, source_hears_reset, other_reset_tells, hard_reset_tells, line_ends_at_tells, line_ends_tells}
+use Rattle.pd_port.proofs.SourceTold.{Becomes, AsksNothing, Tells, spares_tell, source_steps_tell, becomes_first, told_first}
+use Rattle.pd_port.proofs.SourceTold.{after_spared, told_then, told_then_with, HasLayers, its_layers, retold, told_sent_tells}
+use Rattle.pd_port.proofs.SourceTold.{told_message_tells, after_time_out_tells, acknowledged_tells, goes_up_tells, others_hear}
+use Rattle.pd_port.proofs.SourceTold.{any_touches, other_good_crc_tells, good_crc_ends_tells, times_out_tells, reset_spares}
+use Rattle.pd_port.proofs.SourceTold.{own_reset_tells, told_if_hears, source_gets_reset, source_hears_reset, other_reset_tells}
+use Rattle.pd_port.proofs.SourceTold.{hard_reset_tells, line_ends_at_tells, line_ends_tells}
 
 timer_tells : (side : Side) (timer : Timer) (t : ℕ) (w : PortStep) →
     Tells t (source_told (what.Timer side timer) w.port) w (tells_timer side timer t w) (tells_timer side timer t (unanswered w))
@@ -79,8 +94,10 @@ attach_tells cable device t w =
 disturbs_spares : (id : ℕ) (d : Disturbance) (t : ℕ) (w : PortStep) → Spares w (disturbs id d w) (disturbs id d (unanswered w))
 unfolding disturbs
 disturbs_spares id d t w =
-    let waits : PortStep → PortStep = λ z. with_port (record z.port { disturbances = record { items = z.port.disturbances.items ++ d ∷ [] } }) z in
-    choice t (sparing t) (nat_lt (length w.port.disturbances.items) 8) waits (noted (Ignored id)) w (spares w _ refl refl) (noted_kept t (sparing t) (Ignored id) w)
+    let waits : PortStep → PortStep =
+    λ z. with_port (record z.port { disturbances = record { items = z.port.disturbances.items ++ d ∷ [] } }) z in
+    choice t (sparing t) (nat_lt (length w.port.disturbances.items) 8) waits (noted (Ignored id)) w
+    (spares w _ refl refl) (noted_kept t (sparing t) (Ignored id) w)
 
 gets_source_spares : (id t : ℕ) (w : PortStep) → Spares w (gets_source id t w) (gets_source id t (unanswered w))
 unfolding gets_source
@@ -92,7 +109,8 @@ gets_sink_tells : (id t : ℕ) (w : PortStep) →
     Tells t (if source.is_ready w.port.source.record then Some told.GetSink else None) w (gets_sink id t w) (gets_sink id t (unanswered w))
 unfolding gets_sink
 gets_sink_tells id t w = either (source.is_ready w.port.source.record) where
-  either : (b : Bool) → Tells t (if b then Some told.GetSink else None) w (if b then source_steps t told.GetSink w else noted (Ignored id) w)
+  either : (b : Bool) → Tells t (if b then Some told.GetSink else None) w (if b then source_steps t told.GetSink w
+      else noted (Ignored id) w)
       (if b then source_steps t told.GetSink (unanswered w) else noted (Ignored id) (unanswered w))
   either true = source_steps_tell t told.GetSink w
   either false = spares_tell t w _ _ (noted_kept t (sparing t) (Ignored id) w)
@@ -111,14 +129,16 @@ first_work s r given = begun (whole s r) given
 abbrev Happens : SettingsData → PortRecord → What → ℕ → Option Answer → Type 0
 Happens s r x t given =
     let d : Due = record { time = t; what = x } in
-    Becomes (source_after s r d given) (ask s r d ≡ None) (first_work s r given) (happens x t (first_work s r given)) (happens x t (first_work s r None))
+    Becomes (source_after s r d given) (ask s r d ≡ None) (first_work s r given) (happens x t (first_work s r given))
+    (happens x t (first_work s r None))
 
 -- what is told at the beginning of a step
 abbrev TellsFirst : SettingsData → PortRecord → Option Stimulus → ℕ → Option Answer → (PortStep → PortStep) → Type 0
 TellsFirst s r x t given f = Tells t x (first_work s r given) (f (first_work s r given)) (f (first_work s r None))
 
 -- one thing while a sink is attached, and else another
-by_cable : (b : Bool) (s : SettingsData) (r : PortRecord) (t : ℕ) (given : Option Answer) (x y : Option Stimulus) (f g : PortStep → PortStep) →
+by_cable : (b : Bool) (s : SettingsData) (r : PortRecord) (t : ℕ) (given : Option Answer) (x y : Option Stimulus)
+    (f g : PortStep → PortStep) →
     TellsFirst s r x t given f → TellsFirst s r y t given g → TellsFirst s r (if b then x else y) t given (λ z. if b then f z else g z)
 by_cable true s r t given x y f g h k = h
 by_cable false s r t given x y f g h k = k
@@ -129,7 +149,8 @@ told_event : (s : SettingsData) (r : PortRecord) (id : ℕ) (k : EventKind) (t :
     TellsFirst s r (if is_some r.cable then told_attached k (whole s r) else told_detached k) t given
     (λ z. if is_some r.cable then happens_attached id k t z else happens_detached id k t z)
 told_event s r id k t given h =
-    by_cable (is_some r.cable) s r t given (told_attached k (whole s r)) (told_detached k) (happens_attached id k t) (happens_detached id k t) h
+    by_cable (is_some r.cable) s r t given (told_attached k (whole s r)) (told_detached k) (happens_attached id k t)
+    (happens_detached id k t) h
     (detached_tells id k t (first_work s r given))
 
 -- the cable is pulled out, where a sink is attached
@@ -149,7 +170,8 @@ kind_happens s r at id t given (Attach cable device) =
     told_event s r id (Attach cable device) t given (spares_tell t _ _ _ (noted_kept t (sparing t) (Ignored id) (first_work s r given)))
 kind_happens s r at id t given Detach = pulled_out (is_some r.cable) s r id t given
 kind_happens s r at id t given (Demand mw) =
-    told_event s r id (Demand mw) t given (spares_tell t _ _ _ (sink_steps_kept t (sparing t) (sink_told.Demand mw) (first_work s r given) refl))
+    told_event s r id (Demand mw) t given (spares_tell t _ _ _ (sink_steps_kept t (sparing t) (sink_told.Demand mw)
+    (first_work s r given) refl))
 kind_happens s r at id t given Lose =
     told_event s r id Lose t given (spares_tell t _ _ _ (disturbs_spares id Lost t (first_work s r given)))
 kind_happens s r at id t given (Damage d) =
@@ -178,7 +200,8 @@ what_becomes s r what.Line t given = line_ends_tells t (first_work s r given)
 what_becomes s r (what.Timer side timer) t given = timer_tells side timer t (first_work s r given)
 
 portstep_becomes : (s : SettingsData) (r : PortRecord) (d : Due) (given : Option Answer) →
-    Becomes (source_after s r d given) (ask s r d ≡ None) (first_work s r given) (portstep (whole s r) d given) (portstep (whole s r) d None)
+    Becomes (source_after s r d given) (ask s r d ≡ None) (first_work s r given) (portstep (whole s r) d given)
+    (portstep (whole s r) d None)
 unfolding portstep
 portstep_becomes s r d given =
     let v = happens d.what d.time (first_work s r given) in
@@ -186,7 +209,8 @@ portstep_becomes s r d given =
     (what_becomes s r d.what d.time given) (line_starts_kept d.time (sparing d.time) tt tt tt v)
 
 -- the source is stepped once, with what it is told and with the answer
-pub record_after-source : (s : SettingsData) (r : PortRecord) (d : Due) (given : Option Answer) → (record_after s r d given).source ≡ source_after s r d given
+pub record_after-source : (s : SettingsData) (r : PortRecord) (d : Due) (given : Option Answer) →
+    (record_after s r d given).source ≡ source_after s r d given
 unfolding record_after
 record_after-source s r d given = (portstep_becomes s r d given).becomes
 
@@ -195,11 +219,13 @@ portstep-blind : (s : SettingsData) (r : PortRecord) (d : Due) (a b : Option Ans
     unanswered (portstep (whole s r) d a) ≡ unanswered (portstep (whole s r) d b)
 portstep-blind s r d a b h = sym ((portstep_becomes s r d a).blind h) ∙ (portstep_becomes s r d b).blind h
 
-pub record_after-blind : (s : SettingsData) (r : PortRecord) (d : Due) (a b : Option Answer) → ask s r d ≡ None → record_after s r d a ≡ record_after s r d b
+pub record_after-blind : (s : SettingsData) (r : PortRecord) (d : Due) (a b : Option Answer) → ask s r d ≡ None →
+    record_after s r d a ≡ record_after s r d b
 unfolding record_after
 record_after-blind s r d a b h = ap (λ (w : PortStep). without_settings w.port) (portstep-blind s r d a b h)
 
-pub entry_of-blind : (s : SettingsData) (r : PortRecord) (d : Due) (a b : Option Answer) → ask s r d ≡ None → entry_of s r d a ≡ entry_of s r d b
+pub entry_of-blind : (s : SettingsData) (r : PortRecord) (d : Due) (a b : Option Answer) → ask s r d ≡ None →
+    entry_of s r d a ≡ entry_of s r d b
 unfolding entry_of
 entry_of-blind s r d a b h =
     let entry : PortStep → Entry = λ w.

@@ -1,5 +1,6 @@
 -- What the run of a charger relies on where the shared budget changes.
-use Rattle.std.proofs.Common.{◌≡◌, ℕ, ◌<◌, ◌≤◌, ◌+◌, ◌*◌, ◌&&◌, Bool, true, false, if◌then◌else◌, is_some, Option, Some, None, refl, ◌∙◌, sym, ap, subst, inl, arith}
+use Rattle.std.proofs.Common.{◌≡◌, ℕ, ◌<◌, ◌≤◌, ◌+◌, ◌*◌, ◌&&◌, Bool, true, false, if◌then◌else◌, is_some, Option, Some, None}
+use Rattle.std.proofs.Common.{refl, ◌∙◌, sym, ap, subst, inl, arith}
 use Rattle.std.proofs.lemmas.Bool.Decides.{nat_tests}
 use Rattle.std.proofs.lemmas.Option.{same_Some}
 use Rattle.pd_timers.specs.Timers.{place}
@@ -31,7 +32,8 @@ pub empty_detached : (s : SettingsData) → RestsEmpty (detached s)
 unfolding detached nothing_attached
 empty_detached s = empty-off (source_settings s)
 
-empty_told : (s : SourceSettings) (t : ℕ) (x : Option Stimulus) (a : Option Answer) (r : SourceRecord) → IsEmptyAtRest r → IsEmptyAtRest (source_after_told s t x a r)
+empty_told : (s : SourceSettings) (t : ℕ) (x : Option Stimulus) (a : Option Answer) (r : SourceRecord) →
+    IsEmptyAtRest r → IsEmptyAtRest (source_after_told s t x a r)
 empty_told s t None a r h = h
 empty_told s t (Some x) a r h = empty-stepped s t x a r h
 
@@ -52,7 +54,8 @@ unfolding ask
 ask_budget s r d e = ap (λ (b : Bool). if b then Some (query.Keep (hold s r)) else asks (whole s r) (source_told d.what (whole s r))) e
 
 -- the source after a step for it
-pub source_of_budget : (s : SettingsData) (r : PortRecord) (d : Due) (a : Option Answer) → is_budget d.what ≡ true → (record_after s r d a).source ≡ source_after_told (source_settings s) d.time (told_if_shed a) None r.source
+pub source_of_budget : (s : SettingsData) (r : PortRecord) (d : Due) (a : Option Answer) → is_budget d.what ≡ true →
+    (record_after s r d a).source ≡ source_after_told (source_settings s) d.time (told_if_shed a) None r.source
 source_of_budget s r d a e =
     record_after-source s r d a
     ∙ ap (λ (b : Bool). if b then source_after_told (source_settings s) d.time (told_if_shed a) None r.source
@@ -63,7 +66,8 @@ pub keeps_or_sheds : (s : SettingsData) (r : PortRecord) (d : Due) → is_budget
 unfolding hold
 keeps_or_sheds s r d e h = record {
   keeps = ap (hold_of (source_settings s) (floor_of s)) (source_of_budget s r d (Some (answers.Fits true)) e);
-  sheds = ap (hold_of (source_settings s) (floor_of s)) (source_of_budget s r d (Some (answers.Fits false)) e) ∙ hold_of-shed (source_settings s) (floor_of s) d.time r.source h;
+  sheds = ap (hold_of (source_settings s) (floor_of s)) (source_of_budget s r d (Some (answers.Fits false)) e)
+      ∙ hold_of-shed (source_settings s) (floor_of s) d.time r.source h;
 }
 
 -- what has no rank comes before what has one at its time
@@ -79,7 +83,8 @@ due_some r e =
     (w.0, w.1, is_before-time c w.0 w.2)
 
 -- an event comes first at its time
-first_what : (r : PortRecord) (e : EventData) (d : Due) (w : What) → d.what ≡ w → due r (Some e) ≡ Some d → d.time ≡ e.at → (x : EventData) × (d.what ≡ what.Event x)
+first_what : (r : PortRecord) (e : EventData) (d : Due) (w : What) → d.what ≡ w → due r (Some e) ≡ Some d →
+    d.time ≡ e.at → (x : EventData) × (d.what ≡ what.Event x)
 first_what r e d (what.Event x) k h t = (x, k)
 first_what r e d what.Line k h t =
     let c : Due = record { time = e.at; what = what.Event e } in

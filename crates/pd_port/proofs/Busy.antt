@@ -1,5 +1,6 @@
 -- While the line is busy, nothing but its own end starts anything.
-use Rattle.std.proofs.Common.{◌≡◌, ◌⊎◌, inl, inr, ℕ, Bool, true, false, is_some, nat_lt, length, [], ◌∷◌, ◌++◌, if◌then◌else◌, Option, Some, None, refl, ◌∙◌, ap, sym}
+use Rattle.std.proofs.Common.{◌≡◌, ◌⊎◌, inl, inr, ℕ, Bool, true, false, is_some, nat_lt, length, [], ◌∷◌, ◌++◌, if◌then◌else◌}
+use Rattle.std.proofs.Common.{Option, Some, None, refl, ◌∙◌, ap, sym}
 use Rattle.pd_objects.specs.declared.query.Answer.{Answer}
 use Rattle.pd_objects.specs.declared.query.Answer.TheVariants as answers
 use Rattle.pd_source.specs.Step as source
@@ -25,7 +26,8 @@ use Rattle.pd_port.specs.declared.due.Due.{Due}
 use Rattle.pd_port.specs.declared.due.What.{What}
 use Rattle.pd_port.specs.declared.due.What.TheVariants as what
 use Rattle.pd_port.specs.Laws.{is_line}
-use Rattle.pd_port.specs.Happens.{detaches, disturbs, gets_source, gets_sink, happens_attached, happens_detached, port_event_happens, shed, budget_changes, event_happens, pulls_out, pulls_cable, is_detach}
+use Rattle.pd_port.specs.Happens.{detaches, disturbs, gets_source, gets_sink, happens_attached, happens_detached}
+use Rattle.pd_port.specs.Happens.{port_event_happens, shed, budget_changes, event_happens, pulls_out, pulls_cable, is_detach}
 use Rattle.pd_port.specs.Port.{PortRecord, happens, begun, portstep, whole, detached, record_after, entry_of}
 
 -- a step that leaves the line busy starts nothing more
@@ -37,7 +39,8 @@ portstep-busy r d given h = line_starts-busy d.time (happens d.what d.time (begu
 disturbs_line : (id : ℕ) (d : Disturbance) (t : ℕ) (w : PortStep) → LeavesLine w (disturbs id d w)
 unfolding disturbs
 disturbs_line id d t w =
-    let waits : PortStep → PortStep = λ z. with_port (record z.port { disturbances = record { items = z.port.disturbances.items ++ d ∷ [] } }) z in
+    let waits : PortStep → PortStep =
+    λ z. with_port (record z.port { disturbances = record { items = z.port.disturbances.items ++ d ∷ [] } }) z in
     choice t (leaves_line t) (nat_lt (length w.port.disturbances.items) 8) waits (noted (Ignored id)) w
     (record { line = refl; start = refl }) (noted_kept t (leaves_line t) (Ignored id) w)
 
@@ -74,7 +77,8 @@ shed_line a t w = record { line = refl; start = refl }
 event_line : (h : Happening) (t : ℕ) (w : PortStep) → pulls_cable h ≡ false → LeavesLine w (event_happens h t w)
 unfolding budget_changes
 event_line (Port id k) t w n =
-    choice t (leaves_line t) (is_some w.port.cable) (happens_attached id k t) (happens_detached id k t) w (attached_line id k t w n) (detached_line id k t w)
+    choice t (leaves_line t) (is_some w.port.cable) (happens_attached id k t) (happens_detached id k t) w
+    (attached_line id k t w n) (detached_line id k t w)
 event_line Budget t w n = shed_line w.answer t w
 
 happens_line : (x : What) (t : ℕ) (w : PortStep) → is_line x ≡ false → is_detach x ≡ false → LeavesLine w (happens x t w)
@@ -83,7 +87,8 @@ happens_line what.Line t w n m = absurd (cc)
 happens_line (what.Timer side timer) t w n m = tells_timer_line side timer t w
 
 -- where the line is busy, and it isn't its end that falls due, it stays as it is
-portstep_line : (r : PortParts) (d : Due) (given : Option Answer) → is_idle r.line ≡ false → is_line d.what ≡ false → is_detach d.what ≡ false →
+portstep_line : (r : PortParts) (d : Due) (given : Option Answer) → is_idle r.line ≡ false → is_line d.what ≡ false →
+    is_detach d.what ≡ false →
     LeavesLine (begun r given) (portstep r d given)
 portstep_line r d given h n m =
     let w = begun r given in
@@ -91,12 +96,14 @@ portstep_line r d given h n m =
     let e = portstep-busy r d given (ap is_idle k.line ∙ h) in
     record { line = ap (λ (x : PortStep). x.port.line) e ∙ k.line; start = ap (λ (x : PortStep). x.start) e ∙ k.start }
 
-pub record_after-line : (s : SettingsData) (r : PortRecord) (d : Due) (given : Option Answer) → is_idle r.line ≡ false → is_line d.what ≡ false →
+pub record_after-line : (s : SettingsData) (r : PortRecord) (d : Due) (given : Option Answer) → is_idle r.line
+    ≡ false → is_line d.what ≡ false →
     is_detach d.what ≡ false → (record_after s r d given).line ≡ r.line
 unfolding record_after
 record_after-line s r d given h n m = (portstep_line (whole s r) d given h n m).line
 
-pub entry_of-start : (s : SettingsData) (r : PortRecord) (d : Due) (given : Option Answer) → is_idle r.line ≡ false → is_line d.what ≡ false →
+pub entry_of-start : (s : SettingsData) (r : PortRecord) (d : Due) (given : Option Answer) → is_idle r.line ≡ false →
+    is_line d.what ≡ false →
     is_detach d.what ≡ false → (entry_of s r d given).start ≡ None
 unfolding entry_of
 entry_of-start s r d given h n m = (portstep_line (whole s r) d given h n m).start
@@ -119,7 +126,8 @@ happens_one (what.Event e) t w = inl (event_start e.happening t w)
 happens_one what.Line t w = line_ends_one t w
 happens_one (what.Timer side timer) t w = inl (tells_timer_line side timer t w).start
 
-one_of : (r : PortParts) (d : Due) (given : Option Answer) (v : PortStep) → v ≡ happens d.what d.time (begun r given) → StartsOne (begun r given) v →
+one_of : (r : PortParts) (d : Due) (given : Option Answer) (v : PortStep) →
+    v ≡ happens d.what d.time (begun r given) → StartsOne (begun r given) v →
     (v.start ≡ None) ⊎ (portstep r d given ≡ v)
 one_of r d given v e (inl h) = inl h
 one_of r d given v e (inr h) = inr (portstep-busy r d given (ap (λ (w : PortStep). is_idle w.port.line) (sym e) ∙ h) ∙ sym e)
@@ -130,17 +138,20 @@ pub portstep-one : (r : PortParts) (d : Due) (given : Option Answer) →
 portstep-one r d given = one_of r d given (happens d.what d.time (begun r given)) refl (happens_one d.what d.time (begun r given))
 
 pulled_out : (b : Bool) (s : SettingsData) (r : PortRecord) (id t : ℕ) (given : Option Answer) → b ≡ true →
-    without_settings (line_starts t (if b then detaches (begun (whole s r) given) else noted (Ignored id) (begun (whole s r) given))).port ≡ detached s
+    without_settings (line_starts t (if b then detaches (begun (whole s r) given)
+    else noted (Ignored id) (begun (whole s r) given))).port ≡ detached s
 unfolding line_starts detaches detached nothing_attached
 pulled_out true s r id t given e = refl
 pulled_out false s r id t given e = absurd (cc)
 
-kind_new : (s : SettingsData) (r : PortRecord) (id : ℕ) (k : EventKind) (t : ℕ) (given : Option Answer) → pulls_out k ≡ true → is_some r.cable ≡ true →
+kind_new : (s : SettingsData) (r : PortRecord) (id : ℕ) (k : EventKind) (t : ℕ) (given : Option Answer) →
+    pulls_out k ≡ true → is_some r.cable ≡ true →
     without_settings (line_starts t (port_event_happens id k t (begun (whole s r) given))).port ≡ detached s
 kind_new s r id Detach t given p e = pulled_out (is_some r.cable) s r id t given e
 kind_new s r id k t given p e = absurd (cc)
 
-event_new : (s : SettingsData) (r : PortRecord) (h : Happening) (t : ℕ) (given : Option Answer) → pulls_cable h ≡ true → is_some r.cable ≡ true →
+event_new : (s : SettingsData) (r : PortRecord) (h : Happening) (t : ℕ) (given : Option Answer) → pulls_cable h
+    ≡ true → is_some r.cable ≡ true →
     without_settings (line_starts t (event_happens h t (begun (whole s r) given))).port ≡ detached s
 event_new s r (Port id k) t given p e = kind_new s r id k t given p e
 event_new s r Budget t given p e = absurd (cc)
@@ -152,7 +163,8 @@ what_new s r what.Line t given p c = absurd (cc)
 what_new s r (what.Timer side timer) t given p c = absurd (cc)
 
 -- where the cable is pulled out, the port is as at the start
-pub record_after-detached : (s : SettingsData) (r : PortRecord) (d : Due) (given : Option Answer) → is_detach d.what ≡ true → is_some r.cable ≡ true →
+pub record_after-detached : (s : SettingsData) (r : PortRecord) (d : Due) (given : Option Answer) → is_detach d.what
+    ≡ true → is_some r.cable ≡ true →
     record_after s r d given ≡ detached s
 unfolding record_after portstep
 record_after-detached s r d given p c = what_new s r d.what d.time given p c

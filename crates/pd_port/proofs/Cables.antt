@@ -1,5 +1,6 @@
 -- What a port's source knows of the attached cable.
-use Rattle.std.proofs.Common.{◌≡◌, ◌⊎◌, ◌≤◌, inl, inr, ℕ, Bool, true, false, ◌&&◌, if◌then◌else◌, is_some, nat_lt, length, List, [], ◌∷◌, Option, Some, None, unwrap_or, ◌==◌, refl, sym, subst, ap, ◌∙◌, arith}
+use Rattle.std.proofs.Common.{◌≡◌, ◌⊎◌, ◌≤◌, inl, inr, ℕ, Bool, true, false, ◌&&◌, if◌then◌else◌, is_some, nat_lt, length, List}
+use Rattle.std.proofs.Common.{[], ◌∷◌, Option, Some, None, unwrap_or, ◌==◌, refl, sym, subst, ap, ◌∙◌, arith}
 use Rattle.pd_header.specs.declared.side.Side.{Side}
 use Rattle.pd_header.specs.declared.side.Side.TheVariants.{Source, Sink, Plug}
 use Rattle.pd_header.specs.Header.{type_of}
@@ -51,14 +52,18 @@ use Rattle.pd_line.specs.Cables.{identity_of, Tells, TellsOn, LineTells, wire, T
 use Rattle.pd_line.specs.Told.{source_hears_as}
 use Rattle.pd_line.specs.PortStep.{noted, sink_steps, source_steps}
 use Rattle.pd_line.proofs.Cables.{On}
-use Rattle.pd_line.proofs.CableRules.{noted_on, sink_steps_on, source_steps_on, tells_timer_on, tells_attach_on, line_ends_on, line_starts_on, either_on}
+use Rattle.pd_line.proofs.CableRules.{noted_on, sink_steps_on, source_steps_on, tells_timer_on, tells_attach_on, line_ends_on}
+use Rattle.pd_line.proofs.CableRules.{line_starts_on, either_on}
 use Rattle.pd_port.specs.declared.due.Due.{Due}
 use Rattle.pd_port.specs.declared.due.What.{What}
 use Rattle.pd_port.specs.declared.due.What.TheVariants as what
 use Rattle.pd_port.specs.Cables.{carried, KnowsCable, PortsKnowTheirCables}
-use Rattle.pd_port.specs.Happens.{detaches, disturbs, gets_source, gets_sink, happens_attached, happens_detached, shed, budget_changes, event_happens, pulls_out}
+use Rattle.pd_port.specs.Happens.{detaches, disturbs, gets_source, gets_sink, happens_attached, happens_detached, shed}
+use Rattle.pd_port.specs.Happens.{budget_changes, event_happens, pulls_out}
 use Rattle.pd_port.specs.Laws.{source_after_told, source_after}
-use Rattle.pd_port.specs.SourceTold.{told_if_sent, told_if_up, told_if_failed, told_of_good_crc, told_at_good_crc, told_at_time_out, told_of_reset, told_by_line, told_attached, told_detached, told_by_event, source_told, told_if_shed}
+use Rattle.pd_port.specs.SourceTold.{told_if_sent, told_if_up, told_if_failed, told_of_good_crc, told_at_good_crc}
+use Rattle.pd_port.specs.SourceTold.{told_at_time_out, told_of_reset, told_by_line, told_attached, told_detached, told_by_event}
+use Rattle.pd_port.specs.SourceTold.{source_told, told_if_shed}
 use Rattle.pd_port.specs.Port.{happens, begun, portstep, whole, detached, source_settings, record_after}
 use Rattle.pd_port.specs.Sound.{IsSoundPort}
 use Rattle.pd_port.proofs.Asked.{record_after-source}
@@ -85,19 +90,24 @@ detaches_on w = record { attached = refl; known = inl refl; plug_waits = tt; sin
 
 disturbs_on : (cable : Option Cable) (id : ℕ) (d : Disturbance) (t : ℕ) (w : PortStep) → On cable w → On cable (disturbs id d w)
 unfolding disturbs
-disturbs_on cable id d t w h = either_on cable t (nat_lt (length w.port.disturbances.items) 8) _ (noted (Ignored id) w) h (noted_on cable t (Ignored id) w h)
+disturbs_on cable id d t w h =
+    either_on cable t (nat_lt (length w.port.disturbances.items) 8) _ (noted (Ignored id) w) h
+    (noted_on cable t (Ignored id) w h)
 
 gets_source_on : (cable : Option Cable) (id t : ℕ) (w : PortStep) → On cable w → On cable (gets_source id t w)
 unfolding gets_source
 gets_source_on cable id t w h =
-    either_on cable t (sink.is_ready w.port.sink) (sink_steps t sink_told.GetSource w) (noted (Ignored id) w) (sink_steps_on cable t sink_told.GetSource w h) (noted_on cable t (Ignored id) w h)
+    either_on cable t (sink.is_ready w.port.sink) (sink_steps t sink_told.GetSource w) (noted (Ignored id) w)
+    (sink_steps_on cable t sink_told.GetSource w h) (noted_on cable t (Ignored id) w h)
 
 gets_sink_on : (cable : Option Cable) (id t : ℕ) (w : PortStep) → On cable w → On cable (gets_sink id t w)
 unfolding gets_sink
 gets_sink_on cable id t w h =
-    either_on cable t (source.is_ready w.port.source.record) (source_steps t told.GetSink w) (noted (Ignored id) w) (source_steps_on cable t told.GetSink w h) (noted_on cable t (Ignored id) w h)
+    either_on cable t (source.is_ready w.port.source.record) (source_steps t told.GetSink w) (noted (Ignored id) w)
+    (source_steps_on cable t told.GetSink w h) (noted_on cable t (Ignored id) w h)
 
-attached_on : (c : Cable) (id : ℕ) (k : EventKind) (t : ℕ) (w : PortStep) → On (Some c) w → On (cable_with k (Some c)) (happens_attached id k t w)
+attached_on : (c : Cable) (id : ℕ) (k : EventKind) (t : ℕ) (w : PortStep) → On (Some c) w →
+    On (cable_with k (Some c)) (happens_attached id k t w)
 attached_on c id (Attach cable device) t w h = noted_on (Some c) t (Ignored id) w h
 attached_on c id Detach t w h = detaches_on w
 attached_on c id (Demand mw) t w h = sink_steps_on (Some c) t (sink_told.Demand mw) w h
@@ -131,7 +141,8 @@ happens_on cable (what.Event e) t w h = event_on cable e.happening t w h
 happens_on cable what.Line t w h = line_ends_on cable t w h
 happens_on cable (what.Timer side timer) t w h = tells_timer_on cable t side timer w h
 
-told_after : (s : SettingsData) (r : PortRecord) (d : Due) (a : Option Answer) → TellsOfCable r.cable (wire r) → TellsOfCable (cable_after d.what r.cable) (wire (record_after s r d a))
+told_after : (s : SettingsData) (r : PortRecord) (d : Due) (a : Option Answer) → TellsOfCable r.cable (wire r) →
+    TellsOfCable (cable_after d.what r.cable) (wire (record_after s r d a))
 unfolding record_after portstep
 told_after s r d a h =
     let w = begun (whole s r) a in
@@ -166,7 +177,8 @@ MayTellSome : Option Cable → Option Stimulus → Type 0
 MayTellSome cable None = Unit {0}
 MayTellSome cable (Some x) = MayTell cable x
 
-hears_fits : (cable : Option Cable) (k : Kind) (header : ℕ) (objects : List ℕ) → (k ≡ kind.VendorDefined → limit_of objects ≤ carried cable) →
+hears_fits : (cable : Option Cable) (k : Kind) (header : ℕ) (objects : List ℕ) →
+    (k ≡ kind.VendorDefined → limit_of objects ≤ carried cable) →
     MayTell cable (source_hears_as k header objects)
 unfolding MayTell
 hears_fits cable kind.Request header [] h = tt
@@ -178,7 +190,8 @@ hears_fits cable kind.SoftReset header objects h = tt
 hears_fits cable kind.VendorDefined header objects h = h refl
 hears_fits cable k header objects h = tt
 
-up_fits : (cable : Option Cable) (p : Contents) (act : LayerAct) → Tells cable (type_of p.header) p.objects → MayTellSome cable (told_if_up p act)
+up_fits : (cable : Option Cable) (p : Contents) (act : LayerAct) → Tells cable (type_of p.header) p.objects →
+    MayTellSome cable (told_if_up p act)
 unfolding MayTellSome
 up_fits cable p answer.Up h =
     hears_fits cable (kind_of_header p.header) p.header p.objects (λ e. limit_fits cable p.objects (h (vendor_is_15 p.header e)))
@@ -199,7 +212,8 @@ unfolding MayTellSome
 own_fits cable p r None = tt
 own_fits cable p r (Some a) = sent_fits cable p _
 
-good_crc_fits : (cable : Option Cable) (side : Side) (p a : Contents) (fate : Fate) (r : PortParts) → TellsOn cable side p → MayTellSome cable (told_at_good_crc side p a fate r)
+good_crc_fits : (cable : Option Cable) (side : Side) (p a : Contents) (fate : Fate) (r : PortParts) →
+    TellsOn cable side p → MayTellSome cable (told_at_good_crc side p a fate r)
 good_crc_fits cable Source p a fate r h = own_fits cable p r (heard a fate)
 good_crc_fits cable Sink p a fate r h = up_fits cable p _ h
 good_crc_fits cable Plug p a fate r h = up_fits cable p _ h
@@ -238,7 +252,8 @@ unfolding MayTellSome MayTell
 detached_fits (Attach cable device) = refl
 detached_fits k = tt
 
-kind_fits : (b : Bool) (cable : Option Cable) (k : EventKind) (r : PortParts) → is_some cable ≡ b → MayTellSome (cable_with k cable) (if b then told_attached k r else told_detached k)
+kind_fits : (b : Bool) (cable : Option Cable) (k : EventKind) (r : PortParts) → is_some cable ≡ b →
+    MayTellSome (cable_with k cable) (if b then told_attached k r else told_detached k)
 kind_fits true cable k r e = attached_fits (cable_with k cable) k r
 kind_fits false None k r e = detached_fits k
 kind_fits false (Some c) k r e = absurd (cc)
@@ -248,7 +263,8 @@ unfolding MayTellSome
 event_fits (Port id k) r = kind_fits (is_some r.cable) r.cable k r refl
 event_fits Budget r = tt
 
-source_fits : (s : SettingsData) (r : PortRecord) (x : What) → TellsOfCable r.cable (wire r) → MayTellSome (cable_after x r.cable) (source_told x (whole s r))
+source_fits : (s : SettingsData) (r : PortRecord) (x : What) → TellsOfCable r.cable (wire r) →
+    MayTellSome (cable_after x r.cable) (source_told x (whole s r))
 unfolding MayTellSome MayTell
 source_fits s r (what.Event e) h = event_fits e.happening (whole s r)
 source_fits s r what.Line h = line_fits r.cable r.line (whole s r) h.line
@@ -266,8 +282,10 @@ limit_step : (cable : Option Cable) (old new : Option ℕ) (x : Stimulus) → un
     (new ≡ old) ⊎ ((new ≡ Some cable_current) ⊎ IsOfAnswer x new) → unwrap_or new cable_current ≤ carried cable
 unfolding MayTell
 limit_step cable old new x h m (inl e) = subst (λ (l : Option ℕ). unwrap_or l cable_current ≤ carried cable) (sym e) h
-limit_step cable old new x h m (inr (inl e)) = subst (λ (l : Option ℕ). unwrap_or l cable_current ≤ carried cable) (sym e) (carried_least cable)
-limit_step cable old new (told.Identity objects) h m (inr (inr e)) = subst (λ (l : Option ℕ). unwrap_or l cable_current ≤ carried cable) (sym e) m
+limit_step cable old new x h m (inr (inl e)) =
+    subst (λ (l : Option ℕ). unwrap_or l cable_current ≤ carried cable) (sym e) (carried_least cable)
+limit_step cable old new (told.Identity objects) h m (inr (inr e)) =
+    subst (λ (l : Option ℕ). unwrap_or l cable_current ≤ carried cable) (sym e) m
 limit_step cable old new x h m (inr (inr e)) = absurd e
 
 no_attach : (cable : Option Cable) (x : Stimulus) → MayTell cable x → cable ≡ None → is_attach x ≡ false
@@ -275,14 +293,16 @@ unfolding MayTell
 no_attach cable told.Attach m e = absurd (let f : false ≡ true = sym (ap is_some e) ∙ m in cc)
 no_attach cable x m e = refl
 
-step_knows : (cable : Option Cable) (s : SourceSettings) (t : ℕ) (x : Stimulus) (a : Option Answer) (r : SourceRecord) → MayTell cable x → Knows cable r → Knows cable (source.stepped s t x a r)
+step_knows : (cable : Option Cable) (s : SourceSettings) (t : ℕ) (x : Stimulus) (a : Option Answer)
+    (r : SourceRecord) → MayTell cable x → Knows cable r → Knows cable (source.stepped s t x a r)
 step_knows cable s t x a r m h =
     record {
       limit = limit_step cable r.limit (source.stepped s t x a r).limit x h.limit m (limit-stepped s t x a r);
       off = λ e. off-stepped s t x a r (no_attach cable x m e) (h.off e);
     }
 
-told_knows : (cable : Option Cable) (s : SourceSettings) (t : ℕ) (x : Option Stimulus) (a : Option Answer) (r : SourceRecord) → MayTellSome cable x → Knows cable r →
+told_knows : (cable : Option Cable) (s : SourceSettings) (t : ℕ) (x : Option Stimulus) (a : Option Answer)
+    (r : SourceRecord) → MayTellSome cable x → Knows cable r →
     Knows cable (source_after_told s t x a r)
 unfolding MayTellSome
 told_knows cable s t None a r m h = h
@@ -301,7 +321,8 @@ off_knows : (cable : Option Cable) (s : SourceSettings) → Knows cable (off s)
 off_knows cable s = record { limit = off_limit (s.identity_tries == 0) cable; off = λ e. refl }
 
 -- a cable that is attached carries no less than none does
-kind_raises : (k : EventKind) (cable : Option Cable) (r : SourceRecord) → pulls_out k && is_some cable ≡ false → Knows cable r → Knows (cable_with k cable) r
+kind_raises : (k : EventKind) (cable : Option Cable) (r : SourceRecord) → pulls_out k && is_some cable ≡ false →
+    Knows cable r → Knows (cable_with k cable) r
 kind_raises Detach None r e h = h
 kind_raises Detach (Some c) r e h = absurd (cc)
 kind_raises (Attach cable device) None r e h =
@@ -311,14 +332,17 @@ kind_raises (Attach cable device) None r e h =
 kind_raises (Attach cable device) (Some c) r e h = h
 kind_raises k cable r e h = h
 
-port_knows : (c : Bool) (s : SettingsData) (r : PortRecord) (at id t : ℕ) (k : EventKind) (a : Option Answer) → pulls_out k && is_some r.cable ≡ c → KnowsCable r →
+port_knows : (c : Bool) (s : SettingsData) (r : PortRecord) (at id t : ℕ) (k : EventKind) (a : Option Answer) →
+    pulls_out k && is_some r.cable ≡ c → KnowsCable r →
     let x = what.Event (record { at = at; happening = Port id k }) in
-    Knows (cable_with k r.cable) (if c then off (source_settings s) else source_after_told (source_settings s) t (source_told x (whole s r)) a r.source)
+    Knows (cable_with k r.cable) (if c then off (source_settings s)
+    else source_after_told (source_settings s) t (source_told x (whole s r)) a r.source)
 port_knows true s r at id t k a e h = off_knows (cable_with k r.cable) (source_settings s)
 port_knows false s r at id t k a e h =
     let x = what.Event (record { at = at; happening = Port id k }) in
     let old : Knows r.cable r.source = record { limit = h.limit; off = h.off } in
-    told_knows (cable_with k r.cable) (source_settings s) t (source_told x (whole s r)) a r.source (source_fits s r x h.told) (kind_raises k r.cable r.source e old)
+    told_knows (cable_with k r.cable) (source_settings s) t (source_told x (whole s r)) a r.source
+    (source_fits s r x h.told) (kind_raises k r.cable r.source e old)
 
 event_knows : (s : SettingsData) (r : PortRecord) (at : ℕ) (x : Happening) (t : ℕ) (a : Option Answer) → KnowsCable r →
     Knows (cable_by x r.cable) (source_after s r (record { time = t; what = what.Event (record { at = at; happening = x }) }) a)
@@ -326,13 +350,16 @@ event_knows s r at (Port id k) t a h = port_knows (pulls_out k && is_some r.cabl
 event_knows s r at Budget t a h =
     told_knows r.cable (source_settings s) t (told_if_shed a) None r.source (shed_fits r.cable a) (record { limit = h.limit; off = h.off })
 
-source_knows : (s : SettingsData) (r : PortRecord) (x : What) (t : ℕ) (a : Option Answer) → KnowsCable r → Knows (cable_after x r.cable) (source_after s r (record { time = t; what = x }) a)
+source_knows : (s : SettingsData) (r : PortRecord) (x : What) (t : ℕ) (a : Option Answer) → KnowsCable r →
+    Knows (cable_after x r.cable) (source_after s r (record { time = t; what = x }) a)
 source_knows s r (what.Event e) t a h = event_knows s r e.at e.happening t a h
 source_knows s r what.Line t a h =
-    told_knows r.cable (source_settings s) t (source_told what.Line (whole s r)) a r.source (source_fits s r what.Line h.told) (record { limit = h.limit; off = h.off })
+    told_knows r.cable (source_settings s) t (source_told what.Line (whole s r)) a r.source
+    (source_fits s r what.Line h.told) (record { limit = h.limit; off = h.off })
 source_knows s r (what.Timer side timer) t a h =
     let x = what.Timer side timer in
-    told_knows r.cable (source_settings s) t (source_told x (whole s r)) a r.source (source_fits s r x h.told) (record { limit = h.limit; off = h.off })
+    told_knows r.cable (source_settings s) t (source_told x (whole s r)) a r.source (source_fits s r x h.told)
+    (record { limit = h.limit; off = h.off })
 
 start_knows : (s : SettingsData) → KnowsCable (detached s)
 unfolding detached nothing_attached layer.fresh
@@ -347,7 +374,9 @@ step_keeps : (s : SettingsData) (r : PortRecord) (d : Due) (a : Option Answer) �
 step_keeps s r d a h =
     let n = record_after s r d a in
     let t = told_after s r d a h.told in
-    let k : Knows (cable_after d.what r.cable) n.source = subst (Knows (cable_after d.what r.cable)) (sym (record_after-source s r d a)) (source_knows s r d.what d.time a h) in
+    let k : Knows (cable_after d.what r.cable) n.source =
+    subst (Knows (cable_after d.what r.cable)) (sym (record_after-source s r d a))
+    (source_knows s r d.what d.time a h) in
     let now : Knows n.cable n.source = subst (λ (c : Option Cable). Knows c n.source) (sym t.attached) k in
     record { limit = now.limit; off = now.off; told = subst (λ (c : Option Cable). TellsOfCable c (wire n)) (sym t.attached) t }
 

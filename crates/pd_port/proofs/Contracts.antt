@@ -19,7 +19,8 @@ same_power a b h =
     let current : a.ma ≡ b.ma = grind (arith, nat_tests) in
     ap (λ n. n * a.ma) voltage ∙ ap (λ n. b.mv * n) current
 
-told_both : (a b : Contract) (same : Bool) → is_same_draw a b ≡ same → power_after (if same then None else Some (Made b)) (a.mv * a.ma) ≡ b.mv * b.ma
+told_both : (a b : Contract) (same : Bool) → is_same_draw a b ≡ same → power_after (if same then None
+    else Some (Made b)) (a.mv * a.ma) ≡ b.mv * b.ma
 told_both a b true h = same_power a b h
 told_both a b false h = refl
 
@@ -30,7 +31,8 @@ change_told (Some a) None = refl
 change_told None (Some b) = refl
 change_told (Some a) (Some b) = told_both a b (is_same_draw a b) refl
 
-after_told : (s : SettingsData) (r : PortRecord) (d : Due) (given : Option Answer) → power_after (entry_of s r d given).contract (contract_power r) ≡ contract_power (record_after s r d given)
+after_told : (s : SettingsData) (r : PortRecord) (d : Due) (given : Option Answer) →
+    power_after (entry_of s r d given).contract (contract_power r) ≡ contract_power (record_after s r d given)
 unfolding entry_of record_after
 after_told s r d given = change_told r.source.contract (portstep (whole s r) d given).port.source.record.contract
 

@@ -1,5 +1,6 @@
 -- What falls due next is the earliest of the dues.
-use Rattle.std.proofs.Common.{◌≡◌, ◌⊎◌, ℕ, ◌≤◌, Bool, true, false, nat_lt, ◌==◌, ◌||◌, ◌&&◌, if◌then◌else◌, List, [], ◌∷◌, Option, Some, None, refl, ◌∙◌, ap, inl, inr, sym, arith}
+use Rattle.std.proofs.Common.{◌≡◌, ◌⊎◌, ℕ, ◌≤◌, Bool, true, false, nat_lt, ◌==◌, ◌||◌, ◌&&◌, if◌then◌else◌, List, [], ◌∷◌}
+use Rattle.std.proofs.Common.{Option, Some, None, refl, ◌∙◌, ap, inl, inr, sym, arith}
 use Rattle.std.proofs.lemmas.Bool.Decides.{nat_tests}
 use Rattle.pd_line.specs.Record.{PortRecord}
 use Rattle.pd_port.specs.declared.due.Due.{Due}
@@ -97,6 +98,7 @@ unfolding due
 due-IsEarliest r next d e = earliest-IsEarliest (dues r next) d e
 
 -- where something is due, something falls due that it isn't before
-pub some_due : (r : PortRecord) (next : Option EventData) (c : Due) → IsOneOf c (dues r next) → (d : Due) × (due r next ≡ Some d) × (is_before c d ≡ false)
+pub some_due : (r : PortRecord) (next : Option EventData) (c : Due) → IsOneOf c (dues r next) →
+    (d : Due) × (due r next ≡ Some d) × (is_before c d ≡ false)
 unfolding due
 some_due r next c h = beaten (dues r next) c h

@@ -31,7 +31,8 @@ use Rattle.pd_port.specs.declared.due.Due.{Due}
 use Rattle.pd_port.specs.declared.due.What.{What}
 use Rattle.pd_port.specs.declared.due.What.TheVariants as what
 use Rattle.pd_port.specs.Laws.{without}
-use Rattle.pd_port.specs.Happens.{detaches, disturbs, gets_source, gets_sink, happens_attached, happens_detached, shed, budget_changes, event_happens}
+use Rattle.pd_port.specs.Happens.{detaches, disturbs, gets_source, gets_sink, happens_attached, happens_detached, shed}
+use Rattle.pd_port.specs.Happens.{budget_changes, event_happens}
 use Rattle.pd_port.specs.Port.{happens, begun, portstep, whole, record_after}
 
 -- nothing runs on a detached port
@@ -41,13 +42,19 @@ detaches_leads t w =
     let a = times w.port in
     record {
       settings_are = refl;
-      later = record { source = SetsLater-idle t a.source; sink = SetsLater-idle t a.sink; plug = SetsLater-idle t a.plug; line = λ at e. absurd (cc) };
+      later = record {
+        source = SetsLater-idle t a.source;
+        sink = SetsLater-idle t a.sink;
+        plug = SetsLater-idle t a.plug;
+        line = λ at e. absurd (cc);
+      };
     }
 
 disturbs_leads : (id : ℕ) (d : Disturbance) (t : ℕ) (w : PortStep) → LeadsOn t w (disturbs id d w)
 unfolding disturbs
 disturbs_leads id d t w =
-    let waits : PortStep → PortStep = λ z. with_port (record z.port { disturbances = record { items = z.port.disturbances.items ++ d ∷ [] } }) z in
+    let waits : PortStep → PortStep =
+    λ z. with_port (record z.port { disturbances = record { items = z.port.disturbances.items ++ d ∷ [] } }) z in
     choice t (leads t) (nat_lt (length w.port.disturbances.items) 8) waits (noted (Ignored id)) w
     (record { settings_are = refl; later = later_kept t (times w.port) }) (noted_kept t (leads t) (Ignored id) w)
 
@@ -83,7 +90,8 @@ shed_leads a t w = record { settings_are = refl; later = later_kept t (times w.p
 event_leads : (h : Happening) (t : ℕ) (w : PortStep) → LeadsOn t w (event_happens h t w)
 unfolding budget_changes
 event_leads (Port id k) t w =
-    choice t (leads t) (is_some w.port.cable) (happens_attached id k t) (happens_detached id k t) w (attached_leads id k t w) (detached_leads id k t w)
+    choice t (leads t) (is_some w.port.cable) (happens_attached id k t) (happens_detached id k t) w
+    (attached_leads id k t w) (detached_leads id k t w)
 event_leads Budget t w = shed_leads w.answer t w
 
 timer_leads : (side : Side) (timer : Timer) (t : ℕ) (w : PortStep) →

@@ -1,8 +1,11 @@
 -- How many deadlines are pending.
-use Rattle.std.proofs.Common.{◌≡◌, ◌⊎◌, ℕ, ◌<◌, ◌≤◌, zero, suc, length, List, [], ◌∷◌, Option, Some, None, refl, sym, inl, inr, get_or, set, arith}
+use Rattle.std.proofs.Common.{◌≡◌, ◌⊎◌, ℕ, ◌<◌, ◌≤◌, zero, suc, length, List, [], ◌∷◌, Option, Some, None, refl, sym, inl, inr}
+use Rattle.std.proofs.Common.{get_or, set, arith}
 use Rattle.std.proofs.lemmas.Bool.Decides.{nat_tests}
 use Rattle.pd_timers.specs.declared.Timer.{Timer}
-use Rattle.pd_timers.specs.declared.Timer.TheVariants.{Delay, SenderResponse, VdmResponse, SourceCapability, SinkWaitCap, DiscoverIdentity, SrcTransition, Settling, PsTransition, PsHardReset, SrcRecover, TurnOn, SinkRequest, OfferPoll}
+use Rattle.pd_timers.specs.declared.Timer.TheVariants.{Delay, SenderResponse, VdmResponse, SourceCapability, SinkWaitCap}
+use Rattle.pd_timers.specs.declared.Timer.TheVariants.{DiscoverIdentity, SrcTransition, Settling, PsTransition, PsHardReset}
+use Rattle.pd_timers.specs.declared.Timer.TheVariants.{SrcRecover, TurnOn, SinkRequest, OfferPoll}
 use Rattle.pd_timers.specs.Timers.{place}
 use Rattle.pd_timers.specs.Deadlines.{timers, deadline, stopped, SetsLater}
 use Rattle.pd_line.specs.Later.{Times, KeptOrLater, Later}

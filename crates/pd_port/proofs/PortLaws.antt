@@ -30,11 +30,13 @@ use Rattle.pd_port.specs.Budget.{contract_power}
 use Rattle.pd_port.specs.Laws.{NotBefore, pending_at, pending, without, IsOneOf, IsEarliest, source_after_told}
 use Rattle.pd_port.specs.Happens.{is_budget, is_detach}
 use Rattle.pd_port.specs.SourceTold.{source_told, told_if_shed}
-use Rattle.pd_port.specs.Port.{is_event, event_due, line_due, timer_due, dues, due, detached, source_settings, whole, ask, asks, record_after, hold}
+use Rattle.pd_port.specs.Port.{is_event, event_due, line_due, timer_due, dues, due, detached, source_settings, whole, ask, asks}
+use Rattle.pd_port.specs.Port.{record_after, hold}
 use Rattle.pd_port.proofs.Earliest.{is_before-time, due-IsEarliest}
 use Rattle.pd_port.proofs.Asked.{record_after-source}
 use Rattle.pd_port.proofs.Later.{record_after-later}
-use Rattle.pd_port.proofs.Pending.{stopped-later, pending_at-few, pending_at-falls, pending_at-line, pending_at-source, pending_at-sink, pending_at-plug}
+use Rattle.pd_port.proofs.Pending.{stopped-later, pending_at-few, pending_at-falls, pending_at-line, pending_at-source}
+use Rattle.pd_port.proofs.Pending.{pending_at-sink, pending_at-plug}
 
 -- a deadline that is the first one runs
 pub first_runs : (d : List (Option ℕ)) (at : ℕ) (timer : Timer) → first_of d ≡ Some (at, timer) → deadline d timer ≡ Some at
@@ -51,7 +53,8 @@ no_later : (a b : ℕ) (P : Type 0) → (a < b) ⊎ ((a ≡ b) × P) → a ≤ b
 no_later a b P (inl h) = omega arith
 no_later a b P (inr h) = let e = h.0 in omega arith
 
-has_first : (d : List (Option ℕ)) (u : Timer) (at : ℕ) → deadline d u ≡ Some at → (f : Option (ℕ × Timer)) → first_of d ≡ f → IsFirst d f → HasFirst d at
+has_first : (d : List (Option ℕ)) (u : Timer) (at : ℕ) → deadline d u ≡ Some at → (f : Option (ℕ × Timer)) →
+    first_of d ≡ f → IsFirst d f → HasFirst d at
 has_first d u at e None g h = absurd (let n = h u in let x : None ≡ Some at = sym n ∙ e in cc)
 has_first d u at e (Some (time, timer)) g h = record { time = time; timer = timer; first = g; sooner = no_later time at _ (h.1 u at e) }
 
@@ -74,12 +77,14 @@ event_none r None d h = tt
 event_none r (Some e) d h =
     let c : Due = record { time = e.at; what = what.Event e } in timed_before d c (dues r (Some e)) h (inl refl)
 
-line_none : (r : PortRecord) (next : Option EventData) (d : Due) (at : ℕ) → IsEarliest d (dues r next) → line_end r.line ≡ Some at → d.time ≤ at
+line_none : (r : PortRecord) (next : Option EventData) (d : Due) (at : ℕ) → IsEarliest d (dues r next) →
+    line_end r.line ≡ Some at → d.time ≤ at
 line_none r next d at h e =
     let c : Due = record { time = at; what = what.Line } in
     timed_before d c (dues r next) h (inr (inl (ap line_due e)))
 
-source_none : (r : PortRecord) (next : Option EventData) (d : Due) (u : Timer) (at : ℕ) → IsEarliest d (dues r next) → deadline r.source.deadlines u ≡ Some at → d.time ≤ at
+source_none : (r : PortRecord) (next : Option EventData) (d : Due) (u : Timer) (at : ℕ) → IsEarliest d (dues r next) →
+    deadline r.source.deadlines u ≡ Some at → d.time ≤ at
 source_none r next d u at h e =
     let f = some_first r.source.deadlines u at e in
     let c : Due = record { time = f.time; what = what.Timer Source f.timer } in
@@ -87,7 +92,8 @@ source_none r next d u at h e =
     let s = f.sooner in
     omega arith
 
-sink_none : (r : PortRecord) (next : Option EventData) (d : Due) (u : Timer) (at : ℕ) → IsEarliest d (dues r next) → deadline r.sink.deadlines u ≡ Some at → d.time ≤ at
+sink_none : (r : PortRecord) (next : Option EventData) (d : Due) (u : Timer) (at : ℕ) → IsEarliest d (dues r next) →
+    deadline r.sink.deadlines u ≡ Some at → d.time ≤ at
 sink_none r next d u at h e =
     let f = some_first r.sink.deadlines u at e in
     let c : Due = record { time = f.time; what = what.Timer Sink f.timer } in
@@ -95,7 +101,8 @@ sink_none r next d u at h e =
     let s = f.sooner in
     omega arith
 
-plug_none : (r : PortRecord) (next : Option EventData) (d : Due) (u : Timer) (at : ℕ) → IsEarliest d (dues r next) → deadline r.plug.deadlines u ≡ Some at → d.time ≤ at
+plug_none : (r : PortRecord) (next : Option EventData) (d : Due) (u : Timer) (at : ℕ) → IsEarliest d (dues r next) →
+    deadline r.plug.deadlines u ≡ Some at → d.time ≤ at
 plug_none r next d u at h e =
     let f = some_first r.plug.deadlines u at e in
     let c : Due = record { time = f.time; what = what.Timer Plug f.timer } in
@@ -134,7 +141,8 @@ pending_without : (x : What) (a : Times) (t : ℕ) → pending_at (without x a) 
 pending_without x a t = pending_at-falls t a (without x a) (without_later x t a)
 
 -- a step for an event leaves no more of them
-pub pending_event : (s : SettingsData) (r : PortRecord) (d : Due) (a : Option Answer) → pending (record_after s r d a) d.time ≤ pending r d.time
+pub pending_event : (s : SettingsData) (r : PortRecord) (d : Due) (a : Option Answer) →
+    pending (record_after s r d a) d.time ≤ pending r d.time
 unfolding pending
 pending_event s r d a =
     let h = pending_at-falls d.time (without d.what (times_of r)) (times_of (record_after s r d a)) (record_after-later s r d a) in
@@ -167,7 +175,8 @@ source_case a None d f e = absurd (let x : None ≡ Some d = e in cc)
 source_case a (Some (time, timer)) d f e =
     let c : Due = record { time = time; what = what.Timer Source timer } in
     let same : c ≡ d = cc in
-    subst (λ (x : Due). pending_at (without x.what a) x.time < pending_at a x.time) same (pending_at-source time a timer (first_runs a.source time timer f))
+    subst (λ (x : Due). pending_at (without x.what a) x.time < pending_at a x.time) same
+    (pending_at-source time a timer (first_runs a.source time timer f))
 
 sink_case : (a : Times) (o : Option (ℕ × Timer)) (d : Due) → first_of a.sink ≡ o → timer_due Sink o ≡ Some d → Falls a d
 unfolding Falls
@@ -175,7 +184,8 @@ sink_case a None d f e = absurd (let x : None ≡ Some d = e in cc)
 sink_case a (Some (time, timer)) d f e =
     let c : Due = record { time = time; what = what.Timer Sink timer } in
     let same : c ≡ d = cc in
-    subst (λ (x : Due). pending_at (without x.what a) x.time < pending_at a x.time) same (pending_at-sink time a timer (first_runs a.sink time timer f))
+    subst (λ (x : Due). pending_at (without x.what a) x.time < pending_at a x.time) same (pending_at-sink time a timer
+    (first_runs a.sink time timer f))
 
 plug_case : (a : Times) (o : Option (ℕ × Timer)) (d : Due) → first_of a.plug ≡ o → timer_due Plug o ≡ Some d → Falls a d
 unfolding Falls
@@ -183,7 +193,8 @@ plug_case a None d f e = absurd (let x : None ≡ Some d = e in cc)
 plug_case a (Some (time, timer)) d f e =
     let c : Due = record { time = time; what = what.Timer Plug timer } in
     let same : c ≡ d = cc in
-    subst (λ (x : Due). pending_at (without x.what a) x.time < pending_at a x.time) same (pending_at-plug time a timer (first_runs a.plug time timer f))
+    subst (λ (x : Due). pending_at (without x.what a) x.time < pending_at a x.time) same (pending_at-plug time a timer
+    (first_runs a.plug time timer f))
 
 due_pending : (r : PortRecord) (next : Option EventData) (d : Due) → IsOneOf d (dues r next) → is_event d.what ≡ false →
     pending_at (without d.what (times_of r)) d.time < pending_at (times_of r) d.time
@@ -209,7 +220,8 @@ pending_timer s r next d a e n =
 pub due_first : (r : PortRecord) (next : Option EventData) (d : Due) → due r next ≡ Some d → NotBefore d.time next
 due_first r next d e = (none_before r next d (due-IsEarliest r next d e)).event
 
-event_is : (next : Option EventData) (d : Due) (e : EventData) → event_due next ≡ Some d → d.what ≡ what.Event e → (next ≡ Some e) × (d.time ≡ e.at)
+event_is : (next : Option EventData) (d : Due) (e : EventData) → event_due next ≡ Some d → d.what ≡ what.Event e →
+    (next ≡ Some e) × (d.time ≡ e.at)
 event_is None d e h w = absurd (let x : None ≡ Some d = h in cc)
 event_is (Some ev) d e h w =
     let c : Due = record { time = ev.at; what = what.Event ev } in
@@ -234,7 +246,8 @@ not_timer side (Some (time, timer)) d e h w =
     let k : what.Timer side timer ≡ what.Event e = ap (λ (x : Due). x.what) same ∙ w in
     cc
 
-event_one : (r : PortRecord) (next : Option EventData) (d : Due) (e : EventData) → IsOneOf d (dues r next) → d.what ≡ what.Event e → (next ≡ Some e) × (d.time ≡ e.at)
+event_one : (r : PortRecord) (next : Option EventData) (d : Due) (e : EventData) → IsOneOf d (dues r next) →
+    d.what ≡ what.Event e → (next ≡ Some e) × (d.time ≡ e.at)
 event_one r next d e (inl h) w = event_is next d e h w
 event_one r next d e (inr (inl h)) w = absurd (not_line (line_end r.line) d e h w)
 event_one r next d e (inr (inr (inl h))) w = absurd (not_timer Source _ d e h w)
@@ -243,7 +256,8 @@ event_one r next d e (inr (inr (inr (inr (inl h))))) w = absurd (not_timer Plug 
 event_one r next d e (inr (inr (inr (inr (inr h))))) w = absurd h
 
 -- a due for an event is for the next one
-pub due_event : (r : PortRecord) (next : Option EventData) (d : Due) (e : EventData) → due r next ≡ Some d → d.what ≡ what.Event e → (next ≡ Some e) × (d.time ≡ e.at)
+pub due_event : (r : PortRecord) (next : Option EventData) (d : Due) (e : EventData) → due r next ≡ Some d →
+    d.what ≡ what.Event e → (next ≡ Some e) × (d.time ≡ e.at)
 due_event r next d e h w = event_one r next d e (due-IsEarliest r next d h).one w
 
 event_after : (t : ℕ) (next : Option EventData) (f : Due) → NotBefore t next → event_due next ≡ Some f → t ≤ f.time
@@ -288,7 +302,8 @@ timer_after t side d (Some (time, timer)) f n g e =
     let same : c ≡ f = cc in
     subst (λ (x : Due). t ≤ x.time) same (n timer time (first_runs d time timer g))
 
-after_one : (t : ℕ) (q : PortRecord) (next : Option EventData) (f : Due) → NotBefore t next → NoneOf t (times_of q) → IsOneOf f (dues q next) → t ≤ f.time
+after_one : (t : ℕ) (q : PortRecord) (next : Option EventData) (f : Due) → NotBefore t next → NoneOf t (times_of q) →
+    IsOneOf f (dues q next) → t ≤ f.time
 after_one t q next f n k (inl h) = event_after t next f n h
 after_one t q next f n k (inr (inl h)) = line_after t (line_end q.line) f k.line h
 after_one t q next f n k (inr (inr (inl h))) = timer_after t Source q.source.deadlines _ f k.source refl h
@@ -297,7 +312,8 @@ after_one t q next f n k (inr (inr (inr (inr (inl h))))) = timer_after t Plug q.
 after_one t q next f n k (inr (inr (inr (inr (inr h))))) = absurd h
 
 -- what falls due after a step isn't before it
-pub due_later : (s : SettingsData) (r : PortRecord) (now : Option EventData) (d : Due) (a : Option Answer) (next : Option EventData) (f : Due) →
+pub due_later : (s : SettingsData) (r : PortRecord) (now : Option EventData) (d : Due) (a : Option Answer)
+    (next : Option EventData) (f : Due) →
     due r now ≡ Some d → NotBefore d.time next → due (record_after s r d a) next ≡ Some f → d.time ≤ f.time
 due_later s r now d a next f e n g =
     let q = record_after s r d a in
@@ -328,7 +344,8 @@ hold_contract s r =
 
 -- a hold comes to no more than is free, or than it was, where an answer is allowed
 fits_told : (s : SourceSettings) (r : SourceRecord) (floor free t : ℕ) (x : Option Stimulus) (a : Option Answer) →
-    IsAllowed free (option_and_then (λ y. query_of s y r) x) a → hold_of s floor (source_after_told s t x a r) ≤ max free (hold_of s floor r)
+    IsAllowed free (option_and_then (λ y. query_of s y r) x) a → hold_of s floor (source_after_told s t x a r)
+    ≤ max free (hold_of s floor r)
 fits_told s r floor free t None a i = omega arith
 fits_told s r floor free t (Some x) a i = hold_of-allowed s floor free t x a r i
 
@@ -336,13 +353,15 @@ fits_told s r floor free t (Some x) a i = hold_of-allowed s floor free t x a r i
 fits_shed : (s : SourceSettings) (r : SourceRecord) (floor free t : ℕ) (a : Option Answer) →
     hold_of s floor (source_after_told s t (told_if_shed a) None r) ≤ max free (hold_of s floor r)
 fits_shed s r floor free t (Some (answers.Fits false)) =
-    let less : hold_of s floor (source_after_told s t (Some told.Shed) None r) ≤ hold_of s floor r = hold_of-None s floor (hold_of s floor r) t told.Shed r (omega arith) in omega arith
+    let less : hold_of s floor (source_after_told s t (Some told.Shed) None r) ≤ hold_of s floor r =
+    hold_of-None s floor (hold_of s floor r) t told.Shed r (omega arith) in omega arith
 fits_shed s r floor free t a = omega arith
 
 -- a detached port's hold is its floor
 fits_off : (b : Bool) (s : SettingsData) (r new : SourceRecord) (f : ℕ) →
     hold_of (source_settings s) (floor_of s) new ≤ max f (hold_of (source_settings s) (floor_of s) r) →
-    hold_of (source_settings s) (floor_of s) (if b then off (source_settings s) else new) ≤ max f (hold_of (source_settings s) (floor_of s) r)
+    hold_of (source_settings s) (floor_of s) (if b then off (source_settings s) else new)
+    ≤ max f (hold_of (source_settings s) (floor_of s) r)
 fits_off true s r new f k =
     let least = hold_of-floor (source_settings s) (floor_of s) r in
     let e = hold_of-off (source_settings s) (floor_of s) in
@@ -354,7 +373,8 @@ by_budget : (b : Bool) (s : SettingsData) (r : PortRecord) (d : Due) (x : Option
     hold_of (source_settings s) (floor_of s)
     (if b then source_after_told (source_settings s) d.time (told_if_shed x) None r.source
     else (if is_detach d.what && is_some r.cable then off (source_settings s)
-    else source_after_told (source_settings s) d.time (source_told d.what (whole s r)) x r.source)) ≤ max f (hold_of (source_settings s) (floor_of s) r.source)
+    else source_after_told (source_settings s) d.time (source_told d.what (whole s r)) x r.source))
+    ≤ max f (hold_of (source_settings s) (floor_of s) r.source)
 by_budget true s r d x f i = fits_shed (source_settings s) r.source (floor_of s) f d.time x
 by_budget false s r d x f i =
     fits_off (is_detach d.what && is_some r.cable) s r.source _ f
@@ -365,5 +385,6 @@ pub hold_fits : (s : SettingsData) (r : PortRecord) (d : Due) (x : Option Answer
     hold s (record_after s r d x) ≤ max f (hold s r)
 unfolding hold ask
 hold_fits s r d x f i =
-    subst (λ (n : SourceRecord). hold_of (source_settings s) (floor_of s) n ≤ max f (hold_of (source_settings s) (floor_of s) r.source)) (sym (record_after-source s r d x))
+    subst (λ (n : SourceRecord). hold_of (source_settings s) (floor_of s) n
+    ≤ max f (hold_of (source_settings s) (floor_of s) r.source)) (sym (record_after-source s r d x))
     (by_budget (is_budget d.what) s r d x f i)

@@ -1,5 +1,6 @@
 -- A port that sheds holds its floor alone, to the end of that instant.
-use Rattle.std.proofs.Common.{◌≡◌, ℕ, ◌&&◌, Bool, true, false, if◌then◌else◌, is_some, List, [], ◌∷◌, Option, Some, None, refl, sym, ap, ◌∙◌, subst, inl, inr}
+use Rattle.std.proofs.Common.{◌≡◌, ℕ, ◌&&◌, Bool, true, false, if◌then◌else◌, is_some, List, [], ◌∷◌, Option, Some, None, refl}
+use Rattle.std.proofs.Common.{sym, ap, ◌∙◌, subst, inl, inr}
 use Rattle.pd_header.specs.declared.side.Side.{Side}
 use Rattle.pd_header.specs.declared.side.Side.TheVariants.{Source, Sink, Plug}
 use Rattle.pd_header.specs.declared.kind.Kind.{Kind}
@@ -38,7 +39,9 @@ use Rattle.pd_port.specs.declared.due.What.TheVariants as what
 use Rattle.pd_port.specs.Budget.{RestsEmpty}
 use Rattle.pd_port.specs.Happens.{is_budget, is_detach}
 use Rattle.pd_port.specs.Laws.{IsOneOf, source_after_told}
-use Rattle.pd_port.specs.SourceTold.{told_if_sent, told_if_up, told_if_failed, told_of_good_crc, told_at_good_crc, told_at_time_out, told_of_reset, told_by_line, told_attached, told_detached, told_by_event, source_told, told_if_shed}
+use Rattle.pd_port.specs.SourceTold.{told_if_sent, told_if_up, told_if_failed, told_of_good_crc, told_at_good_crc}
+use Rattle.pd_port.specs.SourceTold.{told_at_time_out, told_of_reset, told_by_line, told_attached, told_detached, told_by_event}
+use Rattle.pd_port.specs.SourceTold.{source_told, told_if_shed}
 use Rattle.pd_port.specs.Port.{PortRecord, line_due, timer_due, dues, due, source_settings, whole, record_after, hold}
 use Rattle.pd_port.specs.Sheds.{HoldsFloorAlone, ShedsLast}
 use Rattle.pd_port.proofs.Asked.{record_after-source}
@@ -137,7 +140,8 @@ shed_ends a = tt
 
 -- ---- a timer of the source that falls due runs to that time
 
-timer_is : (side : Side) (o : Option (ℕ × Timer)) (d : Due) (timer : Timer) → timer_due side o ≡ Some d → d.what ≡ what.Timer Source timer → (side ≡ Source) × (o ≡ Some (d.time, timer))
+timer_is : (side : Side) (o : Option (ℕ × Timer)) (d : Due) (timer : Timer) → timer_due side o ≡ Some d →
+    d.what ≡ what.Timer Source timer → (side ≡ Source) × (o ≡ Some (d.time, timer))
 timer_is side None d timer h w = absurd (let x : None ≡ Some d = h in cc)
 timer_is side (Some (at, u)) d timer h w =
     let c : Due = record { time = at; what = what.Timer side u } in
@@ -148,7 +152,8 @@ timer_is side (Some (at, u)) d timer h w =
     let f : Some (at, u) ≡ Some (d.time, timer) = cc in
     (cc, f)
 
-timer_one : (r : PortRecord) (next : Option EventData) (d : Due) (timer : Timer) → IsOneOf d (dues r next) → d.what ≡ what.Timer Source timer → first_of r.source.deadlines ≡ Some (d.time, timer)
+timer_one : (r : PortRecord) (next : Option EventData) (d : Due) (timer : Timer) → IsOneOf d (dues r next) →
+    d.what ≡ what.Timer Source timer → first_of r.source.deadlines ≡ Some (d.time, timer)
 timer_one r None d timer (inl h) w = absurd (let x : None ≡ Some d = h in cc)
 timer_one r (Some e) d timer (inl h) w =
     let c : Due = record { time = e.at; what = what.Event e } in
@@ -170,7 +175,8 @@ timer_one r next d timer (inr (inr (inr (inr (inl h))))) w =
     let x : Plug ≡ Source = (timer_is Plug (first_of r.plug.deadlines) d timer h w).0 in absurd (cc)
 timer_one r next d timer (inr (inr (inr (inr (inr h))))) w = absurd h
 
-due_source : (r : PortRecord) (next : Option EventData) (d : Due) (timer : Timer) → due r next ≡ Some d → d.what ≡ what.Timer Source timer → deadline r.source.deadlines timer ≡ Some d.time
+due_source : (r : PortRecord) (next : Option EventData) (d : Due) (timer : Timer) → due r next ≡ Some d →
+    d.what ≡ what.Timer Source timer → deadline r.source.deadlines timer ≡ Some d.time
 due_source r next d timer h w = first_runs r.source.deadlines d.time timer (timer_one r next d timer (due-IsEarliest r next d h).one w)
 
 -- ---- a silent source stays silent
@@ -180,16 +186,19 @@ unfolding ends
 ends_now t (told.Ended u) r h = absurd (cc)
 ends_now t x r h = tt
 
-told_silent : (s : SourceSettings) (t : ℕ) (x : Option Stimulus) (a : Option Answer) (r : SourceRecord) → EndsNone x → IsSilentAt t r → IsSilentAt t (source_after_told s t x a r)
+told_silent : (s : SourceSettings) (t : ℕ) (x : Option Stimulus) (a : Option Answer) (r : SourceRecord) → EndsNone x →
+    IsSilentAt t r → IsSilentAt t (source_after_told s t x a r)
 unfolding EndsNone
 told_silent s t None a r e h = h
 told_silent s t (Some x) a r e h = silent-stepped s t x a r (ends_now t x r e) h
 
-by_what : (s : SettingsData) (r : PortRecord) (d : Due) (a : Option Answer) (w : What) → ((timer : Timer) → w ≡ what.Timer Source timer → deadline r.source.deadlines timer ≡ Some d.time) →
+by_what : (s : SettingsData) (r : PortRecord) (d : Due) (a : Option Answer) (w : What) →
+    ((timer : Timer) → w ≡ what.Timer Source timer → deadline r.source.deadlines timer ≡ Some d.time) →
     IsSilentAt d.time r.source → IsSilentAt d.time (source_after_told (source_settings s) d.time (source_told w (whole s r)) a r.source)
 by_what s r d a (what.Event e) runs h = told_silent _ d.time _ a r.source (event_ends e.happening (whole s r)) h
 by_what s r d a what.Line runs h = told_silent _ d.time _ a r.source (line_ends r.line (whole s r)) h
-by_what s r d a (what.Timer Source timer) runs h = silent-stepped (source_settings s) d.time (told.Ended timer) a r.source (runs timer refl) h
+by_what s r d a (what.Timer Source timer) runs h =
+    silent-stepped (source_settings s) d.time (told.Ended timer) a r.source (runs timer refl) h
 by_what s r d a (what.Timer Sink timer) runs h = h
 by_what s r d a (what.Timer Plug timer) runs h = h
 
@@ -197,16 +206,19 @@ silent_either : (t : ℕ) (b : Bool) (x y : SourceRecord) → IsSilentAt t x →
 silent_either t true x y h k = h
 silent_either t false x y h k = k
 
-silent_after : (s : SettingsData) (r : PortRecord) (next : Option EventData) (d : Due) (a : Option Answer) → due r next ≡ Some d → IsSilentAt d.time r.source → IsSilentAt d.time (record_after s r d a).source
+silent_after : (s : SettingsData) (r : PortRecord) (next : Option EventData) (d : Due) (a : Option Answer) →
+    due r next ≡ Some d → IsSilentAt d.time r.source → IsSilentAt d.time (record_after s r d a).source
 silent_after s r next d a falls h =
     subst (IsSilentAt d.time) (sym (record_after-source s r d a))
     (silent_either d.time (is_budget d.what) _ _ (told_silent (source_settings s) d.time (told_if_shed a) None r.source (shed_ends a) h)
     (silent_either d.time (is_detach d.what && is_some r.cable) _ _ (silent-off (source_settings s) d.time)
     (by_what s r d a d.what (λ timer e. due_source r next d timer falls e) h)))
 
-silent_change : (s : SettingsData) (r : PortRecord) (d : Due) → is_budget d.what ≡ true → RestsEmpty r → IsSilentAt d.time (record_after s r d (Some (answers.Fits false))).source
+silent_change : (s : SettingsData) (r : PortRecord) (d : Due) → is_budget d.what ≡ true → RestsEmpty r →
+    IsSilentAt d.time (record_after s r d (Some (answers.Fits false))).source
 silent_change s r d e h =
-    subst (IsSilentAt d.time) (sym (source_of_budget s r d (Some (answers.Fits false)) e)) (silent-shed (source_settings s) d.time r.source h)
+    subst (IsSilentAt d.time) (sym (source_of_budget s r d (Some (answers.Fits false)) e))
+    (silent-shed (source_settings s) d.time r.source h)
 
 floor_alone : (s : SettingsData) (r : PortRecord) (t : ℕ) → IsSilentAt t r.source → HoldsFloorAlone s r
 unfolding hold

@@ -32,20 +32,26 @@ sound_start s = sound-off (source_settings s)
 
 -- a source that is told to shed asks nothing
 silent : (s : SourceSettings) (r : SourceRecord) (t : State) (a b c : Option Query) →
-    (if polls t (heard_of told.Shed) then a else (if decides t (heard_of told.Shed) then b else (if asks_offer (row_of (holds s None r) t (heard_of told.Shed)).next then c else None))) ≡ None
+    (if polls t (heard_of told.Shed) then a else (if decides t (heard_of told.Shed) then b
+    else (if asks_offer (row_of (holds s None r) t (heard_of told.Shed)).next then c else None))) ≡ None
 unfolding row_of
 silent s r state.Off a b c = refl
 silent s r _ a b c = refl
 
 shed_asks : (s : SourceSettings) (r : SourceRecord) → query_of s told.Shed r ≡ None
 unfolding query_of
-shed_asks s r = silent s r r.state (Some (offer_query s r.limit)) (fit_query s r) (Some (offer_query s (limit_after (deeds_at s told.Shed None r) told.Shed r.limit)))
+shed_asks s r =
+    silent s r r.state (Some (offer_query s r.limit)) (fit_query s r)
+    (Some (offer_query s (limit_after (deeds_at s told.Shed None r) told.Shed r.limit)))
 
-shed_sound : (s : SourceSettings) (t : ℕ) (a : Option Answer) (r : SourceRecord) → IsSound s r → IsSound s (source_after_told s t (told_if_shed a) None r)
-shed_sound s t (Some (answers.Fits false)) r h = sound-stepped s t told.Shed None r h (subst (λ (q : Option Query). IsAnswer s q None) (sym (shed_asks s r)) refl)
+shed_sound : (s : SourceSettings) (t : ℕ) (a : Option Answer) (r : SourceRecord) → IsSound s r →
+    IsSound s (source_after_told s t (told_if_shed a) None r)
+shed_sound s t (Some (answers.Fits false)) r h =
+    sound-stepped s t told.Shed None r h (subst (λ (q : Option Query). IsAnswer s q None) (sym (shed_asks s r)) refl)
 shed_sound s t _ r h = h
 
-told_sound : (s : SourceSettings) (t : ℕ) (x : Option Stimulus) (a : Option Answer) (r : SourceRecord) → IsSound s r → IsAnswer s (option_and_then (λ y. query_of s y r) x) a → IsSound s (source_after_told s t x a r)
+told_sound : (s : SourceSettings) (t : ℕ) (x : Option Stimulus) (a : Option Answer) (r : SourceRecord) → IsSound s r →
+    IsAnswer s (option_and_then (λ y. query_of s y r) x) a → IsSound s (source_after_told s t x a r)
 told_sound s t None a r h q = h
 told_sound s t (Some x) a r h q = sound-stepped s t x a r h q
 
@@ -64,44 +70,52 @@ by_budget false s r d a h q =
     either_sound (is_detach d.what && is_some r.cable) (source_settings s) _
     (told_sound (source_settings s) d.time (source_told d.what (whole s r)) a r.source h q)
 
-sound_after : (s : SettingsData) (r : PortRecord) (d : Due) (a : Option Answer) → IsSoundPort s r → IsAnswerTo s r d a → IsSoundPort s (record_after s r d a)
+sound_after : (s : SettingsData) (r : PortRecord) (d : Due) (a : Option Answer) → IsSoundPort s r →
+    IsAnswerTo s r d a → IsSoundPort s (record_after s r d a)
 unfolding ask
 sound_after s r d a h q = subst (IsSound (source_settings s)) (sym (record_after-source s r d a)) (by_budget (is_budget d.what) s r d a h q)
 
 -- offers are asked for on the port's supplies
-if_offer : (b : Bool) (s : SourceSettings) (l : Option ℕ) (supplies : ArrayVec SupplyData) (limit : ℕ) → (if b then Some (offer_query s l) else None) ≡ Some (query.Offer supplies limit) → supplies.items ≡ s.supplies
+if_offer : (b : Bool) (s : SourceSettings) (l : Option ℕ) (supplies : ArrayVec SupplyData) (limit : ℕ) →
+    (if b then Some (offer_query s l) else None) ≡ Some (query.Offer supplies limit) → supplies.items ≡ s.supplies
 if_offer true s l supplies limit e =
     let own : ArrayVec SupplyData = record { items = s.supplies } in
     let same : own ≡ supplies = cc in
     ap (λ (x : ArrayVec SupplyData). x.items) (sym same)
 if_offer false s l supplies limit e = absurd (cc)
 
-if_fits : (b : Bool) (n : ℕ) (supplies : ArrayVec SupplyData) (limit : ℕ) → (if b then Some (query.Fits n) else None) ≡ Some (query.Offer supplies limit) → ⊥
+if_fits : (b : Bool) (n : ℕ) (supplies : ArrayVec SupplyData) (limit : ℕ) → (if b then Some (query.Fits n) else None)
+    ≡ Some (query.Offer supplies limit) → ⊥
 if_fits true n supplies limit e = cc
 if_fits false n supplies limit e = cc
 
 by_query : (b c : Bool) (s : SourceSettings) (x : Stimulus) (r : SourceRecord) (supplies : ArrayVec SupplyData) (limit : ℕ) →
-    (if b then Some (offer_query s r.limit) else (if c then fit_query s r else row_query s x (before_row x r))) ≡ Some (query.Offer supplies limit) → supplies.items ≡ s.supplies
+    (if b then Some (offer_query s r.limit) else (if c then fit_query s r else row_query s x (before_row x r)))
+    ≡ Some (query.Offer supplies limit) → supplies.items ≡ s.supplies
 by_query true c s x r supplies limit e = if_offer true s r.limit supplies limit e
 by_query false true s x r supplies limit e = absurd (if_fits (is_request_valid r) _ supplies limit e)
 by_query false false s x r supplies limit e =
     let z = before_row x r in
     if_offer (asks_offer (row_at s x None z).next) s (limit_after (deeds_at s x None z) x z.limit) supplies limit e
 
-of_query : (s : SourceSettings) (x : Stimulus) (r : SourceRecord) (supplies : ArrayVec SupplyData) (limit : ℕ) → query_of s x r ≡ Some (query.Offer supplies limit) → supplies.items ≡ s.supplies
+of_query : (s : SourceSettings) (x : Stimulus) (r : SourceRecord) (supplies : ArrayVec SupplyData) (limit : ℕ) →
+    query_of s x r ≡ Some (query.Offer supplies limit) → supplies.items ≡ s.supplies
 unfolding query_of
 of_query s x r supplies limit e = by_query (polls r.state (heard_of x)) (decides r.state (heard_of x)) s x r supplies limit e
 
-of_told : (s : SourceSettings) (x : Option Stimulus) (r : SourceRecord) (supplies : ArrayVec SupplyData) (limit : ℕ) → option_and_then (λ y. query_of s y r) x ≡ Some (query.Offer supplies limit) → supplies.items ≡ s.supplies
+of_told : (s : SourceSettings) (x : Option Stimulus) (r : SourceRecord) (supplies : ArrayVec SupplyData) (limit : ℕ) →
+    option_and_then (λ y. query_of s y r) x ≡ Some (query.Offer supplies limit) → supplies.items ≡ s.supplies
 of_told s None r supplies limit e = absurd (cc)
 of_told s (Some x) r supplies limit e = of_query s x r supplies limit e
 
 of_ask : (b : Bool) (s : SettingsData) (r : PortRecord) (d : Due) (supplies : ArrayVec SupplyData) (limit : ℕ) →
-    (if b then Some (query.Keep (hold s r)) else asks (whole s r) (source_told d.what (whole s r))) ≡ Some (query.Offer supplies limit) → supplies.items ≡ s.supplies
+    (if b then Some (query.Keep (hold s r)) else asks (whole s r) (source_told d.what (whole s r)))
+    ≡ Some (query.Offer supplies limit) → supplies.items ≡ s.supplies
 of_ask true s r d supplies limit e = absurd (cc)
 of_ask false s r d supplies limit e = of_told (source_settings s) (source_told d.what (whole s r)) r.source supplies limit e
 
-on_supplies : (s : SettingsData) (r : PortRecord) (d : Due) (supplies : ArrayVec SupplyData) (limit : ℕ) → ask s r d ≡ Some (query.Offer supplies limit) → supplies.items ≡ s.supplies
+on_supplies : (s : SettingsData) (r : PortRecord) (d : Due) (supplies : ArrayVec SupplyData) (limit : ℕ) →
+    ask s r d ≡ Some (query.Offer supplies limit) → supplies.items ≡ s.supplies
 unfolding ask
 on_supplies s r d supplies limit e = of_ask (is_budget d.what) s r d supplies limit e
 

@@ -1,5 +1,6 @@
 -- What the line tells a port's source in a step, and that nothing else of the step reaches it.
-use Rattle.std.proofs.Common.{◌≡◌, ℕ, Bool, true, false, is_some, if◌then◌else◌, nat_lt, ◌++◌, [], ◌∷◌, length, Option, Some, None, option_and_then, refl, ◌∙◌, sym, ap, subst}
+use Rattle.std.proofs.Common.{◌≡◌, ℕ, Bool, true, false, is_some, if◌then◌else◌, nat_lt, ◌++◌, [], ◌∷◌, length, Option, Some}
+use Rattle.std.proofs.Common.{None, option_and_then, refl, ◌∙◌, sym, ap, subst}
 use Rattle.pd_symbols.specs.declared.channel.Channel.{Channel}
 use Rattle.pd_symbols.specs.declared.channel.Channel.TheVariants.{Sop, SopPrime}
 use Rattle.pd_header.specs.declared.side.Side.{Side}
@@ -39,18 +40,27 @@ use Rattle.pd_line.specs.declared.port_parts.Line.TheVariants.{Idle, Message, Pa
 use Rattle.pd_line.specs.declared.port_step.PortStep.{PortStep}
 use Rattle.pd_line.specs.Record.{without_settings, nothing_attached}
 use Rattle.pd_line.specs.Told.{sent_as, source_hears_as}
-use Rattle.pd_line.specs.PortStep.{with_port, noted, layer_on, on_layer, good_crc_on, timed_out_on, received_on, sink_steps, plug_steps, source_steps, tells_sent, tells_failed, tells_message, tells_reset, tells_timer, tells_attach}
-use Rattle.pd_line.specs.Lines.{with_line, receiver, hears, told_sent, acknowledged, told_message, goes_up, good_crc_ends, after_time_out, times_out, waiting_dropped, layers_reset, hears_reset, all_hear_reset, hard_reset_ends, line_ends_at, line_ends, line_starts}
-use Rattle.pd_line.proofs.Kept.{choice, noted_kept, sink_steps_kept, plug_steps_kept, tells_sent_kept, packet_starts_kept, good_crc_starts_kept, message_ends_kept, acknowledged_kept, goes_up_kept, times_out_kept, waiting_dropped_kept, layers_reset_kept, hears_reset_kept, attached_kept, line_starts_kept}
+use Rattle.pd_line.specs.PortStep.{with_port, noted, layer_on, on_layer, good_crc_on, timed_out_on, received_on, sink_steps}
+use Rattle.pd_line.specs.PortStep.{plug_steps, source_steps, tells_sent, tells_failed, tells_message, tells_reset, tells_timer}
+use Rattle.pd_line.specs.PortStep.{tells_attach}
+use Rattle.pd_line.specs.Lines.{with_line, receiver, hears, told_sent, acknowledged, told_message, goes_up, good_crc_ends}
+use Rattle.pd_line.specs.Lines.{after_time_out, times_out, waiting_dropped, layers_reset, hears_reset, all_hear_reset}
+use Rattle.pd_line.specs.Lines.{hard_reset_ends, line_ends_at, line_ends, line_starts}
+use Rattle.pd_line.proofs.Kept.{choice, noted_kept, sink_steps_kept, plug_steps_kept, tells_sent_kept, packet_starts_kept}
+use Rattle.pd_line.proofs.Kept.{good_crc_starts_kept, message_ends_kept, acknowledged_kept, goes_up_kept, times_out_kept}
+use Rattle.pd_line.proofs.Kept.{waiting_dropped_kept, layers_reset_kept, hears_reset_kept, attached_kept, line_starts_kept}
 use Rattle.pd_line.proofs.Parts.{OfSource, unanswered}
-use Rattle.pd_line.proofs.Source.{acknowledged_layer, line_layer, tells_timer_spares, Spares, SparesWith, spares, none, joins, on_layer_spares, source_steps_step, line_spares, sparing}
+use Rattle.pd_line.proofs.Source.{acknowledged_layer, line_layer, tells_timer_spares, Spares, SparesWith, spares, none, joins}
+use Rattle.pd_line.proofs.Source.{on_layer_spares, source_steps_step, line_spares, sparing}
 use Rattle.pd_port.specs.declared.due.Due.{Due}
 use Rattle.pd_port.specs.declared.due.What.{What}
 use Rattle.pd_port.specs.declared.due.What.TheVariants as what
 use Rattle.pd_port.specs.declared.entry.Entry.{Entry}
 use Rattle.pd_port.specs.Laws.{source_after_told, source_after}
 use Rattle.pd_port.specs.Happens.{detaches, disturbs, gets_source, gets_sink, happens_attached, happens_detached, shed, budget_changes}
-use Rattle.pd_port.specs.SourceTold.{source_layer, told_if_sent, told_if_up, told_if_failed, told_of_good_crc, told_at_good_crc, told_at_time_out, told_of_reset, told_by_line, told_attached, told_detached, source_told, told_if_shed}
+use Rattle.pd_port.specs.SourceTold.{source_layer, told_if_sent, told_if_up, told_if_failed, told_of_good_crc, told_at_good_crc}
+use Rattle.pd_port.specs.SourceTold.{told_at_time_out, told_of_reset, told_by_line, told_attached, told_detached, source_told}
+use Rattle.pd_port.specs.SourceTold.{told_if_shed}
 use Rattle.pd_port.specs.Changes.{contract_change}
 use Rattle.pd_port.specs.Port.{PortRecord, happens, begun, portstep, whole, source_settings, record_after, entry_of, ask, asks}
 
@@ -80,7 +90,8 @@ pub becomes_first : (after : SourceRecord) (unasked : Type 0) (g : PortStep → 
 becomes_first after unasked g w v u h k =
     record { becomes = ap (λ (s : SourceData). s.record) k.source ∙ h.becomes; blind = λ q. ap g (h.blind q) ∙ k.blind }
 
-pub told_first : (t : ℕ) (x : Option Stimulus) (g : PortStep → PortStep) (w v u : PortStep) → Tells t x w v u → Spares v (g v) (g (unanswered v)) →
+pub told_first : (t : ℕ) (x : Option Stimulus) (g : PortStep → PortStep) (w v u : PortStep) → Tells t x w v u →
+    Spares v (g v) (g (unanswered v)) →
     Tells t x w (g v) (g u)
 told_first t x g w v u h k =
     becomes_first (source_after_told w.port.source.settings t x w.answer w.port.source.record) (AsksNothing x w.port.source) g w v u h k
@@ -94,7 +105,8 @@ after_spared t x w v s e f h =
     ∙ ap (λ (a : Option Answer). source_after_told w.port.source.settings t x a w.port.source.record) f
 
 -- first something that spares the source, and then it is told
-pub told_then : (t : ℕ) (x : Option Stimulus) (g : PortStep → PortStep) (w v u : PortStep) → Spares w v u → Tells t x v (g v) (g (unanswered v)) →
+pub told_then : (t : ℕ) (x : Option Stimulus) (g : PortStep → PortStep) (w v u : PortStep) → Spares w v u →
+    Tells t x v (g v) (g (unanswered v)) →
     Tells t x w (g v) (g u)
 told_then t x g w v u h k =
     record {
@@ -102,7 +114,8 @@ told_then t x g w v u h k =
       blind = λ q. ap g h.blind ∙ k.blind (subst (AsksNothing x) (sym h.source) q);
     }
 
-pub told_then_with : {A : Type 0} (t : ℕ) (x : Option Stimulus) (g : PortStep × A → PortStep) (w : PortStep) (v u : PortStep × A) → SparesWith A w v u →
+pub told_then_with : {A : Type 0} (t : ℕ) (x : Option Stimulus) (g : PortStep × A → PortStep) (w : PortStep)
+    (v u : PortStep × A) → SparesWith A w v u →
     Tells t x v.0 (g v) (g (unanswered v.0, v.1)) → Tells t x w (g v) (g u)
 told_then_with t x g w v u h k =
     record {
@@ -152,16 +165,19 @@ acknowledged_tells p t (Some a) w r h =
     let call : LayerRecord → LayerRecord × LayerAct = λ l. layer.good_crc l (id_of a.header) in
     let v = on_layer Source p.channel call w in
     retold t (told_if_sent p v.1) _ w _ _ (ap (λ (l : LayerRecord). told_if_sent p (call l).1) (h p.channel))
-    (told_then_with t (told_if_sent p v.1) (λ z. told_sent Source p t z.1 z.0) w v _ (on_layer_spares LayerAct Source p.channel call w) (told_sent_tells p t v.1 v.0))
+    (told_then_with t (told_if_sent p v.1) (λ z. told_sent Source p t z.1 z.0) w v _
+    (on_layer_spares LayerAct Source p.channel call w) (told_sent_tells p t v.1 v.0))
 
 pub goes_up_tells : (p : Contents) (t : ℕ) (w : PortStep) (r : PortParts) → HasLayers w r →
-    Tells t (told_if_up p (layer.received (source_layer p.channel r) p.header).1) w (goes_up Source p t w) (goes_up Source p t (unanswered w))
+    Tells t (told_if_up p (layer.received (source_layer p.channel r) p.header).1) w (goes_up Source p t w)
+    (goes_up Source p t (unanswered w))
 unfolding goes_up received_on
 goes_up_tells p t w r h =
     let call : LayerRecord → LayerRecord × LayerAct = λ l. layer.received l p.header in
     let v = on_layer Source p.channel call w in
     retold t (told_if_up p v.1) _ w _ _ (ap (λ (l : LayerRecord). told_if_up p (call l).1) (h p.channel))
-    (told_then_with t (told_if_up p v.1) (λ z. told_message Source p t z.1 z.0) w v _ (on_layer_spares LayerAct Source p.channel call w) (told_message_tells p t v.1 v.0))
+    (told_then_with t (told_if_up p v.1) (λ z. told_message Source p t z.1 z.0) w v _
+    (on_layer_spares LayerAct Source p.channel call w) (told_message_tells p t v.1 v.0))
 
 -- the source speaks to another side
 pub others_hear : (c : Channel) → OfSource ⊥ (receiver Source c)
@@ -174,7 +190,8 @@ any_touches Sink = tt
 any_touches Plug = tt
 
 -- another side's message is acknowledged, and goes up to the source
-pub other_good_crc_tells : (side : Side) → OfSource ⊥ side → (p a : Contents) (fate : Fate) (t : ℕ) (w : PortStep) (r : PortParts) → HasLayers w r →
+pub other_good_crc_tells : (side : Side) → OfSource ⊥ side → (p a : Contents) (fate : Fate) (t : ℕ) (w : PortStep)
+    (r : PortParts) → HasLayers w r →
     Tells t (told_if_up p (layer.received (source_layer p.channel r) p.header).1) w
     (goes_up Source p t (acknowledged side p t (heard a fate) w)) (goes_up Source p t (acknowledged side p t (heard a fate) (unanswered w)))
 other_good_crc_tells side o p a fate t w r h =
@@ -199,7 +216,8 @@ unfolding times_out timed_out_on
 times_out_tells Source p t w r h =
     let v = on_layer Source p.channel layer.timed_out w in
     retold t (told_if_failed v.1) _ w _ _ (ap (λ (l : LayerRecord). told_if_failed (layer.timed_out l).1) (h p.channel))
-    (told_then_with t (told_if_failed v.1) (λ z. after_time_out Source p t z.1 z.0) w v _ (on_layer_spares LayerAct Source p.channel layer.timed_out w) (after_time_out_tells p t v.1 v.0))
+    (told_then_with t (told_if_failed v.1) (λ z. after_time_out Source p t z.1 z.0) w v _
+    (on_layer_spares LayerAct Source p.channel layer.timed_out w) (after_time_out_tells p t v.1 v.0))
 times_out_tells Sink p t w r h = spares_tell t w _ _ (times_out_kept t (sparing t) tt tt Sink tt tt p w)
 times_out_tells Plug p t w r h = spares_tell t w _ _ (times_out_kept t (sparing t) tt tt Plug tt tt p w)
 
@@ -229,13 +247,15 @@ told_if_hears b = if b then Some told.HardReset else None
 
 -- the source gets another side's Hard Reset, where it hears
 pub source_gets_reset : (b : Bool) (t : ℕ) (w : PortStep) →
-    Tells t (told_if_hears b) w (if b then source_steps t told.HardReset w else w) (if b then source_steps t told.HardReset (unanswered w) else unanswered w)
+    Tells t (told_if_hears b) w (if b then source_steps t told.HardReset w else w) (if b
+    then source_steps t told.HardReset (unanswered w) else unanswered w)
 unfolding told_if_hears
 source_gets_reset true t w = source_steps_tell t told.HardReset w
 source_gets_reset false t w = spares_tell t w _ _ (none w)
 
 pub source_hears_reset : (side : Side) → OfSource ⊥ side → (t : ℕ) (w : PortStep) →
-    Tells t (told_if_hears (source.hears_in w.port.source.record)) w (hears_reset side Source t w) (hears_reset side Source t (unanswered w))
+    Tells t (told_if_hears (source.hears_in w.port.source.record)) w (hears_reset side Source t w)
+    (hears_reset side Source t (unanswered w))
 unfolding hears_reset hears tells_reset
 source_hears_reset Source o t w = absurd o
 source_hears_reset Sink o t w = source_gets_reset (source.hears_in w.port.source.record) t w
@@ -256,7 +276,8 @@ other_reset_tells side o t w =
     ap (λ (z : SourceData). told_if_hears (source.hears_in z.record)) s.source in
     told_first t x (hears_reset side Plug t) w d _
     (told_first t x (hears_reset side Sink t) w c _
-    (told_then t x (hears_reset side Source t) w b _ s (retold t (told_if_hears (source.hears_in b.port.source.record)) x b _ _ e (source_hears_reset side o t b)))
+    (told_then t x (hears_reset side Source t) w b _ s
+    (retold t (told_if_hears (source.hears_in b.port.source.record)) x b _ _ e (source_hears_reset side o t b)))
     (hears_reset_kept t (sparing t) side Sink tt c))
     (hears_reset_kept t (sparing t) side Plug tt d)
 
@@ -265,10 +286,12 @@ pub hard_reset_tells : (side : Side) (t : ℕ) (w : PortStep) (r : PortParts) �
 unfolding told_if_hears
 hard_reset_tells Source t w r e = own_reset_tells t w
 hard_reset_tells Sink t w r e =
-    retold t (told_if_hears (source.hears_in w.port.source.record)) _ w _ _ (ap (λ (z : SourceData). told_if_hears (source.hears_in z.record)) e)
+    retold t (told_if_hears (source.hears_in w.port.source.record)) _ w _ _
+    (ap (λ (z : SourceData). told_if_hears (source.hears_in z.record)) e)
     (other_reset_tells Sink tt t w)
 hard_reset_tells Plug t w r e =
-    retold t (told_if_hears (source.hears_in w.port.source.record)) _ w _ _ (ap (λ (z : SourceData). told_if_hears (source.hears_in z.record)) e)
+    retold t (told_if_hears (source.hears_in w.port.source.record)) _ w _ _
+    (ap (λ (z : SourceData). told_if_hears (source.hears_in z.record)) e)
     (other_reset_tells Plug tt t w)
 
 pub line_ends_at_tells : (line : Line) (t : ℕ) (w : PortStep) (r : PortParts) → HasLayers w r → w.port.source ≡ r.source →

@@ -34,7 +34,8 @@ begun_is : (p : PortParts) (given : Option Answer) (faults : List Fault) (start 
 begun_is p given faults start e f = rw (e, f) refl
 
 -- what a port's step does, from the two calls that it makes
-pub portstep_is : (old : PortParts) (d : Due) (given : Option Answer) (w v u : PortStep) → w.port ≡ old → w.answer ≡ given → w.faults.items ≡ [] → w.start ≡ None →
+pub portstep_is : (old : PortParts) (d : Due) (given : Option Answer) (w v u : PortStep) → w.port ≡ old →
+    w.answer ≡ given → w.faults.items ≡ [] → w.start ≡ None →
     v ≡ happens d.what d.time w → u ≡ line_starts d.time v → u ≡ portstep old d given
 unfolding portstep
 portstep_is old d given w v u same answered faults start first second =
@@ -52,19 +53,23 @@ pub worked : (p : PortData) (settings : SettingsData) (w v u : PortStep) (d : Du
     u ≡ portstep (whole p.settings p.port_record) d given
 worked p settings w v u d given view faults start set first second =
     let a = portstep_is w.port d given (record w { answer = given }) v u refl refl faults start first second in
-    let b : with_settings (source_settings settings) (without_settings w.port) ≡ w.port = with_settings-without (source_settings settings) w.port set in
-    let c : u ≡ portstep (with_settings (source_settings settings) (without_settings w.port)) d given = a ∙ ap (λ (r : PortParts). portstep r d given) (sym b) in
+    let b : with_settings (source_settings settings) (without_settings w.port) ≡ w.port =
+    with_settings-without (source_settings settings) w.port set in
+    let c : u ≡ portstep (with_settings (source_settings settings) (without_settings w.port)) d given =
+    a ∙ ap (λ (r : PortParts). portstep r d given) (sym b) in
     subst (λ (q : PortData). u ≡ portstep (whole q.settings q.port_record) d given) view c
 
 -- what a port is after it
 pub after_is : (p : PortData) (settings : SettingsData) (w u : PortStep) (d : Due) (given : Option Answer) →
     ◌≡◌ {A = PortData} (record { settings = settings; port_record = without_settings w.port }) p →
     u ≡ portstep (whole p.settings p.port_record) d given →
-    ◌≡◌ {A = PortData} (record { settings = settings; port_record = without_settings u.port }) (record { settings = p.settings; port_record = record_after p.settings p.port_record d given })
+    ◌≡◌ {A = PortData} (record { settings = settings; port_record = without_settings u.port })
+    (record { settings = p.settings; port_record = record_after p.settings p.port_record d given })
 unfolding record_after
 after_is p settings w u d given view e =
     let same : settings ≡ p.settings = ap (λ (q : PortData). q.settings) view in
-    let done : without_settings u.port ≡ without_settings (portstep (whole p.settings p.port_record) d given).port = ap (λ (x : PortStep). without_settings x.port) e in
+    let done : without_settings u.port ≡ without_settings (portstep (whole p.settings p.port_record) d given).port =
+    ap (λ (x : PortStep). without_settings x.port) e in
     (ap (λ (x : SettingsData). port_data x (without_settings u.port)) same) ∙ ap (port_data p.settings) done
 
 -- what its source is set to
@@ -76,14 +81,24 @@ settings_are p settings w u d given view e =
     ap (λ (x : PortStep). x.port.source.settings) e ∙ portstep-settings (whole p.settings p.port_record) d given ∙ ap source_settings same
 
 -- what is left to be read
-pub entry_is : (p : PortData) (u : PortStep) (d : Due) (given : Option Answer) (query : Option Query) (faults : ArrayVec Fault) (change : Option ContractChange) (start : Option Start) →
+pub entry_is : (p : PortData) (u : PortStep) (d : Due) (given : Option Answer) (query : Option Query)
+    (faults : ArrayVec Fault) (change : Option ContractChange) (start : Option Start) →
     u ≡ portstep (whole p.settings p.port_record) d given → query ≡ ask p.settings p.port_record d → faults ≡ u.faults →
     change ≡ contract_change p.port_record.source.contract u.port.source.record.contract → start ≡ u.start →
-    ◌≡◌ {A = Entry} (record { at = d.time; due = d; query = query; faults = faults; contract = change; start = start }) (entry_of p.settings p.port_record d given)
+    ◌≡◌ {A = Entry} (record {
+      at = d.time;
+      due = d;
+      query = query;
+      faults = faults;
+      contract = change;
+      start = start;
+    }) (entry_of p.settings p.port_record d given)
 unfolding entry_of
 entry_is p u d given query faults change start e q f h g = rw (q, f, h, g, e) refl
 
 -- the change, from the contracts before and after
-pub change_is : (p : PortData) (u : PortStep) (before after : Option Contract) (change : Option ContractChange) → before ≡ p.port_record.source.contract →
-    after ≡ u.port.source.record.contract → change ≡ contract_change before after → change ≡ contract_change p.port_record.source.contract u.port.source.record.contract
+pub change_is : (p : PortData) (u : PortStep) (before after : Option Contract) (change : Option ContractChange) →
+    before ≡ p.port_record.source.contract →
+    after ≡ u.port.source.record.contract → change ≡ contract_change before after →
+    change ≡ contract_change p.port_record.source.contract u.port.source.record.contract
 change_is p u before after change b a e = e ∙ ap (λ x. contract_change x after) b ∙ ap (contract_change p.port_record.source.contract) a

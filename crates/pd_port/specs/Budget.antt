@@ -35,7 +35,8 @@ RestsEmpty r = IsEmptyAtRest r.source
 -- So it is on a detached port, and after each step of a port on which it was so.
 pub record RestsAreEmpty : Type 0 where
   pub at_start : (s : SettingsData) → RestsEmpty (detached s)
-  pub after_each : (s : SettingsData) (r : PortRecord) (d : Due) (given : Option Answer) → RestsEmpty r → RestsEmpty (record_after s r d given)
+  pub after_each : (s : SettingsData) (r : PortRecord) (d : Due) (given : Option Answer) → RestsEmpty r →
+      RestsEmpty (record_after s r d given)
 
 -- Where the budget changes, a hold that may stay stays as it is, and a hold that may not falls to the floor.
 pub record KeepsOrSheds (s : SettingsData) (r : PortRecord) (d : Due) : Type 0 where

@@ -26,4 +26,5 @@ pub record KnowsCable (r : PortRecord) : Type 0 where
 -- So it is on a detached port, and after each step of a port on which it was so, whatever the answer.
 pub record PortsKnowTheirCables : Type 0 where
   pub at_start : (s : SettingsData) → KnowsCable (detached s)
-  pub after_each : (s : SettingsData) (r : PortRecord) (d : Due) (given : Option Answer) → KnowsCable r → KnowsCable (record_after s r d given)
+  pub after_each : (s : SettingsData) (r : PortRecord) (d : Due) (given : Option Answer) → KnowsCable r →
+      KnowsCable (record_after s r d given)

@@ -40,4 +40,5 @@ pub record Agrees (s : SourceSettings) (given : Option Answer) (old new : Source
 -- So it is in each step of a port.
 abbrev pub PortsAgree : Type 0
 PortsAgree =
-    (s : SettingsData) (r : PortRecord) (d : Due) (given : Option Answer) → Agrees (source_settings s) given r.source (record_after s r d given).source
+    (s : SettingsData) (r : PortRecord) (d : Due) (given : Option Answer) →
+    Agrees (source_settings s) given r.source (record_after s r d given).source

@@ -2,7 +2,8 @@
 
 ghost use Rattle.std.specs.Prelude.{◌≡◌};
 ghost use Rattle.pd_port.specs.Happens.{is_budget};
-ghost use Rattle.pd_port.specs.SourceTold.{source_layer, told_at_good_crc, told_at_time_out, told_of_reset, told_by_line, told_by_event, source_told};
+ghost use Rattle.pd_port.specs.SourceTold.{source_layer, told_at_good_crc, told_at_time_out, told_of_reset, told_by_line};
+ghost use Rattle.pd_port.specs.SourceTold.{told_by_event, source_told};
 
 use crate::{EventKind, Happening, What};
 use pd_header::{Side, header_id};

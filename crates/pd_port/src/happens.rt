@@ -2,7 +2,8 @@
 
 ghost use Rattle.std.specs.Prelude.{◌≡◌, ℕ, ◌<◌, ◌≤◌, length};
 ghost use Rattle.pd_port.specs.Port.{source_settings};
-ghost use Rattle.pd_port.specs.Happens.{detaches, disturbs, gets_source, gets_sink, happens_attached, happens_detached, port_event_happens, budget_changes, event_happens};
+ghost use Rattle.pd_port.specs.Happens.{detaches, disturbs, gets_source, gets_sink, happens_attached, happens_detached};
+ghost use Rattle.pd_port.specs.Happens.{port_event_happens, budget_changes, event_happens};
 
 use crate::{EventKind, Happening, Settings};
 use pd_line::Fault;

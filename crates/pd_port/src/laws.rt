@@ -1,7 +1,9 @@
 //! Laws of a port's step. They run nothing.
 
-ghost use Rattle.pd_port.specs.Laws.{StepsSetLater, DuesAreEarliest, SourceStepsOnce, DetachedAreNew, AnswersMatterOnlyWhereAsked, WaitsWhileBusy, StartsNoTwo, BusyLinesAreLeft};
-ghost use Rattle.pd_port.specs.Budget.{ContractsAreTold, HoldsCoverContracts, RestsAreEmpty, ChangesKeepOrShed, HoldsStayAllowed, EventsComeFirst};
+ghost use Rattle.pd_port.specs.Laws.{StepsSetLater, DuesAreEarliest, SourceStepsOnce, DetachedAreNew};
+ghost use Rattle.pd_port.specs.Laws.{AnswersMatterOnlyWhereAsked, WaitsWhileBusy, StartsNoTwo, BusyLinesAreLeft};
+ghost use Rattle.pd_port.specs.Budget.{ContractsAreTold, HoldsCoverContracts, RestsAreEmpty, ChangesKeepOrShed, HoldsStayAllowed};
+ghost use Rattle.pd_port.specs.Budget.{EventsComeFirst};
 ghost use Rattle.pd_port.specs.Sheds.{ShedsLast};
 ghost use Rattle.pd_port.specs.Sound.{PortsStaySound, PortsAgree};
 ghost use Rattle.pd_port.specs.Cables.{PortsKnowTheirCables};

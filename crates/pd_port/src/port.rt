@@ -33,7 +33,8 @@ impl Model for Port {
 
     ghost view = { λ p. record { settings = p.settings; port_record = without_settings p.under_way.port } };
 
-    ghost invariant = { λ p. (p.under_way.faults.items ≡ []) × (p.under_way.start ≡ None) × (p.under_way.port.source.settings ≡ source_settings p.settings) };
+    ghost invariant = { λ p. (p.under_way.faults.items ≡ []) × (p.under_way.start ≡ None)
+        × (p.under_way.port.source.settings ≡ source_settings p.settings) };
 }
 
 #[tactic(auto, unfolding(crate::specs::Port::due))]
