@@ -1,4 +1,6 @@
--- What a step of a port does to it, part by part: what waits, the layers, and the engines with their acts.
+-- A step of a port under way, and what it does to the port, part by part: what waits, the layers, and the engines with
+-- their acts. `w` is the step under way, `t` its time in microseconds. The rules of the line, in Lines.antt, are made of these
+-- parts.
 use Rattle.std.specs.Prelude.{ℕ, List, [], ◌∷◌, ◌++◌, Some, None, Result}
 use Rattle.pd_symbols.specs.declared.channel.Channel.{Channel}
 use Rattle.pd_symbols.specs.declared.channel.Channel.TheVariants.{Sop, SopPrime}
@@ -37,6 +39,8 @@ use Rattle.pd_line.specs.declared.port_step.PortStep.{PortStep}
 use Rattle.pd_line.specs.Told.{source_hears_as, sink_hears_as, plug_hears_as, source_message, sink_message, plug_message}
 use Rattle.pd_line.specs.Told.{source_fault, sink_fault}
 
+-- ## A step under way
+
 -- the port is this
 abbrev pub with_port : PortParts → PortStep → PortStep
 with_port p w = record w { port = p }
@@ -45,50 +49,60 @@ with_port p w = record w { port = p }
 abbrev pub at_rest : PortParts → PortStep
 at_rest p = record { port = p; answer = None; faults = record { items = [] }; start = None }
 
--- the faults so far, and one more
+-- a fault is noted behind those so far
 unfoldable pub noted : Fault → PortStep → PortStep
 noted fault w = record w { faults = record { items = w.faults.items ++ fault ∷ [] } }
 
--- what waits on a side is this
+-- ## What waits
+
+-- what waits on a side is this: a later message or Hard Reset takes the place of the one before
 unfoldable pub wait : Side → Waiting → PortStep → PortStep
 wait Source waiting w = with_port (record w.port { source_waits = waiting }) w
 wait Sink waiting w = with_port (record w.port { sink_waits = waiting }) w
 wait Plug waiting w = with_port (record w.port { plug_waits = waiting }) w
 
--- the layer of a side on a channel
+-- ## The layers, by the rows L1 to L5 of docs/TABLES.md (pd_protocol's Layer.antt)
+
+-- which layer is a side's on a channel: source and sink have one each on SOP, source and plug one each on SOP'
 abbrev pub layer_on : Side → Channel → PortStep → LayerRecord
 layer_on Source Sop w = w.port.source_sop
 layer_on Source SopPrime w = w.port.source_sop_prime
 layer_on Sink channel w = w.port.sink_sop
 layer_on Plug channel w = w.port.plug_sop_prime
 
--- the layer of a side on a channel is this
+-- that layer is this
 abbrev pub with_layer : Side → Channel → LayerRecord → PortStep → PortStep
 with_layer Source Sop l w = with_port (record w.port { source_sop = l }) w
 with_layer Source SopPrime l w = with_port (record w.port { source_sop_prime = l }) w
 with_layer Sink channel l w = with_port (record w.port { sink_sop = l }) w
 with_layer Plug channel l w = with_port (record w.port { plug_sop_prime = l }) w
 
--- a call of the layer of a side on a channel
+-- a call of that layer: the step with the layer after it, and the layer's answer
 abbrev pub on_layer : {A : Type 0} → Side → Channel → (LayerRecord → LayerRecord × A) → PortStep → PortStep × A
 on_layer side channel call w =
     let r = call (layer_on side channel w) in (with_layer side channel r.0 w, r.1)
 
+-- L2: a message is submitted
 unfoldable pub submit_on : Side → Channel → MessageData → ℕ → PortStep → PortStep × Result Contents MessageData
 submit_on side channel message revision = on_layer side channel (λ l. layer.submit l revision message)
 
+-- L3: a GoodCRC with this MessageID comes
 unfoldable pub good_crc_on : Side → Channel → ℕ → PortStep → PortStep × LayerAct
 good_crc_on side channel id = on_layer side channel (λ l. layer.good_crc l id)
 
+-- L4: no GoodCRC has come in time
 unfoldable pub timed_out_on : Side → Channel → PortStep → PortStep × LayerAct
 timed_out_on side channel = on_layer side channel layer.timed_out
 
+-- L5: a message with this header comes
 unfoldable pub received_on : Side → Channel → ℕ → PortStep → PortStep × LayerAct
 received_on side channel header = on_layer side channel (λ l. layer.received l header)
 
--- the layer of a side on a channel is reset
+-- L1: the layer is reset
 unfoldable pub reset_on : Side → Channel → PortStep → PortStep
 reset_on side channel w = with_layer side channel (layer.reset (layer_on side channel w)) w
+
+-- ## The engines: a step of each, and its acts in order
 
 -- an act of the sink
 abbrev pub sink_act : SinkAct → PortStep → PortStep
@@ -151,6 +165,8 @@ source_after t x w =
 unfoldable pub source_steps : ℕ → SourceStimulus → PortStep → PortStep
 source_steps t x w =
     source_acts t (source.acts_of w.port.source.settings t x w.answer w.port.source.record) (source_after t x w)
+
+-- ## What a side's engine is told
 
 -- what a side has sent has reached its receiver: a message of this kind, or a Hard Reset
 unfoldable pub tells_sent : Side → Sent → ℕ → PortStep → PortStep

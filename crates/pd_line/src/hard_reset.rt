@@ -1,4 +1,4 @@
-//! What the end of a Hard Reset does to a port. `t` is the time of the step, in microseconds.
+//! N5: what the end of a Hard Reset does to a port. `t` is the time of the step, in microseconds.
 
 ghost use Rattle.std.specs.Prelude.{◌≡◌, ℕ, ◌+◌, ◌≤◌, length};
 
@@ -7,6 +7,7 @@ use crate::port_step::PortStep;
 use pd_header::Side;
 use pd_source::Sent;
 use pd_symbols::Channel;
+use pd_timers::LAST_TIME;
 
 impl PortStep {
     ghost use Rattle.pd_line.specs.Noise.{most_besides};
@@ -38,7 +39,7 @@ impl PortStep {
     /// A side that hears, and isn't the sender, gets a Hard Reset.
     #[tactic(auto, unfolding(crate::specs::Lines::hears_reset))]
     fn hear_reset(&mut self, sender: Side, side: Side, t: u64)
-        requires time { t ≤ 120000000 }
+        requires time { t ≤ LAST_TIME }
         requires room { length self.old.faults.items + most_besides sender side ≤ 8 }
         ensures after { self.new ≡ hears_reset sender side t self.old }
         ensures faults { length self.new.faults.items ≤ length self.old.faults.items + most_besides sender side }
@@ -48,10 +49,10 @@ impl PortStep {
         }
     }
 
-    /// A Hard Reset has ended, for the engines.
+    /// A Hard Reset has ended, for the engines: the sender's, and then each other that hears, in the order source, sink, plug.
     #[tactic(auto, using(crate::proofs::Noise::three_at_most), unfolding(crate::specs::Lines::all_hear_reset))]
     fn all_hear_reset(&mut self, sender: Side, t: u64)
-        requires time { t ≤ 120000000 }
+        requires time { t ≤ LAST_TIME }
         requires room { length self.old.faults.items ≤ 4 }
         ensures after { self.new ≡ all_hear_reset sender t self.old }
         ensures faults { length self.new.faults.items ≤ length self.old.faults.items + 4 }
@@ -62,10 +63,10 @@ impl PortStep {
         self.hear_reset(sender, Side::Plug, t);
     }
 
-    /// A Hard Reset has ended.
+    /// N5: a Hard Reset has ended. All that waits is dropped, all layers are reset, and the engines are told.
     #[tactic(auto, unfolding(crate::specs::Lines::hard_reset_ends))]
     pub(crate) fn hard_reset_ends(&mut self, sender: Side, t: u64)
-        requires time { t ≤ 120000000 }
+        requires time { t ≤ LAST_TIME }
         requires room { length self.old.faults.items ≤ 4 }
         ensures after { self.new ≡ hard_reset_ends sender t self.old }
         ensures faults { length self.new.faults.items ≤ length self.old.faults.items + 4 }

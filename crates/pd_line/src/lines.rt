@@ -1,4 +1,4 @@
-//! What happens on the line. `t` is the time of the step, in microseconds.
+//! What happens on the line: the rules N1 to N5, in the order of `specs/Lines.antt`. `t` is the time of the step, in microseconds.
 
 ghost use Rattle.std.specs.Prelude.{◌≡◌, ℕ, ◌+◌, ◌<◌, ◌≤◌, length};
 ghost use Rattle.pd_line.specs.Lines.{receiver, channel_for, rest_of_time_out, fate_of};
@@ -12,21 +12,22 @@ use pd_packet::{Fate, Packet, duration, hard_reset_duration, packet_duration, re
 use pd_protocol::{LayerAct, Message, good_crc_for};
 use pd_source::Sent;
 use pd_symbols::Channel;
+use pd_timers::LAST_TIME;
 use std::mem;
 
-/// How long the receiver waits before its GoodCRC, in microseconds.
+/// How long the receiver waits before its GoodCRC, in microseconds: less than tTransmit, the most that section 6.6.2 allows.
 const PAUSE: u64 = 100;
 
-/// How long after a message's end the sender waits for a GoodCRC, in microseconds.
+/// tReceive, how long the sender's CRCReceiveTimer runs from a message's end, in microseconds (section 6.6.1).
 const TIME_OUT: u64 = 1_000;
 
-/// How many symbols a GoodCRC has.
+/// How many symbols a GoodCRC has: ordered set, header, check and EOP.
 const GOOD_CRC_SYMBOLS: u32 = 17;
 
 /// The revision bits of packets on SOP': 10, USB Power Delivery 3.0.
 const REVISION_3: u8 = 2;
 
-/// What is left of the time-out where a GoodCRC has ended.
+/// What is left of the CRCReceiveTimer where a GoodCRC has ended, in microseconds.
 #[tactic(auto, unfolding(pd_packet::specs::Timing::duration_of))]
 fn rest_of_time_out() -> u64
     ensures value { result ≡ rest_of_time_out }
@@ -35,7 +36,7 @@ fn rest_of_time_out() -> u64
     TIME_OUT - (PAUSE + u64::from(duration(GOOD_CRC_SYMBOLS)))
 }
 
-/// Which channel a side speaks on.
+/// Which channel a side speaks on: SOP, or SOP' between source and plug.
 fn channel_for(side: Side, kind: u8) -> Channel
     ensures { result ≡ channel_for side kind }
 {
@@ -46,7 +47,7 @@ fn channel_for(side: Side, kind: u8) -> Channel
     }
 }
 
-/// Who is spoken to.
+/// Who is spoken to by a side's packet on a channel.
 fn receiver_of(side: Side, channel: Channel) -> Side
     ensures { result ≡ receiver side channel }
 {
@@ -57,7 +58,7 @@ fn receiver_of(side: Side, channel: Channel) -> Side
     }
 }
 
-/// A side's packet starts.
+/// A side's packet that starts, and what becomes of it.
 fn start_of(side: Side, packet: &Packet, fate: &Fate) -> Start
     ensures { result ≡ Start.Packet side packet.now fate.now }
 {
@@ -88,7 +89,7 @@ impl PortStep {
     ghost use Rattle.pd_line.specs.Lines.{good_crc_ends, times_out, hard_reset_ends, line_ends, line_starts, acknowledged};
     ghost use Rattle.pd_line.specs.Lines.{waiting_on, message_starts, hard_reset_starts, side_starts};
 
-    /// Whether a side hears.
+    /// Whether a side hears: its engine is neither off nor disabled.
     #[tactic(auto, unfolding(crate::specs::Lines::hears))]
     pub(crate) fn hears(&self, side: Side) -> bool
         ensures { result ≡ hears side self.now }
@@ -127,10 +128,10 @@ impl PortStep {
         }
     }
 
-    /// A message's packet starts.
+    /// A message's packet starts, from its layer or again (N4).
     #[tactic(auto, unfolding(crate::specs::Lines::packet_starts, crate::specs::Lines::with_line, crate::specs::Lines::started))]
     fn packet_starts(&mut self, side: Side, packet: Packet, t: u64)
-        requires { t ≤ 120000000 }
+        requires { t ≤ LAST_TIME }
         ensures after { self.new ≡ packet_starts side packet t self.old }
         ensures faults { self.new.faults ≡ self.old.faults }
     {
@@ -145,32 +146,84 @@ impl PortStep {
         };
     }
 
-    /// The GoodCRC for a side's message starts.
-    #[tactic(auto, unfolding(crate::specs::Lines::good_crc_starts, crate::specs::Lines::with_line, crate::specs::Lines::started))]
-    fn good_crc_starts(&mut self, side: Side, packet: Packet, t: u64)
-        requires { t ≤ 120000000 }
-        ensures after { self.new ≡ good_crc_starts side packet t self.old }
+    /// Takes what waits on a side.
+    #[tactic(auto, unfolding(crate::specs::PortStep::wait))]
+    fn take_waiting(&mut self, side: Side) -> Waiting
+        ensures value { result ≡ waiting_on side self.old }
+        ensures after { self.new ≡ wait side Waiting.Nothing self.old }
         ensures faults { self.new.faults ≡ self.old.faults }
     {
-        let hearer = receiver_of(side, packet.channel());
-        let revision = self.revision_on(hearer, packet.channel());
-        let answer = good_crc_for(hearer, &packet, revision);
-        let fate = self.take_fate();
-        let end = t + u64::from(packet_duration(&answer));
-        self.start = Some(start_of(hearer, &answer, &fate));
-        self.port.line = Line::GoodCrc {
-            side,
-            packet,
-            answer,
-            fate,
-            end,
-        };
+        match side {
+            Side::Source => mem::replace(&mut self.port.source_waits, Waiting::Nothing),
+            Side::Sink => mem::replace(&mut self.port.sink_waits, Waiting::Nothing),
+            Side::Plug => mem::replace(&mut self.port.plug_waits, Waiting::Nothing),
+        }
     }
 
-    /// A message has ended.
+    /// A message goes to its layer, which gives it a MessageID, and starts.
+    #[tactic(auto, unfolding(crate::specs::Lines::message_starts))]
+    fn message_starts(&mut self, side: Side, message: Message, t: u64)
+        requires { t ≤ LAST_TIME }
+        ensures after { self.new ≡ message_starts side message t self.old }
+        ensures faults { self.new.faults ≡ self.old.faults }
+    {
+        let channel = channel_for(side, message.kind());
+        let revision = self.revision_on(side, channel);
+        match self.submit_on(side, channel, message, revision) {
+            Ok(packet) => self.packet_starts(side, packet, t),
+            Err(message) => self.wait(side, Waiting::Message(message)),
+        }
+    }
+
+    /// A side's Hard Reset signalling starts. It goes to no layer, and takes no disturbance.
+    #[tactic(auto, unfolding(crate::specs::Lines::hard_reset_starts, crate::specs::Lines::with_line, crate::specs::Lines::started))]
+    fn hard_reset_starts(&mut self, side: Side, t: u64)
+        requires { t ≤ LAST_TIME }
+        ensures after { self.new ≡ hard_reset_starts side t self.old }
+        ensures faults { self.new.faults ≡ self.old.faults }
+    {
+        let end = t + u64::from(hard_reset_duration());
+        self.start = Some(Start::HardReset { side });
+        self.port.line = Line::HardReset { side, end };
+    }
+
+    /// What waits on a side starts.
+    #[tactic(auto, unfolding(crate::specs::Lines::side_starts))]
+    fn side_starts(&mut self, side: Side, t: u64)
+        requires { t ≤ LAST_TIME }
+        ensures after { self.new ≡ side_starts side t self.old }
+        ensures faults { self.new.faults ≡ self.old.faults }
+    {
+        match self.take_waiting(side) {
+            Waiting::Nothing => {}
+            Waiting::Message(message) => self.message_starts(side, message, t),
+            Waiting::HardReset => self.hard_reset_starts(side, t),
+        }
+    }
+
+    /// N1: where the line is idle, the first that waits starts, in the order source, sink, plug.
+    #[tactic(auto, unfolding(crate::specs::Lines::line_starts))]
+    pub fn line_starts(&mut self, t: u64)
+        requires { t ≤ LAST_TIME }
+        ensures after { self.new ≡ line_starts t self.old }
+        ensures faults { self.new.faults ≡ self.old.faults }
+    {
+        if !matches!(self.port.line, Line::Idle) {
+            return;
+        }
+        if !matches!(self.port.source_waits, Waiting::Nothing) {
+            self.side_starts(Side::Source, t);
+        } else if !matches!(self.port.sink_waits, Waiting::Nothing) {
+            self.side_starts(Side::Sink, t);
+        } else if !matches!(self.port.plug_waits, Waiting::Nothing) {
+            self.side_starts(Side::Plug, t);
+        }
+    }
+
+    /// N2: a message has ended. Undisturbed and heard, it is followed by its GoodCRC.
     #[tactic(auto, unfolding(crate::specs::Lines::message_ends, crate::specs::Lines::with_line))]
     fn message_ends(&mut self, side: Side, packet: Packet, fate: Fate, t: u64)
-        requires { t ≤ 120000000 }
+        requires { t ≤ LAST_TIME }
         ensures after { self.new ≡ message_ends side packet fate t self.old }
         ensures faults { self.new.faults ≡ self.old.faults }
     {
@@ -191,10 +244,32 @@ impl PortStep {
         };
     }
 
-    /// A message goes up where it is no repeat.
+    /// N2: the GoodCRC for a side's message starts.
+    #[tactic(auto, unfolding(crate::specs::Lines::good_crc_starts, crate::specs::Lines::with_line, crate::specs::Lines::started))]
+    fn good_crc_starts(&mut self, side: Side, packet: Packet, t: u64)
+        requires { t ≤ LAST_TIME }
+        ensures after { self.new ≡ good_crc_starts side packet t self.old }
+        ensures faults { self.new.faults ≡ self.old.faults }
+    {
+        let hearer = receiver_of(side, packet.channel());
+        let revision = self.revision_on(hearer, packet.channel());
+        let answer = good_crc_for(hearer, &packet, revision);
+        let fate = self.take_fate();
+        let end = t + u64::from(packet_duration(&answer));
+        self.start = Some(start_of(hearer, &answer, &fate));
+        self.port.line = Line::GoodCrc {
+            side,
+            packet,
+            answer,
+            fate,
+            end,
+        };
+    }
+
+    /// The receiver's layer takes a message, which goes up to its engine where it is no repeat.
     #[tactic(auto, unfolding(crate::specs::Lines::goes_up))]
     fn goes_up(&mut self, side: Side, packet: &Packet, t: u64)
-        requires time { t ≤ 120000000 }
+        requires time { t ≤ LAST_TIME }
         requires room { length self.old.faults.items + most side ≤ 8 }
         ensures after { self.new ≡ goes_up side packet.now t self.old }
         ensures faults { length self.new.faults.items ≤ length self.old.faults.items + most side }
@@ -204,10 +279,10 @@ impl PortStep {
         }
     }
 
-    /// A GoodCRC has ended, for the sender.
+    /// A GoodCRC has ended, for the sender: undisturbed, it goes to its layer, which compares the MessageID.
     #[tactic(auto, unfolding(crate::specs::Lines::with_line))]
     fn acknowledged(&mut self, side: Side, packet: &Packet, answer: &Packet, fate: Fate, t: u64)
-        requires time { t ≤ 120000000 }
+        requires time { t ≤ LAST_TIME }
         requires room { length self.old.faults.items + most side ≤ 8 }
         ensures after { self.new ≡ acknowledged side packet.now t (heard answer.now fate) self.old }
         ensures faults { length self.new.faults.items ≤ length self.old.faults.items + most side }
@@ -229,10 +304,10 @@ impl PortStep {
         }
     }
 
-    /// A GoodCRC has ended.
+    /// N3: a GoodCRC has ended, for sender and receiver.
     #[tactic(auto, unfolding(crate::specs::Lines::good_crc_ends))]
     fn good_crc_ends(&mut self, side: Side, packet: &Packet, answer: &Packet, fate: Fate, t: u64)
-        requires time { t ≤ 120000000 }
+        requires time { t ≤ LAST_TIME }
         requires room { length self.old.faults.items ≤ 4 }
         ensures after { self.new ≡ good_crc_ends side packet.now answer.now fate t self.old }
         ensures faults { length self.new.faults.items ≤ length self.old.faults.items + 4 }
@@ -241,10 +316,10 @@ impl PortStep {
         self.goes_up(receiver_of(side, packet.channel()), packet, t);
     }
 
-    /// No GoodCRC has come in time.
+    /// N4: the CRCReceiveTimer has ended, and no GoodCRC has come. The layer sends again, up to nRetryCount times.
     #[tactic(auto, unfolding(crate::specs::Lines::times_out))]
     fn times_out(&mut self, side: Side, packet: &Packet, t: u64)
-        requires time { t ≤ 120000000 }
+        requires time { t ≤ LAST_TIME }
         requires room { length self.old.faults.items ≤ 4 }
         ensures after { self.new ≡ times_out side packet.now t self.old }
         ensures faults { length self.new.faults.items ≤ length self.old.faults.items + 4 }
@@ -262,10 +337,10 @@ impl PortStep {
         }
     }
 
-    /// What is on the line has ended.
+    /// What is on the line has ended: N2 to N5.
     #[tactic(auto, unfolding(crate::specs::Lines::line_ends, crate::specs::Lines::with_line))]
     pub fn line_ends(&mut self, t: u64)
-        requires time { t ≤ 120000000 }
+        requires time { t ≤ LAST_TIME }
         requires room { length self.old.faults.items ≤ 4 }
         ensures after { self.new ≡ line_ends t self.old }
         ensures faults { length self.new.faults.items ≤ length self.old.faults.items + 4 }
@@ -288,80 +363,6 @@ impl PortStep {
             } => self.good_crc_ends(side, &packet, &answer, fate, t),
             Line::NoAnswer { side, packet, .. } => self.times_out(side, &packet, t),
             Line::HardReset { side, .. } => self.hard_reset_ends(side, t),
-        }
-    }
-
-    /// Takes what waits on a side.
-    #[tactic(auto, unfolding(crate::specs::PortStep::wait))]
-    fn take_waiting(&mut self, side: Side) -> Waiting
-        ensures value { result ≡ waiting_on side self.old }
-        ensures after { self.new ≡ wait side Waiting.Nothing self.old }
-        ensures faults { self.new.faults ≡ self.old.faults }
-    {
-        match side {
-            Side::Source => mem::replace(&mut self.port.source_waits, Waiting::Nothing),
-            Side::Sink => mem::replace(&mut self.port.sink_waits, Waiting::Nothing),
-            Side::Plug => mem::replace(&mut self.port.plug_waits, Waiting::Nothing),
-        }
-    }
-
-    /// A message goes to its layer, and starts.
-    #[tactic(auto, unfolding(crate::specs::Lines::message_starts))]
-    fn message_starts(&mut self, side: Side, message: Message, t: u64)
-        requires { t ≤ 120000000 }
-        ensures after { self.new ≡ message_starts side message t self.old }
-        ensures faults { self.new.faults ≡ self.old.faults }
-    {
-        let channel = channel_for(side, message.kind());
-        let revision = self.revision_on(side, channel);
-        match self.submit_on(side, channel, message, revision) {
-            Ok(packet) => self.packet_starts(side, packet, t),
-            Err(message) => self.wait(side, Waiting::Message(message)),
-        }
-    }
-
-    /// A Hard Reset starts.
-    #[tactic(auto, unfolding(crate::specs::Lines::hard_reset_starts, crate::specs::Lines::with_line, crate::specs::Lines::started))]
-    fn hard_reset_starts(&mut self, side: Side, t: u64)
-        requires { t ≤ 120000000 }
-        ensures after { self.new ≡ hard_reset_starts side t self.old }
-        ensures faults { self.new.faults ≡ self.old.faults }
-    {
-        let end = t + u64::from(hard_reset_duration());
-        self.start = Some(Start::HardReset { side });
-        self.port.line = Line::HardReset { side, end };
-    }
-
-    /// What waits on a side starts.
-    #[tactic(auto, unfolding(crate::specs::Lines::side_starts))]
-    fn side_starts(&mut self, side: Side, t: u64)
-        requires { t ≤ 120000000 }
-        ensures after { self.new ≡ side_starts side t self.old }
-        ensures faults { self.new.faults ≡ self.old.faults }
-    {
-        match self.take_waiting(side) {
-            Waiting::Nothing => {}
-            Waiting::Message(message) => self.message_starts(side, message, t),
-            Waiting::HardReset => self.hard_reset_starts(side, t),
-        }
-    }
-
-    /// Where the line is idle, the first that waits starts.
-    #[tactic(auto, unfolding(crate::specs::Lines::line_starts))]
-    pub fn line_starts(&mut self, t: u64)
-        requires { t ≤ 120000000 }
-        ensures after { self.new ≡ line_starts t self.old }
-        ensures faults { self.new.faults ≡ self.old.faults }
-    {
-        if !matches!(self.port.line, Line::Idle) {
-            return;
-        }
-        if !matches!(self.port.source_waits, Waiting::Nothing) {
-            self.side_starts(Side::Source, t);
-        } else if !matches!(self.port.sink_waits, Waiting::Nothing) {
-            self.side_starts(Side::Sink, t);
-        } else if !matches!(self.port.plug_waits, Waiting::Nothing) {
-            self.side_starts(Side::Plug, t);
         }
     }
 }

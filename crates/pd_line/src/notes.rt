@@ -8,23 +8,24 @@ use pd_packet::{Fate, Packet};
 pub enum Fault {
     /// The event of this id could do nothing.
     Ignored { id: u32 },
-    /// A side's message of this kind was sent as often as it may be, and no GoodCRC came.
+    /// A side's message of this kind was sent as often as nRetryCount allows, and no GoodCRC came (section 6.7).
     NoGoodCrc { side: Side, kind: Kind },
-    /// A side begins a Soft Reset.
+    /// A side begins a Soft Reset (section 6.8).
     SoftReset { side: Side },
-    /// A side begins a Hard Reset.
+    /// A side begins a Hard Reset (sections 5.6.4 and 6.8).
     HardReset { side: Side },
-    /// The source gives up: nobody answers its offers, or it has begun as many Hard Resets as it may.
+    /// The source gives up: nobody answers its offers up to nCapsCount, or it has begun as many Hard Resets as
+    /// nHardResetCount allows.
     SourceDisabled,
-    /// The sink has begun as many Hard Resets as it may.
+    /// The sink has begun as many Hard Resets as nHardResetCount allows.
     SinkDisabled,
-    /// The cable didn't tell who it is.
+    /// The cable didn't tell who it is, so it counts as one of 3 A.
     CableUnread,
-    /// The sink asks for less than it needs.
+    /// The sink asks for less than it needs, and sets the Capability Mismatch bit.
     Mismatch,
-    /// The source rejects a request.
+    /// The source answers a request by Reject.
     Reject,
-    /// The source lets a request wait.
+    /// The source answers a request by Wait.
     Wait,
 }
 
@@ -49,7 +50,7 @@ pub enum Start {
         packet: Packet,
         fate: Fate,
     },
-    /// A side's Hard Reset.
+    /// A side's Hard Reset signalling.
     HardReset {
         side: Side,
     },
@@ -58,7 +59,7 @@ pub enum Start {
 impl Start {
     ghost use Rattle.std.specs.Prelude.{◌≡◌};
 
-    /// The same start.
+    /// A copy, packet and fate included.
     pub fn copy(&self) -> Start
         ensures { result ≡ self.now }
     {

@@ -9,7 +9,7 @@ use pd_protocol::{Layer, Message};
 use pd_sink::Sink;
 use pd_source::Source;
 
-/// What is to become of a packet that starts later.
+/// What is to become of a packet that starts later: of the next one that no earlier disturbance takes.
 #[derive(Clone, Copy, Debug, Default)]
 pub enum Disturbance {
     #[default]
@@ -17,7 +17,7 @@ pub enum Disturbance {
     Damaged(Damage),
 }
 
-/// What waits on a side for the line.
+/// What waits on a side until the line is idle: what its engine sent last.
 #[derive(Drop)]
 pub enum Waiting {
     Nothing,
@@ -25,7 +25,7 @@ pub enum Waiting {
     HardReset,
 }
 
-/// What is on the line, and when its next end comes, in microseconds.
+/// What is on the line between source, sink and plug, and when it ends, in microseconds.
 #[derive(Drop)]
 pub enum Line {
     Idle,
@@ -36,7 +36,7 @@ pub enum Line {
         fate: Fate,
         end: u64,
     },
-    /// A side's message was heard, and its GoodCRC comes next.
+    /// A side's message was heard, and its GoodCRC starts at the end.
     Pause {
         side: Side,
         packet: Packet,
@@ -50,21 +50,22 @@ pub enum Line {
         fate: Fate,
         end: u64,
     },
-    /// No GoodCRC for a side's message has come, or it was disturbed.
+    /// No GoodCRC for a side's message has come, or it was disturbed: the sender's CRCReceiveTimer runs to the end.
     NoAnswer {
         side: Side,
         packet: Packet,
         end: u64,
     },
-    /// A side's Hard Reset is sent.
+    /// A side's Hard Reset signalling is sent.
     HardReset {
         side: Side,
         end: u64,
     },
 }
 
-/// All that a port keeps from step to step: its cable, the engines, the layers, what waits, what is on the line, and
-/// the disturbances that wait for packets.
+/// All that a port keeps from step to step: the attached cable, the engines, the layers by side and channel, what waits,
+/// what is on the line, and the disturbances that wait for packets. The source's engine has its settings in it; without
+/// them these are the port's record, `PortRecord` of `specs/Record.antt`.
 #[derive(Drop)]
 pub struct PortParts {
     pub cable: Option<Cable>,

@@ -19,7 +19,7 @@ use pd_setup::SinkSettings;
 use pd_sink::{Act as SinkAct, Stimulus as SinkStimulus};
 use pd_source::{Act as SourceAct, Sent, Stimulus as SourceStimulus};
 use pd_symbols::Channel;
-use pd_timers::Timer;
+use pd_timers::{LAST_TIME, Timer};
 
 /// A call of the layer of a side on a channel: the source has one on each channel, the sink on SOP, the plug on SOP'.
 macro_rules! on_layer {
@@ -75,7 +75,7 @@ impl PortStep {
         self.faults.push(fault);
     }
 
-    /// Puts what waits on a side.
+    /// Puts what waits on a side, in the place of what waited there.
     #[tactic(auto, unfolding(crate::specs::PortStep::wait))]
     pub(crate) fn wait(&mut self, side: Side, waiting: Waiting)
         ensures after { self.new ≡ wait side waiting self.old }
@@ -88,7 +88,8 @@ impl PortStep {
         }
     }
 
-    /// Submits a message to the layer of a side.
+    /// L2: submits a message to the layer of a side, which gives its packet, with the MessageIDCounter; or the message back
+    /// where another is outstanding.
     #[tactic(auto, unfolding(crate::specs::PortStep::submit_on))]
     pub(crate) fn submit_on(
         &mut self,
@@ -105,7 +106,7 @@ impl PortStep {
         on_layer!(self, side, channel, submit(message, revision))
     }
 
-    /// Hands a GoodCRC to the layer of a side.
+    /// L3: hands a GoodCRC's MessageID to the layer of a side, which compares it with that of what is outstanding.
     #[tactic(auto, unfolding(crate::specs::PortStep::good_crc_on))]
     pub(crate) fn good_crc_on(&mut self, side: Side, channel: Channel, id: u8) -> LayerAct
         ensures after { self.new ≡ (good_crc_on side channel id self.old).0 }
@@ -115,7 +116,7 @@ impl PortStep {
         on_layer!(self, side, channel, good_crc(id))
     }
 
-    /// Tells the layer of a side that no GoodCRC has come.
+    /// L4: tells the layer of a side that the CRCReceiveTimer has ended: the packet again, up to nRetryCount times.
     #[tactic(auto, unfolding(crate::specs::PortStep::timed_out_on))]
     pub(crate) fn timed_out_on(&mut self, side: Side, channel: Channel) -> LayerAct
         ensures after { self.new ≡ (timed_out_on side channel self.old).0 }
@@ -125,7 +126,7 @@ impl PortStep {
         on_layer!(self, side, channel, timed_out())
     }
 
-    /// Hands a message's header to the layer of a side.
+    /// L5: hands a message's header to the layer of a side, which tells repeats by the MessageID that it stored.
     #[tactic(auto, unfolding(crate::specs::PortStep::received_on))]
     pub(crate) fn received_on(&mut self, side: Side, channel: Channel, header: u16) -> LayerAct
         ensures after { self.new ≡ (received_on side channel header self.old).0 }
@@ -135,7 +136,7 @@ impl PortStep {
         on_layer!(self, side, channel, received(header))
     }
 
-    /// Resets the layer of a side.
+    /// L1: resets the layer of a side.
     #[tactic(auto, unfolding(crate::specs::PortStep::reset_on))]
     pub(crate) fn reset_on(&mut self, side: Side, channel: Channel)
         ensures after { self.new ≡ reset_on side channel self.old }
@@ -176,7 +177,7 @@ impl PortStep {
     /// Steps the sink's engine.
     #[tactic(auto, unfolding(crate::specs::PortStep::sink_steps))]
     pub fn sink_steps(&mut self, t: u64, stimulus: &SinkStimulus)
-        requires time { t ≤ 120000000 }
+        requires time { t ≤ LAST_TIME }
         requires room { length self.old.faults.items + 1 ≤ 8 }
         ensures after { self.new ≡ sink_steps t stimulus.now self.old }
         ensures faults { length self.new.faults.items ≤ length self.old.faults.items + 1 }
@@ -212,7 +213,7 @@ impl PortStep {
     /// Steps the plug's engine.
     #[tactic(auto, unfolding(crate::specs::PortStep::plug_steps))]
     pub(crate) fn plug_steps(&mut self, t: u64, stimulus: &PlugStimulus)
-        requires { t ≤ 120000000 }
+        requires { t ≤ LAST_TIME }
         ensures after { self.new ≡ plug_steps t stimulus.now self.old }
         ensures faults { self.new.faults ≡ self.old.faults }
     {
@@ -222,7 +223,7 @@ impl PortStep {
 
     /// An act of the source.
     fn source_act(&mut self, t: u64, act: SourceAct)
-        requires time { t ≤ 120000000 }
+        requires time { t ≤ LAST_TIME }
         requires room { length self.old.faults.items + source_noise_of act ≤ 8 }
         ensures after { self.new ≡ source_act t act self.old }
         ensures faults { length self.new.faults.items ≤ length self.old.faults.items + source_noise_of act }
@@ -242,7 +243,7 @@ impl PortStep {
 
     /// The acts of the source, in order.
     fn source_acts(&mut self, t: u64, mut rest: ArrayVec<SourceAct, 8>)
-        requires time { t ≤ 120000000 }
+        requires time { t ≤ LAST_TIME }
         requires room { length self.old.faults.items + source_noise rest.items ≤ 8 }
         ensures after { self.new ≡ source_acts t rest.items self.old }
         ensures faults { length self.new.faults.items ≤ length self.old.faults.items + source_noise rest.items }
@@ -256,7 +257,7 @@ impl PortStep {
     /// Steps the source's engine.
     #[tactic(auto, unfolding(crate::specs::PortStep::source_steps))]
     pub fn source_steps(&mut self, t: u64, stimulus: &SourceStimulus)
-        requires time { t ≤ 120000000 }
+        requires time { t ≤ LAST_TIME }
         requires room { length self.old.faults.items + 2 ≤ 8 }
         ensures after { self.new ≡ source_steps t stimulus.now self.old }
         ensures faults { length self.new.faults.items ≤ length self.old.faults.items + 2 }
@@ -268,7 +269,7 @@ impl PortStep {
     /// What a side has sent has reached its receiver.
     #[tactic(auto, unfolding(crate::specs::PortStep::tells_sent))]
     pub(crate) fn tell_sent(&mut self, side: Side, sent: Sent, t: u64)
-        requires time { t ≤ 120000000 }
+        requires time { t ≤ LAST_TIME }
         requires room { length self.old.faults.items + most side ≤ 8 }
         ensures after { self.new ≡ tells_sent side sent t self.old }
         ensures faults { length self.new.faults.items ≤ length self.old.faults.items + most side }
@@ -283,7 +284,7 @@ impl PortStep {
     /// A side's message was sent as often as it may be, and nobody has answered.
     #[tactic(auto, unfolding(crate::specs::PortStep::tells_failed))]
     pub(crate) fn tell_failed(&mut self, side: Side, t: u64)
-        requires time { t ≤ 120000000 }
+        requires time { t ≤ LAST_TIME }
         requires room { length self.old.faults.items + most side ≤ 8 }
         ensures after { self.new ≡ tells_failed side t self.old }
         ensures faults { length self.new.faults.items ≤ length self.old.faults.items + most side }
@@ -298,7 +299,7 @@ impl PortStep {
     /// A side gets a message.
     #[tactic(auto, unfolding(crate::specs::PortStep::tells_message))]
     pub(crate) fn tell_message(&mut self, side: Side, packet: &Packet, t: u64)
-        requires time { t ≤ 120000000 }
+        requires time { t ≤ LAST_TIME }
         requires room { length self.old.faults.items + most side ≤ 8 }
         ensures after { self.new ≡ tells_message side packet.now t self.old }
         ensures faults { length self.new.faults.items ≤ length self.old.faults.items + most side }
@@ -313,7 +314,7 @@ impl PortStep {
     /// A side gets a Hard Reset.
     #[tactic(auto, unfolding(crate::specs::PortStep::tells_reset))]
     pub(crate) fn tell_reset(&mut self, side: Side, t: u64)
-        requires time { t ≤ 120000000 }
+        requires time { t ≤ LAST_TIME }
         requires room { length self.old.faults.items + most side ≤ 8 }
         ensures after { self.new ≡ tells_reset side t self.old }
         ensures faults { length self.new.faults.items ≤ length self.old.faults.items + most side }
@@ -328,7 +329,7 @@ impl PortStep {
     /// A side's timer has ended.
     #[tactic(auto, unfolding(crate::specs::PortStep::tells_timer))]
     pub fn tell_timer(&mut self, side: Side, timer: Timer, t: u64)
-        requires time { t ≤ 120000000 }
+        requires time { t ≤ LAST_TIME }
         requires room { length self.old.faults.items + most side ≤ 8 }
         ensures after { self.new ≡ tells_timer side timer t self.old }
         ensures faults { length self.new.faults.items ≤ length self.old.faults.items + most side }
@@ -343,7 +344,7 @@ impl PortStep {
     /// A sink is attached through a cable.
     #[tactic(auto, unfolding(crate::specs::PortStep::tells_attach))]
     pub fn tell_attach(&mut self, cable: Cable, sink: SinkSettings, t: u64)
-        requires time { t ≤ 120000000 }
+        requires time { t ≤ LAST_TIME }
         requires room { length self.old.faults.items + 3 ≤ 8 }
         ensures after { self.new ≡ tells_attach cable sink t self.old }
         ensures faults { length self.new.faults.items ≤ length self.old.faults.items + 3 }

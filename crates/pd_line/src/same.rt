@@ -11,10 +11,10 @@ use pd_plug::Plug;
 use pd_protocol::Layer;
 use pd_sink::Sink;
 use pd_source::Source;
-use pd_symbols::Channel;
+use pd_symbols::{Channel, copied};
 
 impl Waiting {
-    /// Whether both are the same.
+    /// Whether the same waits on both.
     fn same(&self, other: &Waiting) -> bool
         ensures { IsTrue result ↔ (self.now ≡ other.now) }
     {
@@ -26,7 +26,7 @@ impl Waiting {
         }
     }
 
-    /// The same.
+    /// A copy of what waits.
     fn copy(&self) -> Waiting
         ensures { result ≡ self.now }
     {
@@ -41,7 +41,7 @@ impl Waiting {
 impl Line {
     ghost use Rattle.pd_line.specs.declared.port_parts.Line.TheVariants as lines;
 
-    /// Whether both are the same.
+    /// Whether the same is on both lines, with the same end.
     fn same(&self, other: &Line) -> bool
         ensures { IsTrue result ↔ (self.now ≡ other.now) }
     {
@@ -142,7 +142,7 @@ impl Line {
         }
     }
 
-    /// The same.
+    /// A copy of what is on the line.
     fn copy(&self) -> Line
         ensures { result ≡ self.now }
     {
@@ -191,7 +191,7 @@ impl Line {
 }
 
 impl Disturbance {
-    /// Whether both are the same.
+    /// Whether both do the same to a packet.
     fn same(&self, other: &Disturbance) -> bool
         ensures { IsTrue result ↔ (self.now ≡ other.now) }
     {
@@ -203,6 +203,7 @@ impl Disturbance {
     }
 }
 
+/// Whether the same disturbances wait, in the same order.
 fn same_disturbances(first: &[Disturbance], second: &[Disturbance]) -> bool
     ensures { IsTrue result ↔ (first.now ≡ second.now) }
 {
@@ -211,14 +212,6 @@ fn same_disturbances(first: &[Disturbance], second: &[Disturbance]) -> bool
         ([x, xs @ ..], [y, ys @ ..]) => x.same(y) && same_disturbances(xs, ys),
         _ => false,
     }
-}
-
-fn copy_disturbances(disturbances: &ArrayVec<Disturbance, 8>) -> ArrayVec<Disturbance, 8>
-    ensures { result ≡ disturbances.now }
-{
-    let mut copy = ArrayVec::new();
-    let _fits = copy.try_extend_from_slice(disturbances.as_slice());
-    copy
 }
 
 impl PortParts {
@@ -250,6 +243,7 @@ impl PortParts {
         }
     }
 
+    /// Whether the engines of both sides and the plug are the same, but for what the source is set to.
     fn same_engines(&self, other: &PortParts) -> bool
         ensures { IsTrue result ↔ ((self.now.source.record ≡ other.now.source.record) × (self.now.sink ≡ other.now.sink)
             × (self.now.plug ≡ other.now.plug)) }
@@ -259,6 +253,7 @@ impl PortParts {
             && self.plug.same(&other.plug)
     }
 
+    /// Whether the four layers are the same.
     fn same_layers(&self, other: &PortParts) -> bool
         ensures { IsTrue result ↔ ((self.now.source_sop ≡ other.now.source_sop) × (self.now.sink_sop ≡ other.now.sink_sop)
             × (self.now.source_sop_prime ≡ other.now.source_sop_prime) × (self.now.plug_sop_prime ≡ other.now.plug_sop_prime)) }
@@ -269,6 +264,7 @@ impl PortParts {
             && self.plug_sop_prime.same(&other.plug_sop_prime)
     }
 
+    /// Whether the same waits on each side.
     fn same_waiting(&self, other: &PortParts) -> bool
         ensures { IsTrue result ↔ ((self.now.source_waits ≡ other.now.source_waits) × (self.now.sink_waits ≡ other.now.sink_waits)
             × (self.now.plug_waits ≡ other.now.plug_waits)) }
@@ -278,7 +274,7 @@ impl PortParts {
             && self.plug_waits.same(&other.plug_waits)
     }
 
-    /// Whether both are the same, whatever their sources are set to.
+    /// Whether both records are the same, whatever their sources are set to.
     pub fn same(&self, other: &PortParts) -> bool
         ensures { IsTrue result ↔ (without_settings self.now ≡ without_settings other.now) }
     {
@@ -290,7 +286,7 @@ impl PortParts {
             && same_disturbances(self.disturbances.as_slice(), other.disturbances.as_slice())
     }
 
-    /// The same record.
+    /// A copy of all parts, with what the source is set to.
     pub fn copy(&self) -> PortParts
         ensures { result ≡ self.now }
     {
@@ -307,7 +303,7 @@ impl PortParts {
             sink_waits: self.sink_waits.copy(),
             plug_waits: self.plug_waits.copy(),
             line: self.line.copy(),
-            disturbances: copy_disturbances(&self.disturbances),
+            disturbances: copied(self.disturbances.as_slice()),
         }
     }
 }

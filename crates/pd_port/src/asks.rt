@@ -13,6 +13,7 @@ use pd_protocol::{Layer, LayerAct};
 use pd_source::{Sent, Stimulus};
 use pd_symbols::Channel;
 
+/// A copy of the source's layer on a channel, to be asked what it would answer.
 fn copy_of_source_layer(port: &PortParts, channel: Channel) -> Layer
     ensures { result ≡ source_layer channel port.now }
 {
@@ -22,6 +23,7 @@ fn copy_of_source_layer(port: &PortParts, channel: Channel) -> Layer
     }
 }
 
+/// N3: with what the source is stepped where a GoodCRC ends.
 fn told_at_good_crc(
     port: &PortParts,
     side: Side,
@@ -47,6 +49,7 @@ fn told_at_good_crc(
     }
 }
 
+/// N4: with what the source is stepped where its CRCReceiveTimer ends.
 fn told_at_time_out(port: &PortParts, side: Side, packet: &Packet) -> Option<Stimulus>
     ensures { result ≡ told_at_time_out side packet.now port.now }
 {
@@ -59,6 +62,7 @@ fn told_at_time_out(port: &PortParts, side: Side, packet: &Packet) -> Option<Sti
     }
 }
 
+/// N5: with what the source is stepped where a side's Hard Reset ends.
 fn told_of_reset(port: &PortParts, side: Side) -> Option<Stimulus>
     ensures { result ≡ told_of_reset side port.now }
 {
@@ -72,6 +76,7 @@ fn told_of_reset(port: &PortParts, side: Side) -> Option<Stimulus>
     }
 }
 
+/// With what the source is stepped where what is on the line ends.
 fn told_by_line(port: &PortParts) -> Option<Stimulus>
     ensures { result ≡ told_by_line port.now.line port.now }
 {
@@ -89,6 +94,7 @@ fn told_by_line(port: &PortParts) -> Option<Stimulus>
     }
 }
 
+/// With what the source is stepped by an event.
 fn told_by_event(port: &PortParts, happening: &Happening) -> Option<Stimulus>
     ensures { result ≡ told_by_event happening.now port.now }
 {

@@ -15,7 +15,7 @@ pub enum What {
 }
 
 impl What {
-    /// Whether both are the same.
+    /// Whether the same falls due: an equal event, the line, or the same side's same timer.
     pub fn same(&self, other: &What) -> bool
         ensures { IsTrue result ↔ (self.now ≡ other.now) }
     {
@@ -42,7 +42,7 @@ pub struct Due {
 }
 
 impl Due {
-    /// Whether both are the same.
+    /// Whether the same falls due at the same time.
     pub fn same(&self, other: &Due) -> bool
         ensures { IsTrue result ↔ (self.now ≡ other.now) }
     {

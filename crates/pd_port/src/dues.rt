@@ -10,6 +10,7 @@ use pd_header::Side;
 use pd_line::stepping::Line;
 use pd_timers::{Timer, place_of};
 
+/// The place of a side among those whose same timer ends at one time.
 fn place_of_side(side: Side) -> usize
     ensures value { result ≡ side_place side }
     ensures few { result < 3 }
@@ -21,6 +22,7 @@ fn place_of_side(side: Side) -> usize
     }
 }
 
+/// The place of what falls due among all that falls due at one time.
 fn rank_of(what: &What) -> usize
     ensures { result ≡ rank what.now }
 {
@@ -31,6 +33,7 @@ fn rank_of(what: &What) -> usize
     }
 }
 
+/// Whether something falls due before something else.
 #[tactic(auto, unfolding(crate::specs::Port::is_before))]
 fn comes_before(first: &Due, second: &Due) -> bool
     ensures { result ≡ is_before first.now second.now }
@@ -39,6 +42,7 @@ fn comes_before(first: &Due, second: &Due) -> bool
         || (first.time == second.time && rank_of(&first.what) < rank_of(&second.what))
 }
 
+/// The earlier of two dues, the first where neither is.
 pub(crate) fn earlier_of(first: Option<Due>, second: Option<Due>) -> Option<Due>
     ensures { result ≡ earlier first second }
 {
@@ -55,6 +59,7 @@ pub(crate) fn earlier_of(first: Option<Due>, second: Option<Due>) -> Option<Due>
     }
 }
 
+/// The line's due: the end of what is on it.
 pub(crate) fn due_of_line(line: &Line) -> Option<Due>
     ensures { result ≡ line_due (line_end line.now) }
 {
@@ -72,6 +77,7 @@ pub(crate) fn due_of_line(line: &Line) -> Option<Due>
     })
 }
 
+/// A side's due: the end of its engine's first timer.
 pub(crate) fn due_of_timer(side: Side, first: Option<(u64, Timer)>) -> Option<Due>
     ensures { result ≡ timer_due side first }
 {
@@ -82,6 +88,7 @@ pub(crate) fn due_of_timer(side: Side, first: Option<(u64, Timer)>) -> Option<Du
     })
 }
 
+/// The next event, as a due.
 pub(crate) fn due_of_event(next: Option<&Event>) -> Option<Due>
     ensures { result ≡ event_due (option_copied next.entry) }
 {

@@ -7,6 +7,7 @@ use crate::Due;
 use arrayvec::ArrayVec;
 use pd_line::{Fault, Start};
 use pd_objects::{Contract, Query};
+use pd_symbols::copied;
 
 /// What becomes of a port's contract in a step.
 #[derive(Clone, Copy, Debug, PartialEq, Eq)]
@@ -30,23 +31,22 @@ pub struct Entry {
 }
 
 impl Entry {
-    /// The same entry.
+    /// A copy, with all notes.
     pub fn copy(&self) -> Entry
         ensures { result ≡ self.now }
     {
-        let mut faults = ArrayVec::new();
-        let _fits = faults.try_extend_from_slice(self.faults.as_slice());
         Entry {
             at: self.at,
             due: self.due,
             query: copy_query(&self.query),
-            faults,
+            faults: copied(self.faults.as_slice()),
             contract: self.contract,
             start: copy_start(&self.start),
         }
     }
 }
 
+/// A copy of what was asked.
 fn copy_query(query: &Option<Query>) -> Option<Query>
     ensures { result ≡ query.now }
 {
@@ -56,6 +56,7 @@ fn copy_query(query: &Option<Query>) -> Option<Query>
     }
 }
 
+/// A copy of what starts.
 fn copy_start(start: &Option<Start>) -> Option<Start>
     ensures { result ≡ start.now }
 {

@@ -11,6 +11,7 @@ use pd_line::stepping::{Disturbance, PortParts, PortStep};
 use pd_objects::Answer;
 use pd_sink::Stimulus as SinkStimulus;
 use pd_source::Stimulus as SourceStimulus;
+use pd_timers::LAST_TIME;
 
 /// The cable is pulled out.
 #[tactic(auto, unfolding(crate::specs::Happens::detaches))]
@@ -41,7 +42,7 @@ fn disturbs(step: &mut PortStep, id: u32, disturbance: Disturbance)
 /// The sink is to ask for the source's capabilities.
 #[tactic(auto, unfolding(crate::specs::Happens::gets_source))]
 fn gets_source(step: &mut PortStep, id: u32, t: u64)
-    requires time { t ≤ 120000000 }
+    requires time { t ≤ LAST_TIME }
     requires room { length step.old.faults.items ≤ 4 }
     ensures { step.new ≡ gets_source id t step.old }
 {
@@ -55,7 +56,7 @@ fn gets_source(step: &mut PortStep, id: u32, t: u64)
 /// The source is to ask for the sink's capabilities.
 #[tactic(auto, unfolding(crate::specs::Happens::gets_sink))]
 fn gets_sink(step: &mut PortStep, id: u32, t: u64)
-    requires time { t ≤ 120000000 }
+    requires time { t ≤ LAST_TIME }
     requires room { length step.old.faults.items ≤ 4 }
     ensures { step.new ≡ gets_sink id t step.old }
 {
@@ -68,7 +69,7 @@ fn gets_sink(step: &mut PortStep, id: u32, t: u64)
 
 /// An event while a sink is attached.
 fn happens_attached(step: &mut PortStep, settings: &Settings, id: u32, kind: &EventKind, t: u64)
-    requires time { t ≤ 120000000 }
+    requires time { t ≤ LAST_TIME }
     requires room { length step.old.faults.items ≤ 4 }
     requires settings { step.old.port.source.settings ≡ source_settings settings.now }
     ensures { step.new ≡ happens_attached id kind.now t step.old }
@@ -86,7 +87,7 @@ fn happens_attached(step: &mut PortStep, settings: &Settings, id: u32, kind: &Ev
 
 /// An event while nothing is attached.
 fn happens_detached(step: &mut PortStep, id: u32, kind: &EventKind, t: u64)
-    requires time { t ≤ 120000000 }
+    requires time { t ≤ LAST_TIME }
     requires room { length step.old.faults.items ≤ 4 }
     ensures { step.new ≡ happens_detached id kind.now t step.old }
 {
@@ -98,7 +99,7 @@ fn happens_detached(step: &mut PortStep, id: u32, kind: &EventKind, t: u64)
 
 /// An event of the port.
 fn port_event_happens(step: &mut PortStep, settings: &Settings, id: u32, kind: &EventKind, t: u64)
-    requires time { t ≤ 120000000 }
+    requires time { t ≤ LAST_TIME }
     requires room { length step.old.faults.items ≤ 4 }
     requires settings { step.old.port.source.settings ≡ source_settings settings.now }
     ensures { step.new ≡ port_event_happens id kind.now t step.old }
@@ -113,7 +114,7 @@ fn port_event_happens(step: &mut PortStep, settings: &Settings, id: u32, kind: &
 /// The shared budget has changed: the answer is whether the port's hold may stay.
 #[tactic(auto, unfolding(crate::specs::Happens::budget_changes))]
 fn budget_changes(step: &mut PortStep, t: u64)
-    requires time { t ≤ 120000000 }
+    requires time { t ≤ LAST_TIME }
     requires room { length step.old.faults.items ≤ 4 }
     ensures { step.new ≡ budget_changes t step.old }
 {
@@ -124,7 +125,7 @@ fn budget_changes(step: &mut PortStep, t: u64)
 
 /// What an event does.
 pub(crate) fn event_happens(step: &mut PortStep, settings: &Settings, happening: &Happening, t: u64)
-    requires time { t ≤ 120000000 }
+    requires time { t ≤ LAST_TIME }
     requires room { length step.old.faults.items ≤ 4 }
     requires settings { step.old.port.source.settings ≡ source_settings settings.now }
     ensures { step.new ≡ event_happens happening.now t step.old }

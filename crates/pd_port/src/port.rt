@@ -14,6 +14,7 @@ use arrayvec::ArrayVec;
 use pd_header::Side;
 use pd_line::stepping::{PortParts, PortStep};
 use pd_objects::{Answer, Contract, Query};
+use pd_timers::LAST_TIME;
 use std::marker::Model;
 use std::mem;
 
@@ -37,6 +38,7 @@ impl Model for Port {
         × (p.under_way.port.source.settings ≡ source_settings p.settings) };
 }
 
+/// The earliest of the next event, the line's end and each engine's first timer.
 #[tactic(auto, unfolding(crate::specs::Port::due))]
 fn due_of(port: &PortParts, next: Option<&Event>) -> Option<Due>
     ensures { result ≡ the_due (without_settings port.now) (option_copied next.entry) }
@@ -51,7 +53,7 @@ fn due_of(port: &PortParts, next: Option<&Event>) -> Option<Due>
 
 /// What falls due happens.
 fn happens(step: &mut PortStep, settings: &Settings, what: &What, t: u64)
-    requires time { t ≤ 120000000 }
+    requires time { t ≤ LAST_TIME }
     requires room { length step.old.faults.items ≤ 4 }
     requires settings { step.old.port.source.settings ≡ source_settings settings.now }
     ensures { step.new ≡ happens what.now t step.old }
@@ -111,7 +113,7 @@ impl Port {
     /// The step for this due, with the answer to what the port asked. The meter rises by one.
     #[tactic(auto, unfolding(crate::specs::Port::portstep))]
     pub fn step(&mut self, due: &Due, answer: Option<Answer>, meter: &mut Meter) -> Entry
-        requires { due.now.time ≤ 120000000 }
+        requires { due.now.time ≤ LAST_TIME }
         ensures after { self.new ≡ record self.old { port_record = record_after self.old.settings self.old.port_record due.now answer } }
         ensures entry { result ≡ entry_of self.old.settings self.old.port_record due.now answer }
         ensures meter { meter.new ≡ raised meter.old 1 }

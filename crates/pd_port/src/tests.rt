@@ -9,6 +9,7 @@ use pd_header::{Kind, Side, header_kind};
 use pd_identity::{Cable, CablePlug, Rating};
 use pd_objects::{Answer, Contract, Query, Supply};
 use pd_setup::{SinkMode, SinkRevision, SinkSettings};
+use pd_timers::LAST_TIME;
 
 /// What was seen of a run: the times at which messages started, GoodCRCs apart, and how many did; the times of Hard
 /// Resets; the first contract's time; the last change of the contract that was told, and when; the faults; and the
@@ -101,7 +102,7 @@ fn run(port: &mut Port, events: &[Event], end: u64) -> Seen {
         let Some(due) = port.due(events.get(next)) else {
             break;
         };
-        if due.time > end || due.time > 120_000_000 {
+        if due.time > end || due.time > LAST_TIME {
             break;
         }
         let answer = match port.ask(&due) {
@@ -141,7 +142,7 @@ fn larger_port() -> Port {
 fn event(id: u32, at: u64, kind: EventKind) -> Event
     requires least_id { 1 ≤ id }
     requires most_id { id ≤ 1000000 }
-    requires in_time { at ≤ 120000000 }
+    requires in_time { at ≤ LAST_TIME }
 {
     Event::new(at, Happening::Port { id, kind })
 }
@@ -150,7 +151,7 @@ fn event(id: u32, at: u64, kind: EventKind) -> Event
 fn attach(id: u32, at: u64, demand_mw: u32, mode: SinkMode, revision: SinkRevision) -> Event
     requires least_id { 1 ≤ id }
     requires most_id { id ≤ 1000000 }
-    requires in_time { at ≤ 120000000 }
+    requires in_time { at ≤ LAST_TIME }
     requires least { 50 ≤ demand_mw }
     requires most { demand_mw ≤ 100000 }
 {
@@ -166,7 +167,7 @@ fn attach(id: u32, at: u64, demand_mw: u32, mode: SinkMode, revision: SinkRevisi
 fn phone(id: u32, at: u64) -> Event
     requires least_id { 1 ≤ id }
     requires most_id { id ≤ 1000000 }
-    requires in_time { at ≤ 120000000 }
+    requires in_time { at ≤ LAST_TIME }
 {
     attach(
         id,
@@ -266,10 +267,10 @@ fn fifty_one_offers_to_a_plain_sink(rt: HostRuntime) {
 
 #[test]
 fn so_many_steps_in_two_minutes(rt: HostRuntime) {
-    let seen = run(&mut port(1), &[phone(1, 0)], 120_000_000);
+    let seen = run(&mut port(1), &[phone(1, 0)], LAST_TIME);
     assert!(rt; seen.steps == 263);
     let events = [phone(1, 0), event(2, 58_800, EventKind::Lose)];
-    let seen = run(&mut port(1), &events, 120_000_000);
+    let seen = run(&mut port(1), &events, LAST_TIME);
     assert!(rt; seen.steps == 268);
 }
 

@@ -2,7 +2,7 @@
 
 use super::*;
 use pd_packet::{Damage, Fate};
-use pd_timers::Timer;
+use pd_timers::{LAST_TIME, Timer};
 
 /// What becomes of the packet that starts at a time.
 fn fate_at(port: &mut Port, events: &[Event], time: u64) -> Option<Fate> {
@@ -10,7 +10,7 @@ fn fate_at(port: &mut Port, events: &[Event], time: u64) -> Option<Fate> {
     let mut next: usize = 0;
     for _ in 0..40 {
         let due = port.due(events.get(next))?;
-        if due.time > time || due.time > 120_000_000 {
+        if due.time > time || due.time > LAST_TIME {
             return None;
         }
         let answer = match port.ask(&due) {
