@@ -1,3 +1,2 @@
 pub mod Words
-pub mod Decimals
-pub mod Vendor
+pub mod Numbers

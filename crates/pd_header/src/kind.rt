@@ -1,39 +1,54 @@
-//! Kinds of messages.
+//! Kinds of messages, their numbers and their names.
 
-ghost use Rattle.std.specs.Prelude.{◌≡◌, ◌<◌, ◌^◌, ◌≤◌, ◌+◌, [], ◌∷◌, ◌++◌, length, decimal};
-ghost use Rattle.arrayvec.specs.ArrayString.{array_string_len};
-ghost use Rattle.pd_header.specs.Kinds.{is_soft_reset, kind_of, name_of};
+ghost use Rattle.std.specs.Prelude.{◌≡◌};
+ghost use Rattle.pd_header.specs.Kinds.{is_soft_reset, kind_of, name_of, number_of};
 
 use arrayvec::ArrayString;
+use itoa::Buffer;
 
 /// What a message is: its type in the header, read beside the count of its objects (USB Power Delivery 3.0, sections
-/// 6.3 and 6.4).
+/// 6.3 and 6.4). Control messages have no objects, and data messages have one at the least.
+///
+/// `number`, `name` and `kind_of` are the code's table of the messages. What a message becomes where it is heard, and
+/// what sends it, stands in pd_line, `told.rt`.
 #[derive(Clone, Copy, Debug, PartialEq, Eq)]
 pub enum Kind {
+    /// GoodCRC, a control message: whoever heard a message answers it.
     GoodCrc,
+    /// Accept, a control message: of the source to a Request, and of source and sink to a Soft_Reset.
     Accept,
+    /// Reject, a control message: of the source to a Request.
     Reject,
+    /// PS_RDY, a control message: the source's power is as agreed.
     PsRdy,
+    /// Get_Source_Cap, a control message: the sink asks for Source_Capabilities.
     GetSourceCap,
+    /// Get_Sink_Cap, a control message: the source asks for Sink_Capabilities.
     GetSinkCap,
+    /// Wait, a control message: of the source to a Request.
     Wait,
+    /// Soft_Reset, a control message of the source and the sink.
     SoftReset,
+    /// Not_Supported, a control message, which no side of the bench sends.
     NotSupported,
+    /// Source_Capabilities, a data message: the source's offer.
     SourceCapabilities,
+    /// Request, a data message: the sink asks for one supply of the offer.
     Request,
+    /// Sink_Capabilities, a data message: the sink answers Get_Sink_Cap.
     SinkCapabilities,
+    /// Vendor_Defined, a data message: the source asks the plug who it is, and the plug answers.
     VendorDefined,
-    /// Another type, 0 to 31.
+    /// A message of another type.
     Other(u8),
 }
 
-/// The kind of a message of this type, 0 to 31, with so many objects, 0 to 7.
+/// The kind of a message of this type, the number in bits 4 to 0 of its header, with so many objects.
 #[tactic(auto, unfolding(crate::specs::Kinds::kind_of))]
-pub fn kind_of(kind: u8, count: u8) -> Kind
-    requires { kind < 2 ^ 5 }
-    ensures { result ≡ kind_of kind count }
+pub fn kind_of(number: u8, count: u8) -> Kind
+    ensures { result ≡ kind_of number count }
 {
-    match (count, kind) {
+    match (count, number) {
         (0, 1) => Kind::GoodCrc,
         (0, 3) => Kind::Accept,
         (0, 4) => Kind::Reject,
@@ -47,34 +62,33 @@ pub fn kind_of(kind: u8, count: u8) -> Kind
         (1.., 2) => Kind::Request,
         (1.., 4) => Kind::SinkCapabilities,
         (1.., 15) => Kind::VendorDefined,
-        _ => Kind::Other(kind),
+        _ => Kind::Other(number),
     }
-}
-
-/// Appends a decimal digit.
-fn push_digit(text: &mut ArrayString<20>, digit: u8)
-    requires digit { digit < 10 }
-    requires room { array_string_len text.old < 20 }
-    ensures { text.new.bytes ≡ text.old.bytes ++ (48 + digit) ∷ [] }
-{
-    text.push(char::from(b'0' + digit));
-}
-
-/// Appends a number in decimal.
-#[tactic(auto, using(crate::proofs::Decimals::one_digit, crate::proofs::Decimals::more_digits, crate::proofs::Decimals::length_more))]
-fn push_decimal(text: &mut ArrayString<20>, number: u8)
-    requires { array_string_len text.old + length (decimal number) ≤ 20 }
-    ensures { text.new.bytes ≡ text.old.bytes ++ decimal number }
-{
-    if number < 10 {
-        push_digit(text, number);
-        return;
-    }
-    push_decimal(text, number / 10);
-    push_digit(text, number % 10);
 }
 
 impl Kind {
+    /// The message's type: the number in bits 4 to 0 of its header.
+    pub fn number(&self) -> u8
+        ensures { result ≡ number_of self.now }
+    {
+        match self {
+            Kind::GoodCrc => 1,
+            Kind::Accept => 3,
+            Kind::Reject => 4,
+            Kind::PsRdy => 6,
+            Kind::GetSourceCap => 7,
+            Kind::GetSinkCap => 8,
+            Kind::Wait => 12,
+            Kind::SoftReset => 13,
+            Kind::NotSupported => 16,
+            Kind::SourceCapabilities => 1,
+            Kind::Request => 2,
+            Kind::SinkCapabilities => 4,
+            Kind::VendorDefined => 15,
+            Kind::Other(number) => *number,
+        }
+    }
+
     /// Whether it is a Soft_Reset.
     pub fn is_soft_reset(&self) -> bool
         ensures { result ≡ is_soft_reset self.now }
@@ -83,7 +97,6 @@ impl Kind {
     }
 
     /// The name that is shown: the standard's, and for another type `Type` and the type in decimal.
-    #[tactic(auto, using(crate::proofs::Decimals::length_byte))]
     pub fn name(&self) -> ArrayString<20>
         ensures { result.bytes ≡ name_of self.now }
     {
@@ -102,9 +115,9 @@ impl Kind {
             Kind::Request => name.push_str("Request"),
             Kind::SinkCapabilities => name.push_str("Sink_Capabilities"),
             Kind::VendorDefined => name.push_str("Vendor_Defined"),
-            Kind::Other(kind) => {
+            Kind::Other(number) => {
                 name.push_str("Type");
-                push_decimal(&mut name, *kind);
+                name.push_str(Buffer::new().format(*number));
             }
         }
         name

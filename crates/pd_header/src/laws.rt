@@ -1,6 +1,6 @@
 //! Laws of the definitions. They run nothing.
 
-ghost use Rattle.pd_header.specs.Laws.{PackedUnpacked, UnpackedPacked, VendorDefinedIs15};
+ghost use Rattle.pd_header.specs.Laws.{KindsComeBack, NumbersComeBack, PackedUnpacked, UnpackedPacked};
 
 /// The fields of a header's word are the header's.
 pub fn unpacked_packed()
@@ -12,7 +12,12 @@ pub fn packed_unpacked()
     ensures { PackedUnpacked }
 {}
 
-/// Vendor_Defined is the message of type 15 alone.
-pub fn vendor_defined_is_15()
-    ensures { VendorDefinedIs15 }
+/// The number of a message in the table tells that message.
+pub fn kinds_come_back()
+    ensures { KindsComeBack }
+{}
+
+/// The kind that a number tells has that number: so Vendor_Defined, for one, is the message of type 15 alone.
+pub fn numbers_come_back()
+    ensures { NumbersComeBack }
 {}

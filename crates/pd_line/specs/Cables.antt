@@ -2,6 +2,8 @@
 -- the attached cable answers.
 use Rattle.std.specs.Prelude.{◌≡◌, ◌⊎◌, ℕ, ◌%◌, ◌^◌, List, [], Option, Some, None}
 use Rattle.pd_header.specs.Header.{type_of}
+use Rattle.pd_header.specs.Kinds.{number_of}
+use Rattle.pd_header.specs.declared.kind.Kind.TheVariants.{VendorDefined}
 use Rattle.pd_header.specs.declared.side.Side.{Side}
 use Rattle.pd_header.specs.declared.side.Side.TheVariants.{Source, Sink, Plug}
 use Rattle.pd_identity.specs.declared.Cable.{Cable}
@@ -14,9 +16,9 @@ use Rattle.pd_line.specs.declared.port_parts.Waiting.{Waiting}
 use Rattle.pd_line.specs.declared.port_parts.Waiting.TheVariants as waits
 use Rattle.pd_line.specs.Record.{PortRecord}
 
--- what is of type 15, Vendor_Defined, has the objects that the cable answers, or none
+-- what is of the type of Vendor_Defined has the objects that the cable answers, or none
 abbrev pub Tells : Option Cable → ℕ → List ℕ → Type 0
-Tells cable kind objects = kind ≡ 15 → (objects ≡ []) ⊎ (objects ≡ identity_of cable)
+Tells cable number objects = number ≡ number_of VendorDefined → (objects ≡ []) ⊎ (objects ≡ identity_of cable)
 
 -- a packet by which a side may tell the source: the source's own packets don't reach it
 abbrev pub TellsOn : Option Cable → Side → Contents → Type 0

@@ -6,7 +6,8 @@ use Rattle.pd_symbols.specs.declared.channel.Channel.{Channel}
 use Rattle.pd_symbols.specs.declared.channel.Channel.TheVariants.{Sop, SopPrime}
 use Rattle.pd_header.specs.declared.side.Side.{Side}
 use Rattle.pd_header.specs.declared.side.Side.TheVariants.{Source, Sink, Plug}
-use Rattle.pd_header.specs.Kinds.{kind_of_header}
+use Rattle.pd_header.specs.declared.kind.Kind.TheVariants.{VendorDefined}
+use Rattle.pd_header.specs.Kinds.{kind_of_header, number_of}
 use Rattle.pd_header.specs.Header.{id_of}
 use Rattle.pd_packet.specs.Contents.{Contents}
 use Rattle.pd_packet.specs.Timing.{duration_of, symbols_of, hard_reset_duration}
@@ -66,12 +67,12 @@ receiver Source SopPrime = Plug
 receiver Sink channel = Source
 receiver Plug channel = Source
 
--- which channel a side speaks on. The source speaks to the plug in Vendor_Defined messages alone, of type 15, and to the sink
--- in all others.
+-- which channel a side speaks on, in messages of a type. The source speaks to the plug in Vendor_Defined messages alone, and
+-- to the sink in all others.
 abbrev pub channel_for : Side → ℕ → Channel
-channel_for Source kind = if kind == 15 then SopPrime else Sop
-channel_for Sink kind = Sop
-channel_for Plug kind = SopPrime
+channel_for Source number = if number == number_of VendorDefined then SopPrime else Sop
+channel_for Sink number = Sop
+channel_for Plug number = SopPrime
 
 -- whether a side hears: its engine is neither off nor disabled
 unfoldable pub hears : Side → PortStep → Bool

@@ -1,12 +1,15 @@
--- What messages (USB Power Delivery 3.0, sections 6.3 and 6.4, by their types) are to the engines, and what the engines send
--- and note.
-use Rattle.std.specs.Prelude.{ℕ, ◌==◌, if◌then◌else◌, List, [], ◌∷◌}
+-- What messages are to the engines, and what the engines send and note. The table of the messages in pd_header,
+-- specs/Kinds.antt, has each one's number, name and senders; this file goes on with what a message becomes where it is heard,
+-- and with the message that each sending of an engine is.
+use Rattle.std.specs.Prelude.{ℕ, ◌==◌, if◌then◌else◌, List, [], ◌∷◌, Contains}
 use Rattle.pd_header.specs.Header.{revision_of}
 use Rattle.pd_header.specs.declared.kind.Kind.{Kind}
 use Rattle.pd_header.specs.declared.kind.Kind.TheVariants as kind
-use Rattle.pd_header.specs.declared.side.Side.TheVariants.{Source, Sink}
+use Rattle.pd_header.specs.declared.side.Side.{Side}
+use Rattle.pd_header.specs.declared.side.Side.TheVariants.{Source, Sink, Plug}
+use Rattle.pd_header.specs.Kinds.{message_row}
 use Rattle.pd_identity.specs.Identity.{header_of, req}
-use Rattle.pd_protocol.specs.Messages.{MessageData}
+use Rattle.pd_protocol.specs.Messages.{MessageData, message_of}
 use Rattle.pd_source.specs.declared.kinds.Note.{Note as SourceNote}
 use Rattle.pd_source.specs.declared.kinds.Note.TheVariants as source_note
 use Rattle.pd_source.specs.declared.kinds.Sending.{Sending as SourceSending}
@@ -59,32 +62,44 @@ sent_as kind.Accept = sent.Accept
 sent_as kind.PsRdy = sent.PsRdy
 sent_as k = sent.Other
 
--- a message without objects
-abbrev pub control : ℕ → MessageData
-control type_number = record { kind = type_number; objects = [] }
+-- the kind and the objects of the message that the source sends
+abbrev pub source_sends : SourceSending → Kind × List ℕ
+source_sends source_sending.DiscoverIdentity = (kind.VendorDefined, header_of req ∷ [])
+source_sends (source_sending.SourceCapabilities objects) = (kind.SourceCapabilities, objects.items)
+source_sends source_sending.Accept = (kind.Accept, [])
+source_sends source_sending.Reject = (kind.Reject, [])
+source_sends source_sending.Wait = (kind.Wait, [])
+source_sends source_sending.PsRdy = (kind.PsRdy, [])
+source_sends source_sending.GetSinkCap = (kind.GetSinkCap, [])
+source_sends source_sending.SoftReset = (kind.SoftReset, [])
 
--- the message that the source sends (USB Power Delivery 3.0, sections 6.3 and 6.4)
+-- the kind and the objects of the message that the sink sends
+abbrev pub sink_sends : SinkSending → Kind × List ℕ
+sink_sends (sink_sending.Request object) = (kind.Request, object ∷ [])
+sink_sends sink_sending.GetSourceCap = (kind.GetSourceCap, [])
+sink_sends (sink_sending.SinkCapabilities objects) = (kind.SinkCapabilities, objects.items)
+sink_sends sink_sending.Accept = (kind.Accept, [])
+sink_sends sink_sending.SoftReset = (kind.SoftReset, [])
+
 abbrev pub source_message : SourceSending → MessageData
-source_message source_sending.DiscoverIdentity = record { kind = 15; objects = header_of req ∷ [] }
-source_message (source_sending.SourceCapabilities objects) = record { kind = 1; objects = objects.items }
-source_message source_sending.Accept = control 3
-source_message source_sending.Reject = control 4
-source_message source_sending.Wait = control 12
-source_message source_sending.PsRdy = control 6
-source_message source_sending.GetSinkCap = control 8
-source_message source_sending.SoftReset = control 13
+source_message sending = message_of (source_sends sending).0 (source_sends sending).1
 
--- the message that the sink sends
 abbrev pub sink_message : SinkSending → MessageData
-sink_message (sink_sending.Request object) = record { kind = 2; objects = object ∷ [] }
-sink_message sink_sending.GetSourceCap = control 7
-sink_message (sink_sending.SinkCapabilities objects) = record { kind = 4; objects = objects.items }
-sink_message sink_sending.Accept = control 3
-sink_message sink_sending.SoftReset = control 13
+sink_message sending = message_of (sink_sends sending).0 (sink_sends sending).1
 
 -- the message that the plug sends, which answers Discover Identity
 abbrev pub plug_message : List ℕ → MessageData
-plug_message objects = record { kind = 15; objects = objects }
+plug_message objects = message_of kind.VendorDefined objects
+
+-- the table of the messages has the side among those that send this kind
+abbrev pub SentBy : Side → Kind → Type 0
+SentBy side kind = Contains (message_row kind).senders side
+
+-- each message that an engine sends is one that its side sends by the table
+pub record SendersAreListed : Type 0 where
+  pub source : (sending : SourceSending) → SentBy Source (source_sends sending).0
+  pub sink : (sending : SinkSending) → SentBy Sink (sink_sends sending).0
+  pub plug : SentBy Plug kind.VendorDefined
 
 -- what the source notes
 abbrev pub source_fault : SourceNote → Fault

@@ -2,6 +2,7 @@
 #![tactic(auto)]
 
 mod hard_reset;
+pub mod laws;
 mod lines;
 mod notes;
 mod port_parts;

@@ -7,7 +7,7 @@ use crate::notes::{Fault, Start};
 use crate::port_parts::{Disturbance, Line, Waiting};
 use crate::port_step::PortStep;
 use crate::told::sent_as;
-use pd_header::{Side, header_id, header_kind};
+use pd_header::{Kind, Side, header_id, header_kind};
 use pd_packet::{Fate, Packet, duration, hard_reset_duration, packet_duration, reaches};
 use pd_protocol::{LayerAct, Message, good_crc_for};
 use pd_source::Sent;
@@ -41,7 +41,7 @@ fn channel_for(side: Side, kind: u8) -> Channel
     ensures { result ≡ channel_for side kind }
 {
     match side {
-        Side::Source if kind != 15 => Channel::Sop,
+        Side::Source if kind != Kind::VendorDefined.number() => Channel::Sop,
         Side::Source | Side::Plug => Channel::SopPrime,
         Side::Sink => Channel::Sop,
     }

@@ -1,4 +1,5 @@
-//! What messages are to the engines, and what the engines send and note.
+//! What messages are to the engines, and what the engines send and note: with the numbers and names of pd_header,
+//! `Kind`, all that is fixed of a message.
 
 ghost use Rattle.std.specs.Prelude.{◌≡◌, ◌≤◌, length, [], ◌∷◌};
 ghost use Rattle.pd_header.specs.Kinds.{kind_of_header};
@@ -14,15 +15,7 @@ use pd_plug::Stimulus as PlugStimulus;
 use pd_protocol::Message;
 use pd_sink::{Note as SinkNote, Sending as SinkSending, Stimulus as SinkStimulus};
 use pd_source::{Note as SourceNote, Sending as SourceSending, Sent, Stimulus as SourceStimulus};
-
-/// The objects of a packet.
-fn objects_of(packet: &Packet) -> ArrayVec<u32, 7>
-    ensures { result.items ≡ packet.now.objects }
-{
-    let mut objects = ArrayVec::<u32, 7>::new();
-    objects.try_extend_from_slice(packet.objects()).unwrap();
-    objects
-}
+use pd_symbols::copied;
 
 /// What a message is to the source.
 pub fn source_hears_as(packet: &Packet) -> SourceStimulus
@@ -40,7 +33,7 @@ pub fn source_hears_as(packet: &Packet) -> SourceStimulus
         Kind::SinkCapabilities => SourceStimulus::SinkCapabilities,
         Kind::Accept => SourceStimulus::Accept,
         Kind::SoftReset => SourceStimulus::SoftReset,
-        Kind::VendorDefined => SourceStimulus::Identity(objects_of(packet)),
+        Kind::VendorDefined => SourceStimulus::Identity(copied(packet.objects())),
         _ => SourceStimulus::Other,
     }
 }
@@ -50,7 +43,7 @@ pub(crate) fn sink_hears_as(packet: &Packet) -> SinkStimulus
     ensures { result ≡ sink_hears_as (kind_of_header packet.now.header) packet.now.objects }
 {
     match header_kind(packet.header()) {
-        Kind::SourceCapabilities => SinkStimulus::SourceCapabilities(objects_of(packet)),
+        Kind::SourceCapabilities => SinkStimulus::SourceCapabilities(copied(packet.objects())),
         Kind::Accept => SinkStimulus::Accept,
         Kind::Reject => SinkStimulus::Reject,
         Kind::Wait => SinkStimulus::Wait,
@@ -98,14 +91,17 @@ pub(crate) fn source_message(sending: SourceSending) -> Message
     ensures { result ≡ source_message sending }
 {
     match sending {
-        SourceSending::DiscoverIdentity => Message::new(15, one(request())),
-        SourceSending::SourceCapabilities(objects) => Message::new(1, objects),
-        SourceSending::Accept => Message::new(3, ArrayVec::new()),
-        SourceSending::Reject => Message::new(4, ArrayVec::new()),
-        SourceSending::Wait => Message::new(12, ArrayVec::new()),
-        SourceSending::PsRdy => Message::new(6, ArrayVec::new()),
-        SourceSending::GetSinkCap => Message::new(8, ArrayVec::new()),
-        SourceSending::SoftReset => Message::new(13, ArrayVec::new()),
+        SourceSending::DiscoverIdentity => Message::of(Kind::VendorDefined, one(request())),
+        SourceSending::SourceCapabilities(objects) => Message::of(
+            Kind::SourceCapabilities,
+            objects,
+        ),
+        SourceSending::Accept => Message::control(Kind::Accept),
+        SourceSending::Reject => Message::control(Kind::Reject),
+        SourceSending::Wait => Message::control(Kind::Wait),
+        SourceSending::PsRdy => Message::control(Kind::PsRdy),
+        SourceSending::GetSinkCap => Message::control(Kind::GetSinkCap),
+        SourceSending::SoftReset => Message::control(Kind::SoftReset),
     }
 }
 
@@ -114,11 +110,11 @@ pub(crate) fn sink_message(sending: SinkSending) -> Message
     ensures { result ≡ sink_message sending }
 {
     match sending {
-        SinkSending::Request(object) => Message::new(2, one(object)),
-        SinkSending::GetSourceCap => Message::new(7, ArrayVec::new()),
-        SinkSending::SinkCapabilities(objects) => Message::new(4, objects),
-        SinkSending::Accept => Message::new(3, ArrayVec::new()),
-        SinkSending::SoftReset => Message::new(13, ArrayVec::new()),
+        SinkSending::Request(object) => Message::of(Kind::Request, one(object)),
+        SinkSending::GetSourceCap => Message::control(Kind::GetSourceCap),
+        SinkSending::SinkCapabilities(objects) => Message::of(Kind::SinkCapabilities, objects),
+        SinkSending::Accept => Message::control(Kind::Accept),
+        SinkSending::SoftReset => Message::control(Kind::SoftReset),
     }
 }
 
@@ -126,7 +122,7 @@ pub(crate) fn sink_message(sending: SinkSending) -> Message
 pub(crate) fn plug_message(objects: ArrayVec<u32, 7>) -> Message
     ensures { result ≡ plug_message objects.items }
 {
-    Message::new(15, objects)
+    Message::of(Kind::VendorDefined, objects)
 }
 
 /// What the source notes.

@@ -7,7 +7,7 @@ use Rattle.pd_header.specs.Header.{type_of}
 use Rattle.pd_header.specs.Kinds.{kind_of_header}
 use Rattle.pd_header.specs.declared.kind.Kind.{Kind}
 use Rattle.pd_header.specs.declared.kind.Kind.TheVariants as kind
-use Rattle.pd_header.proofs.Vendor.{vendor_is_15}
+use Rattle.pd_header.proofs.Numbers.{vendor_is_15}
 use Rattle.pd_identity.specs.Identity.{limit_of, rated}
 use Rattle.pd_identity.specs.declared.Cable.{Cable}
 use Rattle.pd_identity.specs.declared.CablePlug.{CablePlug}

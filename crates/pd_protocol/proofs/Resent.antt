@@ -5,7 +5,7 @@ use Rattle.pd_packet.specs.Contents.{Contents}
 use Rattle.pd_header.specs.declared.side.Side.{Side}
 use Rattle.pd_header.specs.Header.{id_of, type_of}
 use Rattle.pd_header.specs.Kinds.{kind_of_header, is_soft_reset}
-use Rattle.pd_header.proofs.Vendor.{type_packed}
+use Rattle.pd_header.proofs.Numbers.{type_packed}
 use Rattle.pd_protocol.specs.declared.layer.LayerAct.{LayerAct}
 use Rattle.pd_protocol.specs.declared.layer.LayerAct.TheVariants.{Sent, Retry, Failed, Idle, Up}
 use Rattle.pd_protocol.specs.Messages.{MessageData, header_data, header_of, packet_of}

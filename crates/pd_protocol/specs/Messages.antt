@@ -6,7 +6,10 @@ use Rattle.pd_symbols.specs.declared.channel.Channel.TheVariants.{Sop, SopPrime}
 use Rattle.pd_packet.specs.Contents.{Contents}
 use Rattle.pd_header.specs.declared.side.Side.{Side}
 use Rattle.pd_header.specs.declared.side.Side.TheVariants.{Source, Sink, Plug}
+use Rattle.pd_header.specs.declared.kind.Kind.{Kind}
+use Rattle.pd_header.specs.declared.kind.Kind.TheVariants.{GoodCrc}
 use Rattle.pd_header.specs.Header.{HeaderData, packed, id_of}
+use Rattle.pd_header.specs.Kinds.{number_of}
 
 -- what a side sends: its type in the header, and its objects
 pub record MessageData : Type 0 where
@@ -18,6 +21,13 @@ pub record IsMessage (m : MessageData) : Type 0 where
   pub kind_fits : m.kind < 2 ^ 5
   pub few : length m.objects ≤ 7
   pub objects_fit : AllByRecursion (λ w. w < 2 ^ 32) m.objects
+
+-- the message of a kind with these objects, and a control message, which has none
+abbrev pub message_of : Kind → List ℕ → MessageData
+message_of kind objects = record { kind = number_of kind; objects = objects }
+
+abbrev pub control : Kind → MessageData
+control kind = message_of kind []
 
 -- bit 8: on SOP whether the source speaks, and on SOP' whether the plug does
 abbrev pub role_of : Channel → Side → Bool
@@ -59,4 +69,4 @@ packet_of side channel revision id m =
 -- the GoodCRC with which a side that heard a packet acknowledges it (section 6.3.1): on its channel, with its ID and
 -- without objects
 unfoldable pub acknowledges : Side → ℕ → Contents → Contents
-acknowledges hearer revision p = packet_of hearer p.channel revision (id_of p.header) (record { kind = 1; objects = [] })
+acknowledges hearer revision p = packet_of hearer p.channel revision (id_of p.header) (control GoodCrc)

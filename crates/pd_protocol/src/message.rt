@@ -1,10 +1,11 @@
 //! Messages, and the packets that carry them.
 
 ghost use Rattle.std.specs.Prelude.{◌≡◌, ◌↔◌, ◌<◌, ◌≤◌, ◌^◌, IsTrue, length};
-ghost use Rattle.pd_protocol.specs.Messages.{IsMessage, MessageData, acknowledges, data_role_of, header_of, packet_of, role_of};
+ghost use Rattle.pd_header.specs.Kinds.{number_of};
+ghost use Rattle.pd_protocol.specs.Messages.{IsMessage, MessageData, acknowledges, control, data_role_of, header_of, message_of, packet_of, role_of};
 
 use arrayvec::ArrayVec;
-use pd_header::{Header, Side, header_id};
+use pd_header::{Header, Kind, Side, header_id};
 use pd_packet::Packet;
 use pd_symbols::{Channel, copied};
 use std::marker::Model;
@@ -33,6 +34,22 @@ impl Message {
         ensures { result ≡ record { kind = kind; objects = objects.items } }
     {
         Message { kind, objects }
+    }
+
+    /// The message of this kind with these objects.
+    pub fn of(kind: Kind, objects: ArrayVec<u32, 7>) -> Message
+        requires { number_of kind < 2 ^ 5 }
+        ensures { result ≡ message_of kind objects.items }
+    {
+        Message::new(kind.number(), objects)
+    }
+
+    /// The control message of this kind, which has no objects.
+    pub fn control(kind: Kind) -> Message
+        requires { number_of kind < 2 ^ 5 }
+        ensures { result ≡ control kind }
+    {
+        Message::of(kind, ArrayVec::new())
     }
 
     /// Its type.
@@ -125,8 +142,7 @@ pub fn good_crc_for(hearer: Side, packet: &Packet, revision: u8) -> Packet
     requires { revision < 2 ^ 2 }
     ensures { result ≡ acknowledges hearer revision packet.now }
 {
-    let good_crc = Message::new(1, ArrayVec::new());
-    good_crc.into_packet(
+    Message::control(Kind::GoodCrc).into_packet(
         hearer,
         packet.channel(),
         revision,
