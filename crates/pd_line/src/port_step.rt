@@ -45,8 +45,8 @@ pub struct PortStep {
 
 impl PortStep {
     ghost use Rattle.std.specs.Prelude.{◌+◌};
-    ghost use Rattle.pd_source.specs.Acts.{noise as source_noise, noise_of as source_noise_of};
-    ghost use Rattle.pd_sink.specs.Acts.{noise as sink_noise, noise_of as sink_noise_of};
+    ghost use Rattle.pd_source.specs.Acts.{fault_count as source_faults, fault_count_of as source_faults_of};
+    ghost use Rattle.pd_sink.specs.Acts.{fault_count as sink_faults, fault_count_of as sink_faults_of};
     ghost use Rattle.pd_line.specs.Noise.{most};
     ghost use Rattle.pd_line.specs.PortStep.{at_rest, wait, reset_on, sink_act, sink_acts, sink_steps, plug_act, plug_acts};
     ghost use Rattle.pd_line.specs.PortStep.{plug_steps, source_act, source_acts, source_steps, noted, submit_on, good_crc_on};
@@ -147,9 +147,9 @@ impl PortStep {
 
     /// An act of the sink.
     fn sink_act(&mut self, act: SinkAct)
-        requires { length self.old.faults.items + sink_noise_of act ≤ 8 }
+        requires { length self.old.faults.items + sink_faults_of act ≤ 8 }
         ensures after { self.new ≡ sink_act act self.old }
-        ensures faults { length self.new.faults.items ≤ length self.old.faults.items + sink_noise_of act }
+        ensures faults { length self.new.faults.items ≤ length self.old.faults.items + sink_faults_of act }
     {
         match act {
             SinkAct::DropWaiting => self.wait(Side::Sink, Waiting::Nothing),
@@ -164,9 +164,9 @@ impl PortStep {
 
     /// The acts of the sink, in order.
     fn sink_acts(&mut self, mut rest: ArrayVec<SinkAct, 8>)
-        requires { length self.old.faults.items + sink_noise rest.items ≤ 8 }
+        requires { length self.old.faults.items + sink_faults rest.items ≤ 8 }
         ensures after { self.new ≡ sink_acts rest.items self.old }
-        ensures faults { length self.new.faults.items ≤ length self.old.faults.items + sink_noise rest.items }
+        ensures faults { length self.new.faults.items ≤ length self.old.faults.items + sink_faults rest.items }
     {
         'acts: while !rest.is_empty() {
             let next = rest.remove(0);
@@ -224,9 +224,9 @@ impl PortStep {
     /// An act of the source.
     fn source_act(&mut self, t: u64, act: SourceAct)
         requires time { t ≤ LAST_TIME }
-        requires room { length self.old.faults.items + source_noise_of act ≤ 8 }
+        requires room { length self.old.faults.items + source_faults_of act ≤ 8 }
         ensures after { self.new ≡ source_act t act self.old }
-        ensures faults { length self.new.faults.items ≤ length self.old.faults.items + source_noise_of act }
+        ensures faults { length self.new.faults.items ≤ length self.old.faults.items + source_faults_of act }
     {
         match act {
             SourceAct::DropWaiting => self.wait(Side::Source, Waiting::Nothing),
@@ -244,9 +244,9 @@ impl PortStep {
     /// The acts of the source, in order.
     fn source_acts(&mut self, t: u64, mut rest: ArrayVec<SourceAct, 8>)
         requires time { t ≤ LAST_TIME }
-        requires room { length self.old.faults.items + source_noise rest.items ≤ 8 }
+        requires room { length self.old.faults.items + source_faults rest.items ≤ 8 }
         ensures after { self.new ≡ source_acts t rest.items self.old }
-        ensures faults { length self.new.faults.items ≤ length self.old.faults.items + source_noise rest.items }
+        ensures faults { length self.new.faults.items ≤ length self.old.faults.items + source_faults rest.items }
     {
         'acts: while !rest.is_empty() {
             let next = rest.remove(0);

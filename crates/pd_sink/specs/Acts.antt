@@ -102,10 +102,10 @@ all_wants [] now x r = []
 all_wants (d ∷ ds) now x r = wants d r ++ all_wants ds now x (after d now x r)
 
 -- how many faults an act brings
-abbrev pub noise_of : Act → ℕ
-noise_of (act.Note n) = 1
-noise_of _ = 0
+abbrev pub fault_count_of : Act → ℕ
+fault_count_of (act.Note n) = 1
+fault_count_of _ = 0
 
-abbrev pub noise : List Act → ℕ
-noise [] = 0
-noise (a ∷ acts) = noise_of a + noise acts
+abbrev pub fault_count : List Act → ℕ
+fault_count [] = 0
+fault_count (a ∷ acts) = fault_count_of a + fault_count acts

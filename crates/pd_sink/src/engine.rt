@@ -5,7 +5,7 @@ ghost use Rattle.arrayvec.specs.ArrayVec.{array_vec_len};
 ghost use Rattle.pd_timers.specs.Deadlines.{first_of};
 ghost use Rattle.pd_sink.specs.Record.{off};
 ghost use Rattle.pd_sink.specs.Table.{is_plain, has_hard_resets_left};
-ghost use Rattle.pd_sink.specs.Acts.{after, wants, all_after, all_wants, started_where, offer_from, asked_in, sending_of, noise};
+ghost use Rattle.pd_sink.specs.Acts.{after, wants, all_after, all_wants, started_where, offer_from, asked_in, sending_of, fault_count};
 ghost use Rattle.pd_sink.specs.Rule.{IsAsked};
 ghost use Rattle.pd_sink.specs.Step.{before_row, stepped, acts_of, hears_in, is_ready, revision_bits, demanding};
 
@@ -135,7 +135,7 @@ impl Sink {
         ensures after { self.new ≡ stepped now stimulus.now self.old }
         ensures acts { result.items ≡ acts_of now stimulus.now self.old }
         ensures few { length result.items ≤ 6 }
-        ensures quiet { noise result.items ≤ 1 }
+        ensures few_faults { fault_count result.items ≤ 1 }
     {
         self.take_row(now, stimulus)
     }

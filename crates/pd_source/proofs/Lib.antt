@@ -4,7 +4,7 @@ pub mod Powers
 pub mod Later
 pub mod Answered
 pub mod Holds
-pub mod Quiet
+pub mod Faults
 pub mod Objects
 pub mod SoundActs
 pub mod SoundRows

@@ -116,11 +116,11 @@ all_wants s [] now x a r = []
 all_wants s (d ∷ ds) now x a r = wants s d r ++ all_wants s ds now x a (after s d now x a r)
 
 -- How many faults an act may bring: one of its own, or one of the sink's, which is stepped where the power is switched on.
-abbrev pub noise_of : Act → ℕ
-noise_of (act.Note n) = 1
-noise_of act.On = 1
-noise_of _ = 0
+abbrev pub fault_count_of : Act → ℕ
+fault_count_of (act.Note n) = 1
+fault_count_of act.On = 1
+fault_count_of _ = 0
 
-abbrev pub noise : List Act → ℕ
-noise [] = 0
-noise (a ∷ acts) = noise_of a + noise acts
+abbrev pub fault_count : List Act → ℕ
+fault_count [] = 0
+fault_count (a ∷ acts) = fault_count_of a + fault_count acts

@@ -4,7 +4,7 @@ ghost use Rattle.std.specs.Prelude.{◌≡◌, ◌≤◌, ◌<◌, ◌+◌, ◌+
 ghost use Rattle.arrayvec.specs.ArrayVec.{array_vec_len};
 ghost use Rattle.pd_timers.specs.Deadlines.{first_of, idle};
 ghost use Rattle.pd_source.specs.Record.{new_source};
-ghost use Rattle.pd_source.specs.Acts.{after, wants, all_after, all_wants, limit_from, kept_from, revision_from, draft_from, sending_of, noise};
+ghost use Rattle.pd_source.specs.Acts.{after, wants, all_after, all_wants, limit_from, kept_from, revision_from, draft_from, sending_of, fault_count};
 ghost use Rattle.pd_source.specs.Request.{contract_of};
 ghost use Rattle.pd_source.specs.declared.kinds.Revision.TheVariants as spoken;
 ghost use Rattle.pd_source.specs.Step.{before_row, stepped, acts_of, hears_in, is_ready, revision_bits};
@@ -145,7 +145,7 @@ impl Source {
         ensures after { self.new ≡ record self.old { «record» = stepped self.old.settings now stimulus.now answer self.old.record } }
         ensures acts { result.items ≡ acts_of self.old.settings now stimulus.now answer self.old.record }
         ensures few { length result.items ≤ 6 }
-        ensures quiet { noise result.items ≤ 2 }
+        ensures few_faults { fault_count result.items ≤ 2 }
     {
         self.take_row(now, stimulus, answer)
     }
