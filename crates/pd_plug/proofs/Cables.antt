@@ -5,9 +5,8 @@ use Rattle.pd_plug.specs.declared.kinds.Act.{Act}
 use Rattle.pd_plug.specs.declared.kinds.Deed.{Deed}
 use Rattle.pd_plug.specs.declared.kinds.Deed.TheVariants as deed
 use Rattle.pd_plug.specs.Record.{PlugRecord}
-use Rattle.pd_plug.specs.Table.{deeds_of_row}
 use Rattle.pd_plug.specs.Acts.{after, wants, all_after, all_wants}
-use Rattle.pd_plug.specs.Step.{before_row, row_at, stepped, acts_of}
+use Rattle.pd_plug.specs.Step.{before_row, deeds_at, stepped, acts_of}
 use Rattle.pd_plug.specs.Laws.{SendOf, StepsSendOfTheirCables}
 
 cable-after : (d : Deed) (now : ℕ) (r : PlugRecord) → (after d now r).cable ≡ r.cable
@@ -22,7 +21,7 @@ cable-all_after (d ∷ ds) now r = cable-all_after ds now (after d now r) ∙ ca
 -- the cable that is known after a step is the one known before its row
 pub cable-stepped : (now : ℕ) (x : Stimulus) (r : PlugRecord) → (stepped now x r).cable ≡ (before_row x r).cable
 unfolding stepped
-cable-stepped now x r = cable-all_after (deeds_of_row (row_at x (before_row x r))) now (before_row x r)
+cable-stepped now x r = cable-all_after (deeds_at x (before_row x r)) now (before_row x r)
 
 wants_of : (d : Deed) (r : PlugRecord) (acts : List Act) → SendOf r.cable acts → SendOf r.cable (wants d r ++ acts)
 wants_of (deed.Enter s) r acts h = h
@@ -38,7 +37,7 @@ all_wants_of (d ∷ ds) now r =
 -- what a step sends is what that cable answers
 pub acts_of-of : (now : ℕ) (x : Stimulus) (r : PlugRecord) → SendOf (before_row x r).cable (acts_of now x r)
 unfolding acts_of
-acts_of-of now x r = all_wants_of (deeds_of_row (row_at x (before_row x r))) now (before_row x r)
+acts_of-of now x r = all_wants_of (deeds_at x (before_row x r)) now (before_row x r)
 
 pub sends_of_cables : StepsSendOfTheirCables
 sends_of_cables now x r = record { cable = cable-stepped now x r; sends = acts_of-of now x r }

@@ -6,9 +6,8 @@ use Rattle.pd_plug.specs.declared.kinds.Stimulus.{Stimulus}
 use Rattle.pd_plug.specs.declared.kinds.Deed.{Deed}
 use Rattle.pd_plug.specs.declared.kinds.Deed.TheVariants as deed
 use Rattle.pd_plug.specs.Record.{PlugRecord}
-use Rattle.pd_plug.specs.Table.{deeds_of_row}
 use Rattle.pd_plug.specs.Acts.{after, all_after}
-use Rattle.pd_plug.specs.Step.{before_row, row_at, stepped}
+use Rattle.pd_plug.specs.Step.{before_row, deeds_at, stepped}
 
 SetsLater-after : (d : Deed) (now : ℕ) (r : PlugRecord) → SetsLater now r.deadlines (after d now r).deadlines
 SetsLater-after (deed.Enter s) now r = SetsLater-idle now r.deadlines
@@ -23,4 +22,4 @@ SetsLater-all_after (d ∷ ds) now r =
 
 pub SetsLater-stepped : (now : ℕ) (x : Stimulus) (r : PlugRecord) → SetsLater now (before_row x r).deadlines (stepped now x r).deadlines
 unfolding stepped
-SetsLater-stepped now x r = SetsLater-all_after (deeds_of_row (row_at x (before_row x r))) now (before_row x r)
+SetsLater-stepped now x r = SetsLater-all_after (deeds_at x (before_row x r)) now (before_row x r)

@@ -1,13 +1,19 @@
 -- Laws of the plug's policy engine.
-use Rattle.std.specs.Prelude.{◌≡◌, ℕ, List, [], ◌∷◌, Option}
+use Rattle.std.specs.Prelude.{◌≡◌, ℕ, true, List, [], ◌∷◌, Option}
+use Rattle.pd_table.specs.Table.{are_numbered_from}
 use Rattle.pd_timers.specs.Deadlines.{SetsLater}
 use Rattle.pd_identity.specs.declared.Cable.{Cable}
 use Rattle.pd_plug.specs.declared.kinds.Act.{Act}
 use Rattle.pd_plug.specs.declared.kinds.Act.TheVariants as act
 use Rattle.pd_plug.specs.declared.kinds.Stimulus.{Stimulus}
 use Rattle.pd_plug.specs.Record.{PlugRecord}
+use Rattle.pd_plug.specs.Table.{table}
 use Rattle.pd_plug.specs.Acts.{identity_of}
 use Rattle.pd_plug.specs.Step.{before_row, stepped, acts_of}
+
+-- each row's number is its place in the table, from 1
+abbrev pub RowsAreNumbered : Type 0
+RowsAreNumbered = are_numbered_from 1 table ≡ true
 
 -- after a step, each deadline that runs ran before it, and wasn't the one that fell due, or is later than the step
 abbrev pub StepsSetLater : Type 0

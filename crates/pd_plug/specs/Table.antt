@@ -1,8 +1,13 @@
 -- The plug's state table (the states of USB Power Delivery 3.0, section 8.3.3, PE_CBL_; the rows are this product's profile).
-use Rattle.std.specs.Prelude.{ℕ, Bool, true, false, ◌==◌, ◌&&◌, ◌||◌, if◌then◌else◌, List, [], ◌∷◌, Option, Some, None}
+-- The Delay is the time that the plug takes to respond, by the profile.
+use Rattle.std.specs.Prelude.{ℕ, Bool, true, false, ◌==◌, ◌&&◌, List, [], ◌∷◌, Option, Some, None}
+use Rattle.std.specs.List.{list_any}
 use Rattle.pd_timers.specs.declared.Timer.{Timer}
 use Rattle.pd_timers.specs.declared.Timer.TheVariants as timer
 use Rattle.pd_timers.specs.Timers.{place}
+use Rattle.pd_table.specs.Table as tables
+pub use Rattle.pd_table.specs.Table.{row}
+use Rattle.pd_table.specs.Table.{is_among, without, first_row}
 use Rattle.pd_identity.specs.declared.Cable.{Cable}
 use Rattle.pd_identity.specs.declared.CablePlug.{CablePlug}
 use Rattle.pd_identity.specs.declared.CablePlug.TheVariants as plug
@@ -14,16 +19,22 @@ use Rattle.pd_plug.specs.declared.kinds.Deed.{Deed}
 use Rattle.pd_plug.specs.declared.kinds.Deed.TheVariants as deed
 use Rattle.pd_plug.specs.Record.{PlugRecord}
 
--- the places of the states in their list, by which two are told apart
+-- the states, and the place of each in their list, which tells it from the others
+abbrev pub all_states : List State
+all_states = state.Off ∷ state.Ready ∷ state.GetIdentity ∷ state.SendIdentity ∷ []
+
 abbrev pub state_place : State → ℕ
 state_place state.Off = 0
 state_place state.Ready = 1
 state_place state.GetIdentity = 2
 state_place state.SendIdentity = 3
 
--- all states but Off
-abbrev pub all_but_off : List State
-all_but_off = state.Ready ∷ state.GetIdentity ∷ state.SendIdentity ∷ []
+abbrev pub among : State → List State → Bool
+among s states = is_among state_place s states
+
+-- all states but these
+abbrev pub all_but : List State → List State
+all_but excluded = without state_place all_states excluded
 
 -- what stands in the column of stimuli
 pub data Cue : Type 0 where
@@ -33,6 +44,7 @@ pub data Cue : Type 0 where
   Sent : Cue
   Failed : Cue
   HardReset : Cue
+  AnythingElse : Cue
 
 abbrev pub matches : Cue → Stimulus → Bool
 matches Attach (stimulus.Attach cable) = true
@@ -41,7 +53,11 @@ matches DiscoverIdentity stimulus.DiscoverIdentity = true
 matches Sent stimulus.Sent = true
 matches Failed stimulus.Failed = true
 matches HardReset stimulus.HardReset = true
+matches AnythingElse x = true
 matches _ _ = false
+
+abbrev pub match_one : Stimulus → List Cue → Bool
+match_one x cues = list_any (λ c. matches c x) cues
 
 -- what stands in brackets
 pub data Guard : Type 0 where
@@ -76,49 +92,37 @@ pub data Next : Type 0 where
   Stay : Next
   To : (s : State) → Next
 
-pub record Row : Type 0 where
-  pub number : ℕ
-  pub states : List State
-  pub cues : List Cue
-  pub guard : Guard
-  pub next : Next
-  pub deeds : List Deed
-
-abbrev pub row : ℕ → List State → List Cue → Guard → Next → List Deed → Row
-row n s c g t d = record { number = n; states = s; cues = c; guard = g; next = t; deeds = d }
+abbrev pub Row : Type 0
+Row = tables.Row State Cue Guard Next Deed
 
 abbrev pub table : List Row
 table =
+    -- Off
     row 1 (state.Off ∷ []) (Attach ∷ []) WithoutPlug Stay []
     ∷ row 2 (state.Off ∷ []) (Attach ∷ []) Always (To state.Ready) []
-    ∷ row 3 all_but_off (DiscoverIdentity ∷ []) Silent Stay []
-    ∷ row 4 all_but_off (DiscoverIdentity ∷ []) Always (To state.GetIdentity) (deed.Start timer.Delay ∷ [])
+    -- all states but Off: PE_CBL_Ready, PE_CBL_Get_Identity and PE_CBL_Send_Identity
+    ∷ row 3 (all_but (state.Off ∷ [])) (DiscoverIdentity ∷ []) Silent Stay []
+    ∷ row 4 (all_but (state.Off ∷ [])) (DiscoverIdentity ∷ []) Always (To state.GetIdentity) (deed.Start timer.Delay ∷ [])
+    -- PE_CBL_Get_Identity
     ∷ row 5 (state.GetIdentity ∷ []) (Ended timer.Delay ∷ []) Always (To state.SendIdentity) (deed.SendIdentity ∷ [])
+    -- PE_CBL_Send_Identity
     ∷ row 6 (state.SendIdentity ∷ []) (Sent ∷ Failed ∷ []) Always (To state.Ready) []
-    ∷ row 7 all_but_off (HardReset ∷ []) Always (To state.Ready) []
+    -- all states but Off
+    ∷ row 7 (all_but (state.Off ∷ [])) (HardReset ∷ []) Always (To state.Ready) []
     ∷ []
 
--- the last row of each state, whatever the stimulus: stay, no act
+-- anything else, in each state: stay, no act
 abbrev pub anything_else : Row
-anything_else = row 0 [] [] Always Stay []
-
-abbrev pub among : State → List State → Bool
-among s [] = false
-among s (t ∷ ts) = (state_place s == state_place t) || among s ts
-
-abbrev pub match_one : Stimulus → List Cue → Bool
-match_one x [] = false
-match_one x (c ∷ cs) = matches c x || match_one x cs
+anything_else = row 0 all_states (AnythingElse ∷ []) Always Stay []
 
 abbrev pub fits : (Guard → Bool) → State → Stimulus → Row → Bool
 fits g s x r = (among s r.states && match_one x r.cues) && g r.guard
 
--- the first row that fits, and else the last row
+-- the first row that fits; where none does, anything else
 abbrev pub first : (Guard → Bool) → State → Stimulus → List Row → Row
-first g s x [] = anything_else
-first g s x (r ∷ rs) = if fits g s x r then r else first g s x rs
+first g s x rows = first_row (fits g s x) anything_else rows
 
--- what a row does, in order: entering comes before the row's acts
+-- What a row does, in order. Entering comes before the row's acts.
 abbrev pub deeds_of_row : Row → List Deed
 deeds_of_row r = with_next r.next r.deeds where
   with_next : Next → List Deed → List Deed

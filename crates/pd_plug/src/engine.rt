@@ -4,7 +4,7 @@ ghost use Rattle.std.specs.Prelude.{◌≡◌, ◌≤◌, ◌<◌, ◌+◌, ◌+
 ghost use Rattle.arrayvec.specs.ArrayVec.{array_vec_len};
 ghost use Rattle.pd_timers.specs.Deadlines.{first_of};
 ghost use Rattle.pd_plug.specs.Record.{off};
-ghost use Rattle.pd_plug.specs.Table.{has_no_plug, is_silent};
+ghost use Rattle.pd_plug.specs.Facts.{facts_of};
 ghost use Rattle.pd_plug.specs.Acts.{after, wants, all_after, all_wants, identity_of};
 ghost use Rattle.pd_plug.specs.Step.{before_row, stepped, acts_of, hears_in};
 
@@ -21,7 +21,9 @@ use std::marker::Model;
 pub struct Plug {
     state: State,
     deadlines: Deadlines,
+    /// Whether the message of this state was sent.
     sent: bool,
+    /// The cable that is attached.
     cable: Option<Cable>,
 }
 
@@ -87,7 +89,7 @@ impl Plug {
 
     /// What the guards of the rows ask.
     fn facts(&self) -> Facts
-        ensures { result ≡ record { without_plug = has_no_plug self.now.cable; silent = is_silent self.now.cable } }
+        ensures { result ≡ facts_of self.now }
     {
         let without_plug = match &self.cable {
             Some(cable) => matches!(cable.plug, CablePlug::Absent),

@@ -1,6 +1,11 @@
-//! Laws of the engine's steps.
+//! Laws of the engine's table and steps.
 
-ghost use Rattle.pd_plug.specs.Laws.{StepsSetLater, StepsSendOfTheirCables};
+ghost use Rattle.pd_plug.specs.Laws.{RowsAreNumbered, StepsSetLater, StepsSendOfTheirCables};
+
+/// Each row of the state table has the number of its place.
+pub fn rows()
+    ensures { RowsAreNumbered }
+{}
 
 /// Each deadline that a step sets is later than the step, and the timer that fell due no longer runs.
 pub fn later()

@@ -1,5 +1,7 @@
 -- A step brings at most one fault.
-use Rattle.std.proofs.Common.{◌≡◌, ℕ, ◌+◌, ◌≤◌, nat_le, Bool, true, false, ◌&&◌, if◌then◌else◌, List, [], ◌∷◌, ◌++◌, Option, Some, None, refl, arith}
+use Rattle.std.proofs.Common.{◌≡◌, ℕ, ◌+◌, ◌≤◌, nat_le, Bool, true, false, if◌then◌else◌, List, [], ◌∷◌, ◌++◌, Option, Some, None}
+use Rattle.std.proofs.Common.{refl, ap, ◌∙◌, arith}
+use Rattle.std.specs.List.{list_all}
 use Rattle.std.proofs.lemmas.Bool.Decides.{nat_tests}
 use Rattle.pd_sink.specs.declared.kinds.State.{State}
 use Rattle.pd_sink.specs.declared.kinds.Stimulus.{Stimulus}
@@ -10,9 +12,10 @@ use Rattle.pd_sink.specs.declared.kinds.Act.TheVariants as act
 use Rattle.pd_sink.specs.declared.kinds.Deed.{Deed}
 use Rattle.pd_sink.specs.declared.kinds.Deed.TheVariants as deed
 use Rattle.pd_sink.specs.Record.{SinkRecord}
-use Rattle.pd_sink.specs.Table.{Row, Guard, holds, has_hard_resets_left, table, first, fits, row_of, deeds_of_row}
+use Rattle.pd_table.proofs.FirstRow.{first_row-all}
+use Rattle.pd_sink.specs.Table.{Row, Guard, HardResetsLeft, Next, Stay, To, RQ, RD, SR, HR, holds, table, anything_else, fits, row_of, deeds_of_row}
 use Rattle.pd_sink.specs.Acts.{after, wants, send, sending_of, asked_in, is_mismatch, all_wants, fault_count}
-use Rattle.pd_sink.specs.Step.{before_row, deeds_at, acts_of}
+use Rattle.pd_sink.specs.Step.{before_row, row_at, deeds_at, acts_of}
 
 -- the most faults that an act of a row may bring
 faults_of_deed : Deed → ℕ
@@ -46,8 +49,8 @@ fault_count-wants deed.KeepOffer r = omega arith
 fault_count-wants (deed.Again b) r = omega arith
 fault_count-wants (deed.Fresh b) r = omega arith
 fault_count-wants (deed.Contract b) r = omega arith
-fault_count-wants deed.HardResetsUp r = omega arith
-fault_count-wants deed.HardResetsZero r = omega arith
+fault_count-wants deed.HardResetCounterUp r = omega arith
+fault_count-wants deed.HardResetCounterZero r = omega arith
 fault_count-wants deed.ResetLayer r = omega arith
 fault_count-wants (deed.Note n) r = omega arith
 fault_count-wants deed.NoteMismatch r = fault_count-mismatch (is_mismatch (asked_in r))
@@ -63,39 +66,31 @@ fault_count-all_wants (d ∷ ds) now x r =
     let l = fault_count-all_wants ds now x (after d now x r) in
     omega arith
 
+-- of the guards, what a row does asks whether a Hard Reset is left
+fixed : (g : Guard → Bool) (n : Next) (r : Row) →
+    deeds_of_row g (record r { next = n }) ≡ deeds_of_row (λ w. g HardResetsLeft) (record r { next = n })
+fixed g Stay r = refl
+fixed g (To t) r = refl
+fixed g RQ r = refl
+fixed g RD r = refl
+fixed g SR r = refl
+fixed g HR r = refl
+
 has_few_faults : Bool → Row → Bool
-has_few_faults left r = nat_le (faults_of_deeds (deeds_of_row left r)) 1
+has_few_faults left r = nat_le (faults_of_deeds (deeds_of_row (λ w. left) r)) 1
 
-have_few_faults : Bool → List Row → Bool
-have_few_faults left [] = true
-have_few_faults left (r ∷ rs) = has_few_faults left r && have_few_faults left rs
-
-and-left : (b c : Bool) → b && c ≡ true → b ≡ true
-and-left true c h = refl
-and-left false c h = h
-
-and-right : (b c : Bool) → b && c ≡ true → c ≡ true
-and-right true c h = h
-and-right false c h = absurd (cc)
-
-either : (left b : Bool) (p q : Row) → has_few_faults left p ≡ true → has_few_faults left q ≡ true → has_few_faults left (if b then p else q) ≡ true
-either left true p q h k = h
-either left false p q h k = k
-
-few-first : (left : Bool) (g : Guard → Bool) (s : State) (x : Stimulus) (rows : List Row) → have_few_faults left rows ≡ true → has_few_faults left (first g s x rows) ≡ true
-unfolding has_few_faults have_few_faults faults_of_deeds
-few-first left g s x [] h = refl
-few-first left g s x (r ∷ rs) h =
-    either left (fits g s x r) r (first g s x rs) (and-left (has_few_faults left r) (have_few_faults left rs) h) (few-first left g s x rs (and-right (has_few_faults left r) (have_few_faults left rs) h))
-
-few-table : (left : Bool) → have_few_faults left table ≡ true
-unfolding has_few_faults have_few_faults faults_of_deeds faults_of_deed
+few-table : (left : Bool) → list_all (has_few_faults left) table ≡ true
+unfolding has_few_faults faults_of_deeds faults_of_deed
 few-table true = refl
 few-table false = refl
 
+few-else : (left : Bool) → has_few_faults left anything_else ≡ true
+unfolding has_few_faults faults_of_deeds
+few-else left = refl
+
 few-row : (left : Bool) (g : Guard → Bool) (s : State) (x : Stimulus) → has_few_faults left (row_of g s x) ≡ true
 unfolding row_of
-few-row left g s x = few-first left g s x table (few-table left)
+few-row left g s x = first_row-all (has_few_faults left) (fits g s x) anything_else table (few-else left) (few-table left)
 
 few : (n m : ℕ) → n ≤ m → nat_le m 1 ≡ true → n ≤ 1
 few n m h k = grind (arith, nat_tests)
@@ -104,5 +99,6 @@ pub fault_count-acts_of : (now : ℕ) (x : Stimulus) (r : SinkRecord) → fault_
 unfolding acts_of has_few_faults
 fault_count-acts_of now x r =
     let b = before_row x r in
+    let w = row_at x b in
     few (fault_count (all_wants (deeds_at x b) now x b)) (faults_of_deeds (deeds_at x b)) (fault_count-all_wants (deeds_at x b) now x b)
-    (few-row (has_hard_resets_left b) (holds b) b.state x)
+    (ap (λ ds. nat_le (faults_of_deeds ds) 1) (fixed (holds b) w.next w) ∙ few-row (holds b HardResetsLeft) (holds b) b.state x)

@@ -43,8 +43,8 @@ after deed.KeepOffer now x r = record r { kept_offer = offer_from x r.kept_offer
 after (deed.Again b) now x r = record r { again = b }
 after (deed.Fresh b) now x r = record r { fresh = b }
 after (deed.Contract b) now x r = record r { has_contract = b }
-after deed.HardResetsUp now x r = record r { hard_reset_counter = rise r.hard_reset_counter }
-after deed.HardResetsZero now x r = record r { hard_reset_counter = 0 }
+after deed.HardResetCounterUp now x r = record r { hard_reset_counter = rise r.hard_reset_counter }
+after deed.HardResetCounterZero now x r = record r { hard_reset_counter = 0 }
 after _ now x r = r
 
 -- what the sink that is attached asks of the kept offer

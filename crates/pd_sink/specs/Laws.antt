@@ -1,7 +1,8 @@
 -- Laws of the sink's policy engine, and of what it sends.
-use Rattle.std.specs.Prelude.{◌≡◌, ◌↔◌, ℕ, ◌*◌, ◌%◌, ◌<◌, ◌≤◌, min, Bool, if◌then◌else◌, List, Contains, length, IfSome}
+use Rattle.std.specs.Prelude.{◌≡◌, ◌↔◌, ℕ, ◌*◌, ◌%◌, ◌<◌, ◌≤◌, min, Bool, true, if◌then◌else◌, List, Contains, length, IfSome}
 use Rattle.pd_symbols.specs.Words.{field}
 use Rattle.pd_timers.specs.Deadlines.{SetsLater}
+use Rattle.pd_table.specs.Table.{are_numbered_from}
 use Rattle.pd_sink.specs.declared.kinds.Stimulus.{Stimulus}
 use Rattle.pd_sink.specs.declared.rule.Offered.{Offered}
 use Rattle.pd_sink.specs.declared.rule.Asked.{Asked}
@@ -10,7 +11,12 @@ use Rattle.pd_sink.specs.Rule.{IsNeed, need_of, IsAcceptedOf, Asks, accepted}
 use Rattle.pd_sink.specs.Choice.{asked_of}
 use Rattle.pd_sink.specs.Objects.{request_object, sink_object}
 use Rattle.pd_sink.specs.Record.{SinkRecord}
+use Rattle.pd_sink.specs.Table.{table}
 use Rattle.pd_sink.specs.Step.{before_row, stepped}
+
+-- each row's number is its place in the table, from 1
+abbrev pub RowsAreNumbered : Type 0
+RowsAreNumbered = are_numbered_from 1 table ≡ true
 
 -- after a step, each deadline that runs ran before it, and wasn't the one that fell due, or is later than the step
 abbrev pub StepsSetLater : Type 0

@@ -9,7 +9,7 @@ use Rattle.pd_sink.specs.declared.kinds.Act.{Act}
 use Rattle.pd_sink.specs.declared.kinds.Deed.{Deed}
 use Rattle.pd_setup.specs.Sinks.{SinkData, bits_of}
 use Rattle.pd_sink.specs.Record.{SinkRecord}
-use Rattle.pd_sink.specs.Table.{Row, holds, has_hard_resets_left, row_of, deeds_of_row}
+use Rattle.pd_sink.specs.Table.{Row, holds, row_of, deeds_of_row}
 use Rattle.pd_sink.specs.Acts.{all_after, all_wants}
 
 -- the sink with another demand, where one is attached
@@ -26,13 +26,12 @@ before_row (stimulus.Ended t) r = record r { deadlines = stopped r.deadlines t }
 before_row (stimulus.Demand mw) r = record r { sink = demanding mw r.sink }
 before_row _ r = r
 
--- the row that is taken
+-- the row that is taken, and what it does
 abbrev pub row_at : Stimulus → SinkRecord → Row
 row_at x r = row_of (holds r) r.state x
 
--- what it does, in order
 abbrev pub deeds_at : Stimulus → SinkRecord → List Deed
-deeds_at x r = deeds_of_row (has_hard_resets_left r) (row_at x r)
+deeds_at x r = deeds_of_row (holds r) (row_at x r)
 
 -- the engine after a step
 unfoldable pub stepped : ℕ → Stimulus → SinkRecord → SinkRecord

@@ -1,10 +1,10 @@
 //! The engine: what it keeps, and its steps.
 
-ghost use Rattle.std.specs.Prelude.{◌≡◌, ◌≤◌, ◌<◌, ◌+◌, ◌++◌, ◌↔◌, IsTrue, IfSome, length, not, option_to_list};
+ghost use Rattle.std.specs.Prelude.{◌≡◌, ◌≤◌, ◌<◌, ◌+◌, ◌++◌, ◌↔◌, IsTrue, IfSome, length, option_to_list};
 ghost use Rattle.arrayvec.specs.ArrayVec.{array_vec_len};
 ghost use Rattle.pd_timers.specs.Deadlines.{first_of};
 ghost use Rattle.pd_sink.specs.Record.{off};
-ghost use Rattle.pd_sink.specs.Table.{is_plain, has_hard_resets_left};
+ghost use Rattle.pd_sink.specs.Facts.{facts_of};
 ghost use Rattle.pd_sink.specs.Acts.{after, wants, all_after, all_wants, started_where, offer_from, asked_in, sending_of, fault_count};
 ghost use Rattle.pd_sink.specs.Rule.{IsAsked};
 ghost use Rattle.pd_sink.specs.Step.{before_row, stepped, acts_of, hears_in, is_ready, revision_bits, demanding};
@@ -19,20 +19,26 @@ use pd_setup::{Demand, SinkMode, SinkRevision, SinkSettings};
 use pd_timers::{Deadlines, Timer};
 use std::marker::Model;
 
-/// nHardResetCount: up to this HardResetCounter one more Hard Reset is left.
-const HARD_RESET_COUNT: u8 = 2;
+/// How often Hard Reset is sent again: nHardResetCount.
+const N_HARD_RESET_COUNT: u8 = 2;
 
 /// The sink's policy engine.
 #[derive(Drop)]
 pub struct Sink {
     state: State,
     deadlines: Deadlines,
+    /// Whether the message of this state was sent.
     sent: bool,
+    /// The HardResetCounter, which nHardResetCount bounds.
     hard_reset_counter: u8,
+    /// Whether the sink asks again after a Wait.
     again: bool,
+    /// Whether the sink has a demand that it has not asked for yet.
     fresh: bool,
     has_contract: bool,
+    /// The sink that is attached.
     sink: Option<SinkSettings>,
+    /// The objects of the offer that came last.
     kept_offer: ArrayVec<u32, 7>,
 }
 
@@ -168,7 +174,7 @@ impl Sink {
 
     /// What the guards of the rows ask.
     fn facts(&self) -> Facts
-        ensures { result ≡ record { plain = is_plain self.now.sink; no_contract = not self.now.has_contract; was_sent = self.now.sent; hard_resets_left = has_hard_resets_left self.now } }
+        ensures { result ≡ facts_of self.now }
     {
         let plain = match &self.sink {
             Some(sink) => matches!(sink.mode(), SinkMode::Plain),
@@ -178,7 +184,7 @@ impl Sink {
             plain,
             no_contract: !self.has_contract,
             was_sent: self.sent,
-            hard_resets_left: self.hard_reset_counter <= HARD_RESET_COUNT,
+            hard_resets_left: self.hard_reset_counter <= N_HARD_RESET_COUNT,
         }
     }
 
@@ -229,10 +235,10 @@ impl Sink {
             Deed::Again(again) => self.again = again,
             Deed::Fresh(fresh) => self.fresh = fresh,
             Deed::Contract(has_contract) => self.has_contract = has_contract,
-            Deed::HardResetsUp => {
+            Deed::HardResetCounterUp => {
                 self.hard_reset_counter = self.hard_reset_counter.saturating_add(1);
             }
-            Deed::HardResetsZero => self.hard_reset_counter = 0,
+            Deed::HardResetCounterZero => self.hard_reset_counter = 0,
             _ => {}
         }
     }

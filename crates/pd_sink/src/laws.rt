@@ -1,6 +1,12 @@
-//! Laws of the engine's steps, and of what it sends.
+//! Laws of the engine's table and steps, and of what it sends.
 
-ghost use Rattle.pd_sink.specs.Laws.{StepsSetLater, NeedsAreLeast, AcceptedAreOffered, SinksAskByTheRule, RequestsHaveTheirFields, CapabilitiesHaveTheirFields};
+ghost use Rattle.pd_sink.specs.Laws.{RowsAreNumbered, StepsSetLater, NeedsAreLeast, AcceptedAreOffered, SinksAskByTheRule};
+ghost use Rattle.pd_sink.specs.Laws.{RequestsHaveTheirFields, CapabilitiesHaveTheirFields};
+
+/// Each row of the state table has the number of its place.
+pub fn rows()
+    ensures { RowsAreNumbered }
+{}
 
 /// Each deadline that a step sets is later than the step, and the timer that fell due no longer runs.
 pub fn later()

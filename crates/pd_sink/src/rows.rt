@@ -8,16 +8,45 @@ use crate::kinds::{Deed, Facts, Message};
 use crate::{Note, State, Stimulus};
 use pd_timers::Timer;
 
-macro_rules! rows {
-    ($state:ident, $stimulus:ident, $facts:ident; each $($any:ident)|+; $($number:ident: $($s:ident)|+, $c:pat $(if $g:ident)? => $next:ident $(($to:ident))? [$($deed:expr),*];)*) => {
-        match ($state, $stimulus) {
-            $(($(State::$s)|+, $c) $(if $facts.$g)? => plan!($facts, $next $(($to))? [$($deed),*]),)*
-            $((State::$any, _) => &[],)+
-        }
+/// The column of states: some, or all but some.
+macro_rules! states {
+    (all_but(Ready)) => {
+        State::Off
+            | State::Disabled
+            | State::Discovery
+            | State::WaitForCapabilities
+            | State::EvaluateCapability
+            | State::SelectCapability
+            | State::TransitionSink
+            | State::GiveSinkCap
+            | State::GetSourceCap
+            | State::SendSoftReset
+            | State::SoftReset
+            | State::HardReset
+            | State::TransitionToDefault
     };
+    (all_but(Off | Disabled)) => {
+        State::Discovery
+            | State::HardReset
+            | State::TransitionToDefault
+            | states!(soft_reset_states)
+    };
+    (soft_reset_states) => {
+        State::WaitForCapabilities
+            | State::EvaluateCapability
+            | State::SelectCapability
+            | State::TransitionSink
+            | State::Ready
+            | State::GiveSinkCap
+            | State::GetSourceCap
+            | State::SendSoftReset
+            | State::SoftReset
+    };
+    ($($state:ident)|+) => { $(State::$state)|+ };
 }
 
-macro_rules! plan {
+/// What a row does, by its columns of the next state and of acts.
+macro_rules! deeds {
     ($facts:ident, stay [$($deed:expr),*]) => { &[$($deed),*] };
     ($facts:ident, to ($to:ident) [$($deed:expr),*]) => { &[Deed::Enter(State::$to), $($deed),*] };
     ($facts:ident, rq [$($deed:expr),*]) => {
@@ -31,9 +60,90 @@ macro_rules! plan {
     };
     ($facts:ident, hr [$($deed:expr),*]) => {
         if $facts.hard_resets_left {
-            &[$($deed,)* Deed::Enter(State::HardReset), Deed::HardResetsUp, Deed::Contract(false), Deed::Note(Note::HardReset), Deed::SendHardReset]
+            &[$($deed,)* Deed::Enter(State::HardReset), Deed::HardResetCounterUp, Deed::Contract(false), Deed::Note(Note::HardReset), Deed::SendHardReset]
         } else {
             &[$($deed,)* Deed::Enter(State::Disabled), Deed::Contract(false), Deed::Note(Note::Disabled)]
+        }
+    };
+}
+
+/// The first row that fits, tried in order: what it does, and nothing where none fits.
+macro_rules! rows {
+    ($state:ident, $stimulus:ident, $facts:ident; each $($any:ident)|+;
+    $($number:ident: $($s:ident $(($($but:ident)|+))?)|+, $c:pat $(if $guard:ident)? => $next:ident $(($to:ident))? [$($deed:expr),*];)*) => {
+        match ($state, $stimulus) {
+            $((states!($($s $(($($but)|+))?)|+), $c) $(if $facts.$guard)? => deeds!($facts, $next $(($to))? [$($deed),*]),)*
+            $((State::$any, _) => &[],)+
+        }
+    };
+}
+
+/// The names of the rows, in order.
+#[cfg(test)]
+macro_rules! names {
+    (each $($any:ident)|+;
+    $($number:ident: $($s:ident $(($($but:ident)|+))?)|+, $c:pat $(if $guard:ident)? => $next:ident $(($to:ident))? [$($deed:expr),*];)*) => {
+        [$(stringify!($number)),*]
+    };
+}
+
+/// The table, handed to a macro that reads it.
+macro_rules! table {
+    ($read:ident $($before:tt)*) => {
+        $read! {
+            $($before)*
+            each Off | Disabled | Discovery | WaitForCapabilities | EvaluateCapability | SelectCapability | TransitionSink | Ready | GiveSinkCap | GetSourceCap | SendSoftReset | SoftReset | HardReset | TransitionToDefault;
+            // Off
+            K1: Off, Stimulus::Attach(_) if plain => to(Disabled) [];
+            K2: Off, Stimulus::Attach(_) => to(Discovery) [];
+            // PE_SNK_Discovery and PE_SNK_Transition_to_default
+            K3: Discovery | TransitionToDefault, Stimulus::Vbus => to(WaitForCapabilities) [Deed::Start(Timer::SinkWaitCap)];
+            // the states in which an offer is evaluated
+            K4: WaitForCapabilities | EvaluateCapability | SelectCapability | Ready | GiveSinkCap | GetSourceCap, Stimulus::SourceCapabilities(_) => to(EvaluateCapability) [Deed::KeepOffer, Deed::Start(Timer::Delay)];
+            // PE_SNK_Wait_for_Capabilities
+            K5: WaitForCapabilities, Stimulus::Ended(Timer::SinkWaitCap) => hr [];
+            // PE_SNK_Evaluate_Capability
+            K6: EvaluateCapability, Stimulus::Ended(Timer::Delay) => rq [];
+            // PE_SNK_Select_Capability
+            K7: SelectCapability, Stimulus::Sent => stay [Deed::Start(Timer::SenderResponse)];
+            K8: SelectCapability, Stimulus::Accept => to(TransitionSink) [Deed::Start(Timer::PsTransition)];
+            K9: SelectCapability, Stimulus::Wait | Stimulus::Reject if no_contract => to(WaitForCapabilities) [Deed::Start(Timer::SinkWaitCap)];
+            K10: SelectCapability, Stimulus::Wait => rd [Deed::Again(true)];
+            K11: SelectCapability, Stimulus::Reject => rd [];
+            K12: SelectCapability, Stimulus::Ended(Timer::SenderResponse) => hr [];
+            K13: SelectCapability, Stimulus::Failed => sr [];
+            // PE_SNK_Transition_Sink
+            K14: TransitionSink, Stimulus::PsRdy => rd [Deed::Contract(true), Deed::HardResetCounterZero];
+            K15: TransitionSink, Stimulus::Ended(Timer::PsTransition) => hr [];
+            // PE_SNK_Ready
+            K16: Ready, Stimulus::Ended(Timer::Delay) | Stimulus::Ended(Timer::SinkRequest) => rq [];
+            K17: Ready, Stimulus::Demand(_) => stay [Deed::Fresh(true), Deed::Start(Timer::Delay)];
+            K18: Ready, Stimulus::GetSinkCap => to(GiveSinkCap) [Deed::Start(Timer::Delay)];
+            K19: Ready, Stimulus::GetSource => to(GetSourceCap) [Deed::Send(Message::GetSourceCap)];
+            // PE_SNK_Give_Sink_Cap
+            K20: GiveSinkCap, Stimulus::Ended(Timer::Delay) => stay [Deed::Send(Message::SinkCapabilities)];
+            K21: GiveSinkCap, Stimulus::Sent => rd [];
+            // PE_SNK_Get_Source_Cap
+            K22: GetSourceCap, Stimulus::Sent => stay [Deed::Start(Timer::SenderResponse)];
+            K23: GetSourceCap, Stimulus::Ended(Timer::SenderResponse) => rd [];
+            // PE_SNK_Give_Sink_Cap and PE_SNK_Get_Source_Cap
+            K24: GiveSinkCap | GetSourceCap, Stimulus::Failed => sr [];
+            // PE_SNK_Send_Soft_Reset
+            K25: SendSoftReset, Stimulus::Sent => stay [Deed::Start(Timer::SenderResponse)];
+            K26: SendSoftReset, Stimulus::Accept if was_sent => to(WaitForCapabilities) [Deed::Start(Timer::SinkWaitCap)];
+            K27: SendSoftReset, Stimulus::Ended(Timer::SenderResponse) | Stimulus::Failed => hr [];
+            // PE_SNK_Soft_Reset
+            K28: SoftReset, Stimulus::Ended(Timer::Delay) => stay [Deed::Send(Message::Accept)];
+            K29: SoftReset, Stimulus::Sent => to(WaitForCapabilities) [Deed::Start(Timer::SinkWaitCap)];
+            K30: SoftReset, Stimulus::Failed => hr [];
+            // PE_SNK_Hard_Reset
+            K31: HardReset, Stimulus::Sent => to(TransitionToDefault) [];
+            // all states but PE_SNK_Ready
+            K32: all_but(Ready), Stimulus::Demand(_) => stay [Deed::Fresh(true)];
+            // the states of rows K4 to K30
+            K33: soft_reset_states, Stimulus::SoftReset => to(SoftReset) [Deed::Start(Timer::Delay)];
+            // all states but Off and Disabled
+            K34: all_but(Off | Disabled), Stimulus::HardReset => to(TransitionToDefault) [Deed::Contract(false), Deed::Fresh(false), Deed::Again(false)];
         }
     };
 }
@@ -41,44 +151,21 @@ macro_rules! plan {
 /// What the first row that fits does.
 #[tactic(auto, unfolding(crate::specs::Table::row_of))]
 pub(crate) fn choose(state: State, stimulus: &Stimulus, facts: Facts) -> &'static [Deed]
-    ensures deeds { result.now ≡ deeds_of_row facts.hard_resets_left (row_of (told facts) state stimulus.now) }
+    ensures deeds { result.now ≡ deeds_of_row (told facts) (row_of (told facts) state stimulus.now) }
     ensures few { length result.now ≤ 6 }
 {
-    rows! { state, stimulus, facts;
-        each Off | Disabled | Discovery | WaitForCapabilities | EvaluateCapability | SelectCapability | TransitionSink | Ready | GiveSinkCap | GetSourceCap | SendSoftReset | SoftReset | HardReset | TransitionToDefault;
-        K1: Off, Stimulus::Attach(_) if plain => to(Disabled) [];
-        K2: Off, Stimulus::Attach(_) => to(Discovery) [];
-        K3: Discovery | TransitionToDefault, Stimulus::Vbus => to(WaitForCapabilities) [Deed::Start(Timer::SinkWaitCap)];
-        K4: WaitForCapabilities | EvaluateCapability | SelectCapability | Ready | GiveSinkCap | GetSourceCap, Stimulus::SourceCapabilities(_) => to(EvaluateCapability) [Deed::KeepOffer, Deed::Start(Timer::Delay)];
-        K5: WaitForCapabilities, Stimulus::Ended(Timer::SinkWaitCap) => hr [];
-        K6: EvaluateCapability, Stimulus::Ended(Timer::Delay) => rq [];
-        K7: SelectCapability, Stimulus::Sent => stay [Deed::Start(Timer::SenderResponse)];
-        K8: SelectCapability, Stimulus::Accept => to(TransitionSink) [Deed::Start(Timer::PsTransition)];
-        K9: SelectCapability, Stimulus::Wait | Stimulus::Reject if no_contract => to(WaitForCapabilities) [Deed::Start(Timer::SinkWaitCap)];
-        K10: SelectCapability, Stimulus::Wait => rd [Deed::Again(true)];
-        K11: SelectCapability, Stimulus::Reject => rd [];
-        K12: SelectCapability, Stimulus::Ended(Timer::SenderResponse) => hr [];
-        K13: SelectCapability, Stimulus::Failed => sr [];
-        K14: TransitionSink, Stimulus::PsRdy => rd [Deed::Contract(true), Deed::HardResetsZero];
-        K15: TransitionSink, Stimulus::Ended(Timer::PsTransition) => hr [];
-        K16: Ready, Stimulus::Ended(Timer::Delay) | Stimulus::Ended(Timer::SinkRequest) => rq [];
-        K17: Ready, Stimulus::Demand(_) => stay [Deed::Fresh(true), Deed::Start(Timer::Delay)];
-        K18: Ready, Stimulus::GetSinkCap => to(GiveSinkCap) [Deed::Start(Timer::Delay)];
-        K19: Ready, Stimulus::GetSource => to(GetSourceCap) [Deed::Send(Message::GetSourceCap)];
-        K20: GiveSinkCap, Stimulus::Ended(Timer::Delay) => stay [Deed::Send(Message::SinkCapabilities)];
-        K21: GiveSinkCap, Stimulus::Sent => rd [];
-        K22: GetSourceCap, Stimulus::Sent => stay [Deed::Start(Timer::SenderResponse)];
-        K23: GetSourceCap, Stimulus::Ended(Timer::SenderResponse) => rd [];
-        K24: GiveSinkCap | GetSourceCap, Stimulus::Failed => sr [];
-        K25: SendSoftReset, Stimulus::Sent => stay [Deed::Start(Timer::SenderResponse)];
-        K26: SendSoftReset, Stimulus::Accept if was_sent => to(WaitForCapabilities) [Deed::Start(Timer::SinkWaitCap)];
-        K27: SendSoftReset, Stimulus::Ended(Timer::SenderResponse) | Stimulus::Failed => hr [];
-        K28: SoftReset, Stimulus::Ended(Timer::Delay) => stay [Deed::Send(Message::Accept)];
-        K29: SoftReset, Stimulus::Sent => to(WaitForCapabilities) [Deed::Start(Timer::SinkWaitCap)];
-        K30: SoftReset, Stimulus::Failed => hr [];
-        K31: HardReset, Stimulus::Sent => to(TransitionToDefault) [];
-        K32: Off | Disabled | Discovery | WaitForCapabilities | EvaluateCapability | SelectCapability | TransitionSink | GiveSinkCap | GetSourceCap | SendSoftReset | SoftReset | HardReset | TransitionToDefault, Stimulus::Demand(_) => stay [Deed::Fresh(true)];
-        K33: WaitForCapabilities | EvaluateCapability | SelectCapability | TransitionSink | Ready | GiveSinkCap | GetSourceCap | SendSoftReset | SoftReset, Stimulus::SoftReset => to(SoftReset) [Deed::Start(Timer::Delay)];
-        K34: Discovery | WaitForCapabilities | EvaluateCapability | SelectCapability | TransitionSink | Ready | GiveSinkCap | GetSourceCap | SendSoftReset | SoftReset | HardReset | TransitionToDefault, Stimulus::HardReset => to(TransitionToDefault) [Deed::Contract(false), Deed::Fresh(false), Deed::Again(false)];
+    table!(rows state, stimulus, facts;)
+}
+
+/// Each row's number is its place.
+#[cfg(test)]
+#[test]
+fn rows_are_numbered(rt: HostRuntime) {
+    for (place, name) in table!(names).iter().enumerate() {
+        let number = place.wrapping_add(1);
+        assert_eq!(rt;
+            *name,
+            format!(in rt.alloc(); "K{number}").unwrap().as_str()
+        );
     }
 }

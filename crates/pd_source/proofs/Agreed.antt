@@ -1,5 +1,6 @@
 -- What a step does to what is accepted, agreed on and delivered.
 use Rattle.std.proofs.Common.{◌≡◌, ℕ, inl, inr, Bool, true, false, not, ◌&&◌, ◌||◌, List, [], ◌∷◌, Option, option_map, refl, ap, ◌∙◌}
+use Rattle.std.specs.List.{list_all}
 use Rattle.pd_objects.specs.declared.contract.Contract.{Contract}
 use Rattle.pd_objects.specs.declared.query.Answer.{Answer}
 use Rattle.pd_source.specs.declared.kinds.State.{State}
@@ -15,7 +16,7 @@ use Rattle.pd_source.specs.Table.{Row, Guard, Fits, HardResetsLeft, holds, table
 use Rattle.pd_source.specs.Acts.{after, all_after}
 use Rattle.pd_source.specs.Step.{before_row, row_at, deeds_at, stepped}
 use Rattle.pd_source.specs.Sound.{is_transition, IsMade, IsTaken, IsSettled}
-use Rattle.pd_source.proofs.Walk.{and-left, and-right, all_rows, row_of-all, row_of-guard}
+use Rattle.pd_source.proofs.Walk.{and-left, and-right, row_of-all, row_of-guard}
 use Rattle.pd_source.proofs.SoundRows.{fixed, is_fits, valid-fits, row_of-fit}
 
 -- the contract: it is made of the accepted request and the delivered offer as they were before the step
@@ -94,7 +95,7 @@ chosen p g r h = ap p (fixed g r.next r) ∙ by_reset p r (g HardResetsLeft) h
 abbrev settles_from : State → Row → Bool
 settles_from t r = with_guard (settles (not (is_transition t))) r
 
-table-settles : (t : State) (h : Heard) → all_rows (λ r. settles_from t r || not (among t r.states && match_one h r.cues)) table ≡ true
+table-settles : (t : State) (h : Heard) → list_all (λ r. settles_from t r || not (among t r.states && match_one h r.cues)) table ≡ true
 table-settles state.Off h = refl
 table-settles _ h = refl
 

@@ -1,5 +1,6 @@
 -- An answer matters only where the engine asks.
 use Rattle.std.proofs.Common.{◌≡◌, ℕ, Bool, true, false, not, ◌&&◌, ◌||◌, if◌then◌else◌, List, [], ◌∷◌, ◌++◌, Option, Some, None, refl, sym, ap, ◌∙◌}
+use Rattle.std.specs.List.{list_all}
 use Rattle.pd_timers.specs.declared.Timer.TheVariants as timer
 use Rattle.pd_objects.specs.declared.query.Answer.{Answer}
 use Rattle.pd_source.specs.declared.kinds.State.{State}
@@ -16,7 +17,7 @@ use Rattle.pd_source.specs.Record.{SourceSettings, SourceRecord}
 use Rattle.pd_source.specs.Table.{Row, row, Ended, Guard, RequestInvalid, Fits, OfferDiffers, To, holds, table, first, fits, among, match_one, heard_of, row_of, deeds_of_row, asks_offer, is_request_valid}
 use Rattle.pd_source.specs.Acts.{after, wants, all_after, all_wants}
 use Rattle.pd_source.specs.Step.{before_row, row_at, deeds_at, stepped, acts_of, query_of, offer_query, fit_query, row_query, polls, decides}
-use Rattle.pd_source.proofs.Walk.{and-left, and-right, all_rows, row_of-all, none_of, none_of_row, none_of-deeds}
+use Rattle.pd_source.proofs.Walk.{and-left, and-right, row_of-all, none_of, none_of_row, none_of-deeds}
 
 -- the guards that read the answer
 abbrev reads_answer : Guard → Bool
@@ -40,16 +41,16 @@ fits-same g k agree s h r u = by_guard (reads_answer r.guard) (among s r.states 
   by_guard true false e u = refl
   by_guard false c e u = ap (λ w. c && w) (agree r.guard e)
 
-first-same : (g k : Guard → Bool) → ((w : Guard) → reads_answer w ≡ false → g w ≡ k w) → (s : State) (h : Heard) (rows : List Row) → all_rows (is_unread s h) rows ≡ true → first g s h rows ≡ first k s h rows
+first-same : (g k : Guard → Bool) → ((w : Guard) → reads_answer w ≡ false → g w ≡ k w) → (s : State) (h : Heard) (rows : List Row) → list_all (is_unread s h) rows ≡ true → first g s h rows ≡ first k s h rows
 first-same g k agree s h [] u = refl
 first-same g k agree s h (r ∷ rs) u =
-    ap (λ b. if b then r else first g s h rs) (fits-same g k agree s h r (and-left (is_unread s h r) (all_rows (is_unread s h) rs) u))
-    ∙ ap (λ q. if fits k s h r then r else q) (first-same g k agree s h rs (and-right (is_unread s h r) (all_rows (is_unread s h) rs) u))
+    ap (λ b. if b then r else first g s h rs) (fits-same g k agree s h r (and-left (is_unread s h r) (list_all (is_unread s h) rs) u))
+    ∙ ap (λ q. if fits k s h r then r else q) (first-same g k agree s h rs (and-right (is_unread s h r) (list_all (is_unread s h) rs) u))
 
 -- where neither a poll nor a request is decided, the row is the same whatever the answer
-unread : (s : State) (h : Heard) → polls s h ≡ false → decides s h ≡ false → all_rows (is_unread s h) table ≡ true
+unread : (s : State) (h : Heard) → polls s h ≡ false → decides s h ≡ false → list_all (is_unread s h) table ≡ true
 unread s h p d =
-    let e : all_rows (is_unread s h) table ≡ not (decides s h) && (not (polls s h) && true) = refl in
+    let e : list_all (is_unread s h) table ≡ not (decides s h) && (not (polls s h) && true) = refl in
     e ∙ ap (λ b. not b && (not (polls s h) && true)) d ∙ ap (λ b. not b && true) p
 
 pub row-same : (s : SourceSettings) (a b : Option Answer) (r : SourceRecord) (t : State) (h : Heard) → polls t h ≡ false → decides t h ≡ false → row_of (holds s a r) t h ≡ row_of (holds s b r) t h

@@ -1,5 +1,6 @@
 -- A contract is made where a step leads from Transition_Supply to Ready, and nowhere else.
 use Rattle.std.proofs.Common.{◌≡◌, ◌≢◌, ◌⊎◌, ℕ, Bool, true, false, not, ◌&&◌, ◌||◌, if◌then◌else◌, List, [], ◌∷◌, Option, None, option_map, refl, sym, ap, ◌∙◌, inl, inr}
+use Rattle.std.specs.List.{list_all}
 use Rattle.pd_objects.specs.declared.contract.Contract.{Contract}
 use Rattle.pd_objects.specs.declared.query.Answer.{Answer}
 use Rattle.pd_source.specs.declared.kinds.State.{State}
@@ -16,7 +17,7 @@ use Rattle.pd_source.specs.Acts.{after, all_after}
 use Rattle.pd_source.specs.Step.{before_row, row_at, deeds_at, stepped}
 use Rattle.pd_source.specs.Sound.{is_transition}
 use Rattle.pd_source.specs.Commits.{MakesNoContract, MakesOrNot, ContractsAreMadeAtReady}
-use Rattle.pd_source.proofs.Walk.{and-left, and-right, all_rows, none_of}
+use Rattle.pd_source.proofs.Walk.{and-left, and-right, none_of}
 use Rattle.pd_source.proofs.SoundRows.{row_of-fit}
 use Rattle.pd_source.proofs.Accepting.{IsLeft, is_take, left-all}
 use Rattle.pd_source.proofs.Agreed.{with_guard, chosen}
@@ -39,7 +40,7 @@ enters_ready _ = false
 
 -- the acts of the row that makes a contract
 abbrev is_making : List Deed → Bool
-is_making (deed.Enter t ∷ deed.Commit ∷ deed.HardZero ∷ deed.Start timer ∷ []) = is_in_ready t
+is_making (deed.Enter t ∷ deed.Commit ∷ deed.HardResetCounterZero ∷ deed.Start timer ∷ []) = is_in_ready t
 is_making _ = false
 
 -- the contract stays or falls
@@ -82,7 +83,7 @@ record Made (s : SourceSettings) (old new : SourceRecord) : Type 0 where
   used : new.accepted_request ≡ None
 
 made-all : (s : SourceSettings) (ds : List Deed) (now : ℕ) (x : Stimulus) (a : Option Answer) (r : SourceRecord) → is_making ds ≡ true → Made s r (all_after s ds now x a r)
-made-all s (deed.Enter t ∷ deed.Commit ∷ deed.HardZero ∷ deed.Start timer ∷ []) now x a r h = record { to_ready = is_ready t h; contract = refl; used = refl }
+made-all s (deed.Enter t ∷ deed.Commit ∷ deed.HardResetCounterZero ∷ deed.Start timer ∷ []) now x a r h = record { to_ready = is_ready t h; contract = refl; used = refl }
 made-all s _ now x a r h = absurd (cc)
 
 -- ---- rows
@@ -97,7 +98,7 @@ are_fair t ds = fair (is_transition t) (none_of is_commit ds) (is_making ds) (no
 abbrev is_fair : State → Row → Bool
 is_fair t r = with_guard (are_fair t) r
 
-table-fair : (t : State) (h : Heard) → all_rows (λ r. is_fair t r || not (among t r.states && match_one h r.cues)) table ≡ true
+table-fair : (t : State) (h : Heard) → list_all (λ r. is_fair t r || not (among t r.states && match_one h r.cues)) table ≡ true
 table-fair state.Off h = refl
 table-fair _ h = refl
 

@@ -1,5 +1,6 @@
 -- A source at rest holds nothing, and one that sheds holds the floor alone.
 use Rattle.std.proofs.Common.{◌≡◌, ℕ, Bool, true, false, not, ◌&&◌, ◌||◌, max, fold, is_some, if◌then◌else◌, List, [], ◌∷◌, ◌++◌, take, drop, Option, Some, None, refl, sym, ap, ◌∙◌, subst}
+use Rattle.std.specs.List.{list_all}
 use Rattle.pd_objects.specs.declared.contract.Contract.{Contract}
 use Rattle.pd_objects.specs.declared.query.Answer.{Answer}
 use Rattle.pd_timers.specs.declared.Timer.TheVariants as timer
@@ -15,7 +16,7 @@ use Rattle.pd_source.specs.Record.{SourceSettings, SourceRecord, off}
 use Rattle.pd_source.specs.Table.{Row, row, Guard, Always, HasContract, HardResetsLeft, To, SR, Failed, among, match_one, first, table, anything_else, row_of, hr, deeds_of_row, holds, heard_of}
 use Rattle.pd_source.specs.Acts.{after, all_after}
 use Rattle.pd_source.specs.Step.{before_row, deeds_at, stepped, hold_of, powers, contracted, requested}
-use Rattle.pd_source.proofs.Walk.{and-left, and-right, all_rows}
+use Rattle.pd_source.proofs.Walk.{and-left, and-right}
 use Rattle.pd_source.proofs.SoundRows.{fixed, row_of-fit}
 use Rattle.pd_source.proofs.Holds.{hold_of-off}
 use Rattle.pd_source.specs.Rest.{is_at_rest, HoldsNothing, IsEmptyAtRest}
@@ -83,7 +84,7 @@ is_fair t none w =
     ends rest rest rest (rest || none) (deeds_of_row (λ g. true) w) && ends rest rest rest (rest || none) (deeds_of_row (λ g. false) w)
 
 abbrev all_fair : State → Bool → Heard → List Row → Bool
-all_fair t none h rows = all_rows (λ r. is_fair t none r || not (among t r.states && match_one h r.cues)) rows
+all_fair t none h rows = list_all (λ r. is_fair t none r || not (among t r.states && match_one h r.cues)) rows
 
 else-fair : (t : State) (none : Bool) → is_fair t none anything_else ≡ true
 else-fair state.Off none = refl

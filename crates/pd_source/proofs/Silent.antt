@@ -1,5 +1,6 @@
 -- A source that sheds holds nothing, to the end of that instant.
 use Rattle.std.proofs.Common.{◌≡◌, ℕ, ◌<◌, inl, inr, Bool, true, false, not, ◌&&◌, ◌||◌, if◌then◌else◌, List, [], ◌∷◌, Option, Some, None, refl, sym, ap, ◌∙◌, subst, arith}
+use Rattle.std.specs.List.{list_all}
 use Rattle.pd_timers.specs.declared.Timer.{Timer}
 use Rattle.pd_timers.specs.Deadlines.{deadline, started, stopped, idle}
 use Rattle.pd_timers.proofs.LaterLemmas.{deadline-idle, SetsLater-started, SetsLater-stopped}
@@ -21,7 +22,7 @@ use Rattle.pd_source.specs.Acts.{after, all_after}
 use Rattle.pd_source.specs.Step.{before_row, deeds_at, stepped}
 use Rattle.pd_source.specs.Rest.{IsEmptyAtRest}
 use Rattle.pd_source.specs.Silent.{is_silent, AllLater, IsSilentAt, EndsNow}
-use Rattle.pd_source.proofs.Walk.{and-left, and-right, all_rows, none_of, none_of_row, none_of-deeds}
+use Rattle.pd_source.proofs.Walk.{and-left, and-right, none_of, none_of_row, none_of-deeds}
 use Rattle.pd_source.proofs.Answered.{state-before}
 use Rattle.pd_source.proofs.SoundRows.{row_of-fit}
 use Rattle.pd_source.proofs.Rests.{shed-deeds, off-rests}
@@ -99,7 +100,7 @@ is_timer h = false
 abbrev turns_on : State → Heard → Bool
 turns_on t h = is_timer h && among t (state.Startup ∷ [])
 
-table-silent : (t : State) (h : Heard) → is_silent t ≡ true → turns_on t h ≡ false → all_rows (λ r. none_of_row speaks r || not (among t r.states && match_one h r.cues)) table ≡ true
+table-silent : (t : State) (h : Heard) → is_silent t ≡ true → turns_on t h ≡ false → list_all (λ r. none_of_row speaks r || not (among t r.states && match_one h r.cues)) table ≡ true
 table-silent state.Startup (heard.Ended u) k e = no (sym e)
 table-silent state.Startup h k e = refl
 table-silent state.Off h k e = refl

@@ -1,5 +1,6 @@
 -- Each row of the table leaves what holds of the record.
 use Rattle.std.proofs.Common.{◌≡◌, Bool, true, false, not, ◌&&◌, ◌||◌, if◌then◌else◌, List, [], ◌∷◌, refl, ap, ◌∙◌}
+use Rattle.std.specs.List.{list_all}
 use Rattle.pd_source.specs.declared.kinds.State.{State}
 use Rattle.pd_source.specs.declared.kinds.State.TheVariants as state
 use Rattle.pd_source.specs.declared.kinds.Heard.{Heard}
@@ -7,7 +8,7 @@ use Rattle.pd_source.specs.declared.kinds.Deed.{Deed}
 use Rattle.pd_source.specs.Table.{Row, Guard, RequestInvalid, Fits, HardResetsLeft, Next, Stay, table, anything_else, all_states, first, among, match_one, row_of, deeds_of_row}
 use Rattle.pd_source.specs.Step.{decides}
 use Rattle.pd_source.specs.Sound.{is_early, is_transition}
-use Rattle.pd_source.proofs.Walk.{and-left, and-right, all_rows, row_of-all}
+use Rattle.pd_source.proofs.Walk.{and-left, and-right, row_of-all}
 use Rattle.pd_source.proofs.Answered.{rejected}
 use Rattle.pd_source.proofs.SoundActs.{keeps, implied}
 
@@ -22,7 +23,7 @@ row_keeps t r b = keeps t (is_transition t) (is_early t) (is_fits r.guard) (deed
 abbrev is_fair : State → Row → Bool
 is_fair t r = not (among t r.states) || (row_keeps t r true && row_keeps t r false)
 
-table-fair : (t : State) → all_rows (is_fair t) table ≡ true
+table-fair : (t : State) → list_all (is_fair t) table ≡ true
 table-fair state.Off = refl
 table-fair _ = refl
 
@@ -72,14 +73,14 @@ pick p true true r q h k = or-false (p r) h where
 pick p true false r q h k = k
 pick p false c r q h k = k
 
-first-fit : (p : Row → Bool) (g : Guard → Bool) (t : State) (h : Heard) (rows : List Row) → p anything_else ≡ true → all_rows (λ r. p r || not (among t r.states && match_one h r.cues)) rows ≡ true → p (first g t h rows) ≡ true
+first-fit : (p : Row → Bool) (g : Guard → Bool) (t : State) (h : Heard) (rows : List Row) → p anything_else ≡ true → list_all (λ r. p r || not (among t r.states && match_one h r.cues)) rows ≡ true → p (first g t h rows) ≡ true
 first-fit p g t h [] e all = e
 first-fit p g t h (r ∷ rs) e all =
     let u = p r || not (among t r.states && match_one h r.cues) in
-    let v = all_rows (λ r. p r || not (among t r.states && match_one h r.cues)) rs in
+    let v = list_all (λ r. p r || not (among t r.states && match_one h r.cues)) rs in
     pick p (among t r.states && match_one h r.cues) (g r.guard) r (first g t h rs) (and-left u v all) (first-fit p g t h rs e (and-right u v all))
 
-pub row_of-fit : (p : Row → Bool) (g : Guard → Bool) (t : State) (h : Heard) → p anything_else ≡ true → all_rows (λ r. p r || not (among t r.states && match_one h r.cues)) table ≡ true → p (row_of g t h) ≡ true
+pub row_of-fit : (p : Row → Bool) (g : Guard → Bool) (t : State) (h : Heard) → p anything_else ≡ true → list_all (λ r. p r || not (among t r.states && match_one h r.cues)) table ≡ true → p (row_of g t h) ≡ true
 unfolding row_of
 row_of-fit p g t h e all = first-fit p g t h table e all
 

@@ -1,39 +1,21 @@
 -- What holds of each row of the table holds of the row that is taken.
 use Rattle.std.proofs.Common.{◌≡◌, Bool, true, false, not, ◌&&◌, if◌then◌else◌, List, [], ◌∷◌, ◌++◌, refl}
+use Rattle.std.specs.List.{list_all}
+use Rattle.pd_table.proofs.FirstRow.{first_row-all}
+pub use Rattle.pd_table.proofs.FirstRow.{and-left, and-right}
 use Rattle.pd_source.specs.declared.kinds.State.{State}
 use Rattle.pd_source.specs.declared.kinds.Heard.{Heard}
 use Rattle.pd_source.specs.declared.kinds.Deed.{Deed}
 use Rattle.pd_source.specs.declared.kinds.Deed.TheVariants as deed
 use Rattle.pd_source.specs.Table.{Row, Guard, Always, HardResetsLeft, Next, Stay, Same, To, SC, NC, SR, HR, anything_else, table, first, fits, row_of, sc, nc, sr, hr, deeds_of_row}
 
-pub and-left : (b c : Bool) → b && c ≡ true → b ≡ true
-and-left true c h = refl
-and-left false c h = h
-
-pub and-right : (b c : Bool) → b && c ≡ true → c ≡ true
-and-right true c h = h
-and-right false c h = absurd (cc)
-
 pub both : (b c : Bool) → b ≡ true → c ≡ true → b && c ≡ true
 both true c h k = k
 both false c h k = h
 
-abbrev pub all_rows : (Row → Bool) → List Row → Bool
-all_rows p [] = true
-all_rows p (r ∷ rs) = p r && all_rows p rs
-
-either : (p : Row → Bool) (b : Bool) (r q : Row) → p r ≡ true → p q ≡ true → p (if b then r else q) ≡ true
-either p true r q h k = h
-either p false r q h k = k
-
-first-all : (p : Row → Bool) (g : Guard → Bool) (s : State) (h : Heard) (rows : List Row) → p anything_else ≡ true → all_rows p rows ≡ true → p (first g s h rows) ≡ true
-first-all p g s h [] e all = e
-first-all p g s h (r ∷ rs) e all =
-    either p (fits g s h r) r (first g s h rs) (and-left (p r) (all_rows p rs) all) (first-all p g s h rs e (and-right (p r) (all_rows p rs) all))
-
-pub row_of-all : (p : Row → Bool) (g : Guard → Bool) (s : State) (h : Heard) → p anything_else ≡ true → all_rows p table ≡ true → p (row_of g s h) ≡ true
+pub row_of-all : (p : Row → Bool) (g : Guard → Bool) (s : State) (h : Heard) → p anything_else ≡ true → list_all p table ≡ true → p (row_of g s h) ≡ true
 unfolding row_of
-row_of-all p g s h e all = first-all p g s h table e all
+row_of-all p g s h e all = first_row-all p (fits g s h) anything_else table e all
 
 held-if : (g : Guard → Bool) (b : Bool) (r q : Row) → (b ≡ true → g r.guard ≡ true) → g q.guard ≡ true → g (if b then r else q).guard ≡ true
 held-if g true r q h k = h refl

@@ -77,11 +77,11 @@ abbrev pub after : SourceSettings → Deed → ℕ → Stimulus → Option Answe
 after s (deed.Enter t) now x a r = record r { state = t; deadlines = idle; sent = false }
 after s deed.EnterAgain now x a r = record r { deadlines = idle; sent = false }
 after s (deed.Start t) now x a r = record r { deadlines = started r.deadlines now t }
-after s deed.CapsUp now x a r = record r { caps_counter = rise r.caps_counter }
-after s deed.CapsZero now x a r = record r { caps_counter = 0 }
-after s deed.IdentUp now x a r = record r { discover_identity_counter = rise r.discover_identity_counter }
-after s deed.HardUp now x a r = record r { hard_reset_counter = rise r.hard_reset_counter }
-after s deed.HardZero now x a r = record r { hard_reset_counter = 0 }
+after s deed.CapsCounterUp now x a r = record r { caps_counter = rise r.caps_counter }
+after s deed.CapsCounterZero now x a r = record r { caps_counter = 0 }
+after s deed.DiscoverIdentityCounterUp now x a r = record r { discover_identity_counter = rise r.discover_identity_counter }
+after s deed.HardResetCounterUp now x a r = record r { hard_reset_counter = rise r.hard_reset_counter }
+after s deed.HardResetCounterZero now x a r = record r { hard_reset_counter = 0 }
 after s deed.LimitFromAnswer now x a r = record r { limit = limit_from x r.limit }
 after s deed.CableLimit now x a r = record r { limit = Some cable_current }
 after s deed.KeepRequest now x a r = record r { kept_request = kept_from x r.kept_request; revision = revision_from x r.revision }

@@ -3,6 +3,7 @@ use Rattle.std.specs.Prelude.{◌≡◌, ℕ, ◌≤◌, ◌*◌, ◌%◌, max, 
 use Rattle.arrayvec.specs.ArrayVec.{ArrayVec}
 use Rattle.pd_symbols.specs.Words.{field}
 use Rattle.pd_timers.specs.Deadlines.{SetsLater}
+use Rattle.pd_table.specs.Table.{are_numbered_from}
 use Rattle.pd_objects.specs.declared.query.Answer.{Answer}
 use Rattle.pd_objects.specs.declared.query.Query.TheVariants as query
 use Rattle.pd_objects.specs.Answers.{IsAllowed}
@@ -11,9 +12,14 @@ use Rattle.pd_source.specs.declared.kinds.State.TheVariants as state
 use Rattle.pd_source.specs.declared.kinds.Stimulus.{Stimulus}
 use Rattle.pd_source.specs.declared.kinds.Stimulus.TheVariants as stimulus
 use Rattle.pd_source.specs.Record.{SourceSettings, SourceRecord, off, cable_current}
+use Rattle.pd_source.specs.Table.{table}
 use Rattle.pd_source.specs.Acts.{object_of}
 use Rattle.pd_source.specs.Sound.{IsSound, IsAnswer, IsOfAnswer, limit_in, IsMade, IsTaken, IsSettled}
 use Rattle.pd_source.specs.Step.{before_row, stepped, acts_of, query_of, hold_of}
+
+-- each row's number is its place in the table, from 1
+abbrev pub RowsAreNumbered : Type 0
+RowsAreNumbered = are_numbered_from 1 table ≡ true
 
 -- after a step, each deadline that runs ran before it, and wasn't the one that fell due, or is later than the step
 abbrev pub StepsSetLater : Type 0

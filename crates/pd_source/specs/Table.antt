@@ -1,9 +1,20 @@
--- The source's state table (the states of USB Power Delivery 3.0, section 8.3.3.2; the rows are this product's profile).
-use Rattle.std.specs.Prelude.{ℕ, Bool, true, false, ◌==◌, ◌&&◌, not, nat_eq, nat_lt, nat_le, if◌then◌else◌, List, [], ◌∷◌, ◌++◌, Option, Some, None, is_some}
+-- The source's state table (the states of USB Power Delivery 3.0, section 8.3.3.2, PE_SRC_; the rows are this product's
+-- profile). Its timers are the SourceCapabilityTimer (tTypeCSendSourceCap), the SenderResponseTimer (tSenderResponse), the
+-- VDMResponseTimer (tVDMSenderResponse), the DiscoverIdentityTimer (tDiscoverIdentity), the PSHardResetTimer (tPSHardReset)
+-- and those that run for tSrcTransition and tSrcRecover. By the profile, the Delay is the time that the source takes to
+-- respond, TurnOn and Settling are the times in which its supply is switched on and settles, and OfferPoll is how often it
+-- looks for another offer. Its counters are the CapsCounter (nCapsCount), the DiscoverIdentityCounter
+-- (nDiscoverIdentityCount, here the port's own number of tries) and the HardResetCounter (nHardResetCount).
+use Rattle.std.specs.Prelude.{ℕ, Bool, true, false, ◌==◌, ◌&&◌, not, nat_eq, nat_lt, nat_le, if◌then◌else◌, List, [], ◌∷◌, ◌++◌}
+use Rattle.std.specs.Prelude.{Option, Some, None, is_some}
+use Rattle.std.specs.List.{list_any}
 use Rattle.std.specs.Cmp.Lexicographic.{pointwise}
 use Rattle.pd_timers.specs.declared.Timer.{Timer}
 use Rattle.pd_timers.specs.declared.Timer.TheVariants as timer
 use Rattle.pd_timers.specs.Timers.{place}
+use Rattle.pd_table.specs.Table as tables
+pub use Rattle.pd_table.specs.Table.{row}
+use Rattle.pd_table.specs.Table.{is_among, without, first_row}
 use Rattle.pd_objects.specs.declared.query.Answer.{Answer}
 use Rattle.pd_objects.specs.declared.query.Answer.TheVariants as answer
 use Rattle.pd_identity.specs.declared.identity.Reply.{Reply}
@@ -24,9 +35,27 @@ use Rattle.pd_source.specs.declared.kinds.Deed.TheVariants as deed
 use Rattle.pd_source.specs.Record.{SourceSettings, SourceRecord}
 use Rattle.pd_source.specs.Request.{is_valid}
 
--- the states, in the order of the standard's list; a state's place in it tells it from the others
+-- the states, and the place of each in their list, which tells it from the others
 abbrev pub all_states : List State
-all_states = state.Off ∷ state.Startup ∷ state.VdmIdentityRequest ∷ state.SendCapabilities ∷ state.Discovery ∷ state.NegotiateCapability ∷ state.CapabilityResponse ∷ state.TransitionSupply ∷ state.Ready ∷ state.WaitNewCapabilities ∷ state.GetSinkCap ∷ state.SendSoftReset ∷ state.SoftReset ∷ state.HardReset ∷ state.HardResetReceived ∷ state.TransitionToDefault ∷ state.Disabled ∷ []
+all_states =
+    state.Off
+    ∷ state.Startup
+    ∷ state.VdmIdentityRequest
+    ∷ state.SendCapabilities
+    ∷ state.Discovery
+    ∷ state.NegotiateCapability
+    ∷ state.CapabilityResponse
+    ∷ state.TransitionSupply
+    ∷ state.Ready
+    ∷ state.WaitNewCapabilities
+    ∷ state.GetSinkCap
+    ∷ state.SendSoftReset
+    ∷ state.SoftReset
+    ∷ state.HardReset
+    ∷ state.HardResetReceived
+    ∷ state.TransitionToDefault
+    ∷ state.Disabled
+    ∷ []
 
 abbrev pub state_place : State → ℕ
 state_place state.Off = 0
@@ -48,19 +77,26 @@ state_place state.TransitionToDefault = 15
 state_place state.Disabled = 16
 
 abbrev pub among : State → List State → Bool
-among s [] = false
-among s (t ∷ ts) = if state_place s == state_place t then true else among s ts
+among s states = is_among state_place s states
 
 -- all states but these
 abbrev pub all_but : List State → List State
-all_but excluded = without all_states where
-  without : List State → List State
-  without [] = []
-  without (s ∷ ss) = if among s excluded then without ss else s ∷ without ss
+all_but excluded = without state_place all_states excluded
 
--- the states of rows 10 to 43
+-- the states of rows 10 to 43, in which a Soft_Reset is obeyed
 abbrev pub soft_reset_states : List State
-soft_reset_states = state.SendCapabilities ∷ state.Discovery ∷ state.NegotiateCapability ∷ state.CapabilityResponse ∷ state.TransitionSupply ∷ state.Ready ∷ state.WaitNewCapabilities ∷ state.GetSinkCap ∷ state.SendSoftReset ∷ state.SoftReset ∷ []
+soft_reset_states =
+    state.SendCapabilities
+    ∷ state.Discovery
+    ∷ state.NegotiateCapability
+    ∷ state.CapabilityResponse
+    ∷ state.TransitionSupply
+    ∷ state.Ready
+    ∷ state.WaitNewCapabilities
+    ∷ state.GetSinkCap
+    ∷ state.SendSoftReset
+    ∷ state.SoftReset
+    ∷ []
 
 abbrev pub heard_reply : Reply → Heard
 heard_reply reply.Ack = heard.Ack
@@ -102,7 +138,7 @@ pub data Cue : Type 0 where
   HardReset : Cue
   GetSink : Cue
   Shed : Cue
-  Anything : Cue
+  AnythingElse : Cue
 
 abbrev pub sent_place : SentMessage → ℕ
 sent_place sent.Accept = 0
@@ -126,17 +162,17 @@ matches SoftReset heard.SoftReset = true
 matches HardReset heard.HardReset = true
 matches GetSink heard.GetSink = true
 matches Shed heard.Shed = true
-matches Anything h = true
+matches AnythingElse h = true
 matches _ _ = false
 
 abbrev pub match_one : Heard → List Cue → Bool
-match_one h [] = false
-match_one h (c ∷ cs) = if matches c h then true else match_one h cs
+match_one h cues = list_any (λ c. matches c h) cues
 
--- how often Source_Capabilities is sent again to a sink that answers nothing, and Hard Reset before the source gives up
+-- how often Source_Capabilities is sent again to a sink that answers nothing (nCapsCount, USB Power Delivery 3.0, section 6.7)
 abbrev pub n_caps_count : ℕ
 n_caps_count = 50
 
+-- how often Hard Reset is sent again before the source gives up (nHardResetCount)
 abbrev pub n_hard_reset_count : ℕ
 n_hard_reset_count = 2
 
@@ -193,104 +229,94 @@ pub data Next : Type 0 where
   SR : Next
   HR : Next
 
-pub record Row : Type 0 where
-  pub number : ℕ
-  pub states : List State
-  pub cues : List Cue
-  pub guard : Guard
-  pub next : Next
-  pub deeds : List Deed
-
-abbrev pub row : ℕ → List State → List Cue → Guard → Next → List Deed → Row
-row n s c g t d = record { number = n; states = s; cues = c; guard = g; next = t; deeds = d }
-
--- anything else, in each state: stay, no act
-abbrev pub anything_else : Row
-anything_else = row 0 all_states (Anything ∷ []) Always Stay []
+abbrev pub Row : Type 0
+Row = tables.Row State Cue Guard Next Deed
 
 abbrev pub table : List Row
 table =
     -- Off
     row 1 (state.Off ∷ []) (Attach ∷ []) Always (To state.Startup) (deed.Start timer.TurnOn ∷ [])
-    -- Startup
+    -- PE_SRC_Startup
     ∷ row 2 (state.Startup ∷ []) (Ended timer.TurnOn ∷ []) LimitKnown SC (deed.On ∷ [])
-    ∷ row 3 (state.Startup ∷ []) (Ended timer.TurnOn ∷ []) Always (To state.VdmIdentityRequest) (deed.On ∷ deed.IdentUp ∷ deed.Send message.DiscoverIdentity ∷ [])
-    -- VDM_Identity_Request
+    ∷ row 3 (state.Startup ∷ []) (Ended timer.TurnOn ∷ []) Always (To state.VdmIdentityRequest) (deed.On ∷ deed.DiscoverIdentityCounterUp ∷ deed.Send message.DiscoverIdentity ∷ [])
+    -- PE_SRC_VDM_Identity_Request
     ∷ row 4 (state.VdmIdentityRequest ∷ []) (Sent ∷ []) Always Stay (deed.Start timer.VdmResponse ∷ [])
     ∷ row 5 (state.VdmIdentityRequest ∷ []) (Ack ∷ []) Always SC (deed.LimitFromAnswer ∷ [])
     ∷ row 6 (state.VdmIdentityRequest ∷ []) (Nak ∷ []) Always NC []
     ∷ row 7 (state.VdmIdentityRequest ∷ []) (Busy ∷ Failed ∷ Ended timer.VdmResponse ∷ []) TriesLeft (To state.VdmIdentityRequest) (deed.Start timer.DiscoverIdentity ∷ [])
     ∷ row 8 (state.VdmIdentityRequest ∷ []) (Busy ∷ Failed ∷ Ended timer.VdmResponse ∷ []) Always NC []
-    ∷ row 9 (state.VdmIdentityRequest ∷ []) (Ended timer.DiscoverIdentity ∷ []) Always (To state.VdmIdentityRequest) (deed.IdentUp ∷ deed.Send message.DiscoverIdentity ∷ [])
-    -- Send_Capabilities
-    ∷ row 10 (state.SendCapabilities ∷ []) (Sent ∷ []) Always Stay (deed.CapsZero ∷ deed.Settle ∷ deed.Start timer.SenderResponse ∷ [])
+    ∷ row 9 (state.VdmIdentityRequest ∷ []) (Ended timer.DiscoverIdentity ∷ []) Always (To state.VdmIdentityRequest) (deed.DiscoverIdentityCounterUp ∷ deed.Send message.DiscoverIdentity ∷ [])
+    -- PE_SRC_Send_Capabilities
+    ∷ row 10 (state.SendCapabilities ∷ []) (Sent ∷ []) Always Stay (deed.CapsCounterZero ∷ deed.Settle ∷ deed.Start timer.SenderResponse ∷ [])
     ∷ row 11 (state.SendCapabilities ∷ []) (Request ∷ []) WasSent (To state.NegotiateCapability) (deed.KeepRequest ∷ deed.Start timer.Delay ∷ [])
     ∷ row 12 (state.SendCapabilities ∷ []) (Failed ∷ []) HasContract SR []
     ∷ row 13 (state.SendCapabilities ∷ []) (Failed ∷ []) Always (To state.Discovery) (deed.Close ∷ deed.Start timer.SourceCapability ∷ [])
     ∷ row 14 (state.SendCapabilities ∷ []) (Ended timer.SenderResponse ∷ []) Always HR []
-    -- Discovery
+    -- PE_SRC_Discovery
     ∷ row 15 (state.Discovery ∷ []) (Ended timer.SourceCapability ∷ []) CapsLeft SC []
     ∷ row 16 (state.Discovery ∷ []) (Ended timer.SourceCapability ∷ []) Always (To state.Disabled) (deed.Note note.Disabled ∷ [])
-    -- Negotiate_Capability
+    -- PE_SRC_Negotiate_Capability
     ∷ row 17 (state.NegotiateCapability ∷ []) (Ended timer.Delay ∷ []) RequestInvalid (To state.CapabilityResponse) (deed.Close ∷ deed.Note note.Reject ∷ deed.Send message.Reject ∷ [])
     ∷ row 18 (state.NegotiateCapability ∷ []) (Ended timer.Delay ∷ []) Fits (To state.TransitionSupply) (deed.Close ∷ deed.Take ∷ deed.Send message.Accept ∷ [])
     ∷ row 19 (state.NegotiateCapability ∷ []) (Ended timer.Delay ∷ []) Always (To state.CapabilityResponse) (deed.Close ∷ deed.Note note.Wait ∷ deed.Send message.Wait ∷ [])
-    -- Capability_Response
+    -- PE_SRC_Capability_Response
     ∷ row 20 (state.CapabilityResponse ∷ []) (Sent ∷ []) HasContract (To state.Ready) (deed.Start timer.OfferPoll ∷ [])
     ∷ row 21 (state.CapabilityResponse ∷ []) (Sent ∷ []) Always (To state.WaitNewCapabilities) (deed.Start timer.OfferPoll ∷ [])
     ∷ row 22 (state.CapabilityResponse ∷ []) (Failed ∷ []) Always SR []
-    -- Transition_Supply
+    -- PE_SRC_Transition_Supply
     ∷ row 23 (state.TransitionSupply ∷ []) (SentOf sent.Accept ∷ []) Always Stay (deed.Start timer.SrcTransition ∷ [])
     ∷ row 24 (state.TransitionSupply ∷ []) (Ended timer.SrcTransition ∷ []) Always Stay (deed.Start timer.Settling ∷ [])
     ∷ row 25 (state.TransitionSupply ∷ []) (Ended timer.Settling ∷ []) Always Stay (deed.Send message.PsRdy ∷ [])
-    ∷ row 26 (state.TransitionSupply ∷ []) (SentOf sent.PsRdy ∷ []) Always (To state.Ready) (deed.Commit ∷ deed.HardZero ∷ deed.Start timer.OfferPoll ∷ [])
+    ∷ row 26 (state.TransitionSupply ∷ []) (SentOf sent.PsRdy ∷ []) Always (To state.Ready) (deed.Commit ∷ deed.HardResetCounterZero ∷ deed.Start timer.OfferPoll ∷ [])
     ∷ row 27 (state.TransitionSupply ∷ []) (Failed ∷ []) Always HR []
-    -- Ready and Wait_New_Capabilities
+    -- PE_SRC_Ready and PE_SRC_Wait_New_Capabilities
     ∷ row 28 (state.Ready ∷ state.WaitNewCapabilities ∷ []) (Ended timer.OfferPoll ∷ []) OfferDiffers SC []
     ∷ row 29 (state.Ready ∷ state.WaitNewCapabilities ∷ []) (Ended timer.OfferPoll ∷ []) Always Same (deed.Start timer.OfferPoll ∷ [])
     ∷ row 30 (state.Ready ∷ state.WaitNewCapabilities ∷ []) (GetSourceCap ∷ []) Always Stay (deed.Start timer.Delay ∷ [])
     ∷ row 31 (state.Ready ∷ state.WaitNewCapabilities ∷ []) (Ended timer.Delay ∷ []) Always SC []
-    -- Ready
+    -- PE_SRC_Ready
     ∷ row 32 (state.Ready ∷ []) (Request ∷ []) Always (To state.NegotiateCapability) (deed.KeepRequest ∷ deed.Start timer.Delay ∷ [])
     ∷ row 33 (state.Ready ∷ []) (GetSink ∷ []) Always (To state.GetSinkCap) (deed.Send message.GetSinkCap ∷ [])
-    -- Get_Sink_Cap
+    -- PE_SRC_Get_Sink_Cap
     ∷ row 34 (state.GetSinkCap ∷ []) (Sent ∷ []) Always Stay (deed.Start timer.SenderResponse ∷ [])
     ∷ row 35 (state.GetSinkCap ∷ []) (SinkCapabilities ∷ Ended timer.SenderResponse ∷ []) Always (To state.Ready) (deed.Start timer.OfferPoll ∷ [])
     ∷ row 36 (state.GetSinkCap ∷ []) (Request ∷ []) Always (To state.NegotiateCapability) (deed.KeepRequest ∷ deed.Start timer.Delay ∷ [])
     ∷ row 37 (state.GetSinkCap ∷ []) (Failed ∷ []) Always SR []
-    -- Send_Soft_Reset
+    -- PE_SRC_Send_Soft_Reset
     ∷ row 38 (state.SendSoftReset ∷ []) (Sent ∷ []) Always Stay (deed.Start timer.SenderResponse ∷ [])
     ∷ row 39 (state.SendSoftReset ∷ []) (Accept ∷ []) WasSent SC []
     ∷ row 40 (state.SendSoftReset ∷ []) (Ended timer.SenderResponse ∷ Failed ∷ []) Always HR []
-    -- Soft_Reset
+    -- PE_SRC_Soft_Reset
     ∷ row 41 (state.SoftReset ∷ []) (Ended timer.Delay ∷ []) Always Stay (deed.Send message.Accept ∷ [])
     ∷ row 42 (state.SoftReset ∷ []) (Sent ∷ []) Always SC []
     ∷ row 43 (state.SoftReset ∷ []) (Failed ∷ []) Always HR []
-    -- Hard_Reset and Hard_Reset_Received
+    -- PE_SRC_Hard_Reset
     ∷ row 44 (state.HardReset ∷ []) (Sent ∷ []) Always Stay (deed.Start timer.PsHardReset ∷ [])
+    -- PE_SRC_Hard_Reset and PE_SRC_Hard_Reset_Received
     ∷ row 45 (state.HardReset ∷ state.HardResetReceived ∷ []) (Ended timer.PsHardReset ∷ []) Always (To state.TransitionToDefault) (deed.Off ∷ deed.Start timer.SrcRecover ∷ [])
-    -- Transition_to_default
+    -- PE_SRC_Transition_to_default
     ∷ row 46 (state.TransitionToDefault ∷ []) (Ended timer.SrcRecover ∷ []) Always (To state.Startup) (deed.Start timer.TurnOn ∷ [])
     -- the states of rows 10 to 43
     ∷ row 47 soft_reset_states (SoftReset ∷ []) Always (To state.SoftReset) (deed.Close ∷ deed.Start timer.Delay ∷ [])
-    -- all states but Off and Disabled
+    -- all states but Off and PE_SRC_Disabled
     ∷ row 48 (all_but (state.Off ∷ state.Disabled ∷ [])) (HardReset ∷ []) Always (To state.HardResetReceived) (deed.Void ∷ deed.Start timer.PsHardReset ∷ [])
     ∷ row 49 (all_but (state.Off ∷ state.Disabled ∷ [])) (Shed ∷ []) Always HR []
-    -- all states
-    ∷ anything_else
     ∷ []
+
+-- anything else, in each state: stay, no act
+abbrev pub anything_else : Row
+anything_else = row 0 all_states (AnythingElse ∷ []) Always Stay []
 
 abbrev pub fits : (Guard → Bool) → State → Heard → Row → Bool
 fits g s h r = (among s r.states && match_one h r.cues) && g r.guard
 
--- the first row that fits: the table's last row fits always
+-- the first row that fits; where none does, anything else
 abbrev pub first : (Guard → Bool) → State → Heard → List Row → Row
-first g s h [] = anything_else
-first g s h (r ∷ rs) = if fits g s h r then r else first g s h rs
+first g s h rows = first_row (fits g s h) anything_else rows
 
 -- SC: enter Send_Capabilities; CapsCounter + 1; draft; send Source_Capabilities
 abbrev pub sc : List Deed
-sc = deed.Enter state.SendCapabilities ∷ deed.CapsUp ∷ deed.Draft ∷ deed.Send message.SourceCapabilities ∷ []
+sc = deed.Enter state.SendCapabilities ∷ deed.CapsCounterUp ∷ deed.Draft ∷ deed.Send message.SourceCapabilities ∷ []
 
 -- NC: limit 3,000; note `cable unread`; SC
 abbrev pub nc : List Deed
@@ -305,7 +331,7 @@ sr = deed.Enter state.SendSoftReset ∷ deed.Close ∷ deed.ResetLayer ∷ deed.
 abbrev pub hr : Bool → List Deed
 hr resets_left =
     if resets_left
-    then deed.Enter state.HardReset ∷ deed.HardUp ∷ deed.Void ∷ deed.Note note.HardReset ∷ deed.SendHardReset ∷ []
+    then deed.Enter state.HardReset ∷ deed.HardResetCounterUp ∷ deed.Void ∷ deed.Note note.HardReset ∷ deed.SendHardReset ∷ []
     else deed.Enter state.Disabled ∷ deed.Void ∷ deed.Note note.Disabled ∷ []
 
 -- What a row does, in order. Entering comes before the row's acts; SC, NC, SR and HR come after them.

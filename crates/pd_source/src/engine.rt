@@ -34,15 +34,25 @@ pub struct Source {
     unconstrained: bool,
     state: State,
     deadlines: Deadlines,
+    /// The CapsCounter, which nCapsCount bounds.
     caps_counter: u8,
+    /// The DiscoverIdentityCounter, which the port's own number of tries bounds in place of nDiscoverIdentityCount.
     discover_identity_counter: u8,
+    /// The HardResetCounter, which nHardResetCount bounds.
     hard_reset_counter: u8,
+    /// The current in mA that the cable carries, where it is known.
     limit: Option<u32>,
+    /// Whether the message of this state was sent.
     sent: bool,
+    /// The revision that is spoken with the sink.
     revision: Revision,
+    /// The object of the request that came last.
     kept_request: Option<u32>,
+    /// The object of the request that is accepted.
     accepted_request: Option<u32>,
+    /// The currents in mA of the offer that is being made.
     draft_offer: ArrayVec<u32, 7>,
+    /// The currents in mA of the offer that was delivered.
     delivered_offer: ArrayVec<u32, 7>,
     contract: Option<Contract>,
 }
@@ -249,13 +259,15 @@ impl Source {
             }
             Deed::EnterAgain => self.enter(),
             Deed::Start(timer) => self.deadlines.start(now, timer),
-            Deed::CapsUp => self.caps_counter = self.caps_counter.saturating_add(1),
-            Deed::CapsZero => self.caps_counter = 0,
-            Deed::IdentUp => {
+            Deed::CapsCounterUp => self.caps_counter = self.caps_counter.saturating_add(1),
+            Deed::CapsCounterZero => self.caps_counter = 0,
+            Deed::DiscoverIdentityCounterUp => {
                 self.discover_identity_counter = self.discover_identity_counter.saturating_add(1);
             }
-            Deed::HardUp => self.hard_reset_counter = self.hard_reset_counter.saturating_add(1),
-            Deed::HardZero => self.hard_reset_counter = 0,
+            Deed::HardResetCounterUp => self.hard_reset_counter = self
+                .hard_reset_counter
+                .saturating_add(1),
+            Deed::HardResetCounterZero => self.hard_reset_counter = 0,
             Deed::LimitFromAnswer => self.limit = limit_from(stimulus, self.limit),
             Deed::CableLimit => self.limit = Some(CABLE_CURRENT_MA),
             Deed::KeepRequest => self.keep_request(stimulus),

@@ -1,9 +1,18 @@
-//! Laws of the engine's steps.
+//! Laws of the engine's table and steps.
 
-ghost use Rattle.pd_source.specs.Laws.{StepsSetLater, StepsReadOnlyTheirAnswer, HoldsKeepTheFloor, HoldsOfDetachedAreFloors, HoldsStayAllowed, OffersAskUnderTheLimit, LimitsAreOfAnswers, TheStartIsSound, StepsStaySound, ContractsAreMade, RequestsAreTaken, OffersAreSettled, AcceptingKeepsTheOffer, ObjectsOfferTheirSupplies, OffStaysOff};
+ghost use Rattle.pd_source.specs.Laws.{RowsAreNumbered, StepsSetLater, StepsReadOnlyTheirAnswer};
+ghost use Rattle.pd_source.specs.Laws.{HoldsKeepTheFloor, HoldsOfDetachedAreFloors, HoldsStayAllowed};
+ghost use Rattle.pd_source.specs.Laws.{OffersAskUnderTheLimit, LimitsAreOfAnswers, TheStartIsSound, StepsStaySound};
+ghost use Rattle.pd_source.specs.Laws.{ContractsAreMade, RequestsAreTaken, OffersAreSettled, AcceptingKeepsTheOffer};
+ghost use Rattle.pd_source.specs.Laws.{ObjectsOfferTheirSupplies, OffStaysOff};
 ghost use Rattle.pd_source.specs.Commits.{ContractsAreMadeAtReady};
 ghost use Rattle.pd_source.specs.Rest.{TheStartIsEmptyAtRest, StepsStayEmptyAtRest, ShedsFallToTheFloor};
 ghost use Rattle.pd_source.specs.Silent.{OffIsSilent, ShedsAreSilent, SilentStaySilent};
+
+/// Each row of the state table has the number of its place.
+pub fn rows()
+    ensures { RowsAreNumbered }
+{}
 
 /// Each deadline that a step sets is later than the step, and the timer that fell due no longer runs.
 pub fn later()

@@ -70,6 +70,7 @@ fn states_are_reached(rt: HostRuntime) {
     }
 }
 
+/// C1, Off.
 #[test]
 fn c1_without_a_plug_it_stays_off(rt: HostRuntime) {
     let mut plug = Plug::new();
@@ -80,6 +81,7 @@ fn c1_without_a_plug_it_stays_off(rt: HostRuntime) {
     assert!(rt; acts.is_empty());
 }
 
+/// C2, Off.
 #[test]
 fn c2_a_plug_is_ready(rt: HostRuntime) {
     for answer in [
@@ -98,6 +100,7 @@ fn c2_a_plug_is_ready(rt: HostRuntime) {
     }
 }
 
+/// C3, all states but Off.
 /// In Ready alone, which a silent plug never leaves.
 #[test]
 fn c3_a_silent_plug_stays(rt: HostRuntime) {
@@ -107,6 +110,7 @@ fn c3_a_silent_plug_stays(rt: HostRuntime) {
     assert!(rt; plug.state == State::Ready && acts.is_empty());
 }
 
+/// C4, all states but Off.
 #[test]
 fn c4_a_question_is_thought_over(rt: HostRuntime) {
     for state in [State::Ready, State::GetIdentity, State::SendIdentity] {
@@ -129,6 +133,7 @@ fn c4_a_question_is_thought_over(rt: HostRuntime) {
     }
 }
 
+/// C5, PE_CBL_Get_Identity.
 #[test]
 fn c5_the_answer_is_sent(rt: HostRuntime) {
     for answer in [CablePlug::Ack, CablePlug::Nak, CablePlug::Busy] {
@@ -146,6 +151,7 @@ fn c5_the_answer_is_sent(rt: HostRuntime) {
     }
 }
 
+/// C6, PE_CBL_Send_Identity.
 #[test]
 fn c6_the_answer_has_gone_out(rt: HostRuntime) {
     for stimulus in [Stimulus::Sent, Stimulus::Failed] {
@@ -158,6 +164,7 @@ fn c6_the_answer_has_gone_out(rt: HostRuntime) {
     }
 }
 
+/// C7, all states but Off.
 #[test]
 fn c7_a_hard_reset_comes(rt: HostRuntime) {
     for state in [State::Ready, State::GetIdentity, State::SendIdentity] {

@@ -2,6 +2,7 @@
 
 use super::*;
 
+/// K1, Off.
 #[test]
 fn k1_a_plain_sink_is_disabled(rt: HostRuntime) {
     let mut sink = Sink::new();
@@ -13,6 +14,7 @@ fn k1_a_plain_sink_is_disabled(rt: HostRuntime) {
     assert!(rt; acts.as_slice() == [Act::DropWaiting].as_slice());
 }
 
+/// K2, Off.
 #[test]
 fn k2_attach_discovers(rt: HostRuntime) {
     for mode in [SinkMode::PowerDelivery, SinkMode::Greedy] {
@@ -26,6 +28,7 @@ fn k2_attach_discovers(rt: HostRuntime) {
     }
 }
 
+/// K3, PE_SNK_Discovery and PE_SNK_Transition_to_default.
 #[test]
 fn k3_power_is_waited_on(rt: HostRuntime) {
     for state in [State::Discovery, State::TransitionToDefault] {
@@ -39,6 +42,8 @@ fn k3_power_is_waited_on(rt: HostRuntime) {
     }
 }
 
+/// K4, PE_SNK_Wait_for_Capabilities, PE_SNK_Evaluate_Capability, PE_SNK_Select_Capability, PE_SNK_Ready,
+/// PE_SNK_Give_Sink_Cap and PE_SNK_Get_Source_Cap.
 #[test]
 fn k4_an_offer_is_kept(rt: HostRuntime) {
     for state in [
@@ -61,6 +66,7 @@ fn k4_an_offer_is_kept(rt: HostRuntime) {
     }
 }
 
+/// K5, PE_SNK_Wait_for_Capabilities.
 /// Once without a contract, and once with one from before a Soft_Reset.
 #[test]
 fn k5_without_an_offer_it_resets_hard(rt: HostRuntime) {
@@ -81,6 +87,7 @@ fn k5_without_an_offer_it_resets_hard(rt: HostRuntime) {
     assert!(rt; acts.as_slice() == hard_reset_acts().as_slice());
 }
 
+/// K6, PE_SNK_Evaluate_Capability.
 /// What was fresh is asked now.
 #[test]
 fn k6_the_offer_is_answered(rt: HostRuntime) {
@@ -95,6 +102,7 @@ fn k6_the_offer_is_answered(rt: HostRuntime) {
     assert!(rt; acts.as_slice() == [Act::DropWaiting, request].as_slice());
 }
 
+/// K6, PE_SNK_Evaluate_Capability.
 #[test]
 fn k6_an_offer_that_falls_short(rt: HostRuntime) {
     let mut sink = at_evaluate();
@@ -109,6 +117,7 @@ fn k6_an_offer_that_falls_short(rt: HostRuntime) {
     assert!(rt; acts.as_slice() == [Act::DropWaiting, note, request].as_slice());
 }
 
+/// K7, PE_SNK_Select_Capability.
 #[test]
 fn k7_a_request_is_waited_on(rt: HostRuntime) {
     let mut sink = at_select();
@@ -119,6 +128,7 @@ fn k7_a_request_is_waited_on(rt: HostRuntime) {
     assert!(rt; sink.same(&want) && acts.is_empty());
 }
 
+/// K8, PE_SNK_Select_Capability.
 #[test]
 fn k8_accept_is_a_transition(rt: HostRuntime) {
     let mut sink = at_select();
@@ -131,6 +141,7 @@ fn k8_accept_is_a_transition(rt: HostRuntime) {
     assert!(rt; acts.as_slice() == [Act::DropWaiting].as_slice());
 }
 
+/// K9, PE_SNK_Select_Capability.
 #[test]
 fn k9_without_a_contract_an_offer_is_waited_on(rt: HostRuntime) {
     for refusal in [Stimulus::Wait, Stimulus::Reject] {
@@ -145,6 +156,7 @@ fn k9_without_a_contract_an_offer_is_waited_on(rt: HostRuntime) {
     }
 }
 
+/// K10, PE_SNK_Select_Capability.
 /// With a demand that came meanwhile, and without.
 #[test]
 fn k10_wait_is_asked_again(rt: HostRuntime) {
@@ -166,6 +178,7 @@ fn k10_wait_is_asked_again(rt: HostRuntime) {
     }
 }
 
+/// K11, PE_SNK_Select_Capability.
 /// With a demand that came meanwhile, and without.
 #[test]
 fn k11_reject_stays_with_the_contract(rt: HostRuntime) {
@@ -185,6 +198,7 @@ fn k11_reject_stays_with_the_contract(rt: HostRuntime) {
     }
 }
 
+/// K12, PE_SNK_Select_Capability.
 #[test]
 fn k12_no_answer_resets_hard(rt: HostRuntime) {
     let mut sink = asking_anew();
@@ -196,6 +210,7 @@ fn k12_no_answer_resets_hard(rt: HostRuntime) {
     assert!(rt; acts.as_slice() == hard_reset_acts().as_slice());
 }
 
+/// K13, PE_SNK_Select_Capability.
 #[test]
 fn k13_a_lost_request_resets_softly(rt: HostRuntime) {
     let mut sink = at_select();
@@ -206,6 +221,7 @@ fn k13_a_lost_request_resets_softly(rt: HostRuntime) {
     assert!(rt; acts.as_slice() == soft_reset_acts().as_slice());
 }
 
+/// K14, PE_SNK_Transition_Sink.
 /// With a demand that came meanwhile, and without; after a Hard Reset.
 #[test]
 fn k14_ps_rdy_is_a_contract(rt: HostRuntime) {
@@ -233,6 +249,7 @@ fn k14_ps_rdy_is_a_contract(rt: HostRuntime) {
     }
 }
 
+/// K15, PE_SNK_Transition_Sink.
 #[test]
 fn k15_a_transition_that_never_ends_resets_hard(rt: HostRuntime) {
     let mut sink = at_transition();
@@ -243,6 +260,7 @@ fn k15_a_transition_that_never_ends_resets_hard(rt: HostRuntime) {
     assert!(rt; acts.as_slice() == hard_reset_acts().as_slice());
 }
 
+/// K16, PE_SNK_Ready.
 /// By the Delay after a demand, and by SinkRequest after a Wait.
 #[test]
 fn k16_it_asks_anew(rt: HostRuntime) {
@@ -261,6 +279,7 @@ fn k16_it_asks_anew(rt: HostRuntime) {
     }
 }
 
+/// K17, PE_SNK_Ready.
 #[test]
 fn k17_demand_starts_a_delay(rt: HostRuntime) {
     let mut sink = at_ready();

@@ -4,6 +4,7 @@ ghost use Rattle.std.specs.Prelude.{◌≤◌};
 
 use super::*;
 
+/// K18, PE_SNK_Ready.
 #[test]
 fn k18_capabilities_are_asked_for(rt: HostRuntime) {
     let mut sink = asking_again();
@@ -15,6 +16,7 @@ fn k18_capabilities_are_asked_for(rt: HostRuntime) {
     assert!(rt; acts.as_slice() == [Act::DropWaiting].as_slice());
 }
 
+/// K19, PE_SNK_Ready.
 #[test]
 fn k19_it_asks_for_capabilities(rt: HostRuntime) {
     let mut sink = asking_again();
@@ -26,6 +28,7 @@ fn k19_it_asks_for_capabilities(rt: HostRuntime) {
     assert!(rt; acts.as_slice() == [Act::DropWaiting, sent].as_slice());
 }
 
+/// K20, PE_SNK_Give_Sink_Cap.
 /// 5 V at 3 A, which is 15 W, with the bit of higher capability, and 9 V at 1.67 A.
 #[test]
 fn k20_capabilities_are_sent(rt: HostRuntime) {
@@ -55,6 +58,7 @@ fn is_back(mut sink: Sink, now: u64, stimulus: &Stimulus) -> bool
     sink.same(&want) && sink.ready() && acts.as_slice() == [Act::DropWaiting].as_slice()
 }
 
+/// K21, PE_SNK_Give_Sink_Cap.
 #[test]
 fn k21_capabilities_are_given(rt: HostRuntime) {
     assert!(rt; is_back(at(State::GiveSinkCap), 304_000, &Stimulus::Sent));
@@ -66,6 +70,7 @@ fn k21_capabilities_are_given(rt: HostRuntime) {
     assert!(rt; is_back(sink, 304_000, &Stimulus::Sent));
 }
 
+/// K22, PE_SNK_Get_Source_Cap.
 #[test]
 fn k22_capabilities_are_waited_on(rt: HostRuntime) {
     let mut sink = at(State::GetSourceCap);
@@ -76,6 +81,7 @@ fn k22_capabilities_are_waited_on(rt: HostRuntime) {
     assert!(rt; sink.same(&want) && acts.is_empty());
 }
 
+/// K23, PE_SNK_Get_Source_Cap.
 #[test]
 fn k23_no_capabilities_come(rt: HostRuntime) {
     let late = Stimulus::Ended(Timer::SenderResponse);
@@ -90,6 +96,7 @@ fn k23_no_capabilities_come(rt: HostRuntime) {
     assert!(rt; is_back(sink, 328_000, &late));
 }
 
+/// K24, PE_SNK_Give_Sink_Cap and PE_SNK_Get_Source_Cap.
 #[test]
 fn k24_what_is_lost_resets_softly(rt: HostRuntime) {
     for state in [State::GiveSinkCap, State::GetSourceCap] {
@@ -102,6 +109,7 @@ fn k24_what_is_lost_resets_softly(rt: HostRuntime) {
     }
 }
 
+/// K32, all states but PE_SNK_Ready.
 /// In every state but Ready.
 #[test]
 fn k32_a_demand_is_fresh(rt: HostRuntime) {

@@ -2,6 +2,7 @@
 
 use super::*;
 
+/// K25, PE_SNK_Send_Soft_Reset.
 #[test]
 fn k25_a_soft_reset_is_waited_on(rt: HostRuntime) {
     let mut sink = at(State::SendSoftReset);
@@ -12,6 +13,7 @@ fn k25_a_soft_reset_is_waited_on(rt: HostRuntime) {
     assert!(rt; sink.same(&want) && acts.is_empty());
 }
 
+/// K26, PE_SNK_Send_Soft_Reset.
 /// An Accept before the Soft_Reset was acknowledged is of something else.
 #[test]
 fn k26_an_offer_is_waited_on(rt: HostRuntime) {
@@ -27,6 +29,7 @@ fn k26_an_offer_is_waited_on(rt: HostRuntime) {
     assert!(rt; acts.as_slice() == [Act::DropWaiting].as_slice());
 }
 
+/// K27, PE_SNK_Send_Soft_Reset.
 #[test]
 fn k27_no_answer_resets_hard(rt: HostRuntime) {
     for stimulus in [Stimulus::Ended(Timer::SenderResponse), Stimulus::Failed] {
@@ -40,6 +43,7 @@ fn k27_no_answer_resets_hard(rt: HostRuntime) {
     }
 }
 
+/// K28, PE_SNK_Soft_Reset.
 #[test]
 fn k28_a_soft_reset_is_accepted(rt: HostRuntime) {
     let mut sink = at(State::SoftReset);
@@ -51,6 +55,7 @@ fn k28_a_soft_reset_is_accepted(rt: HostRuntime) {
     assert!(rt; acts.as_slice() == [accept].as_slice());
 }
 
+/// K29, PE_SNK_Soft_Reset.
 #[test]
 fn k29_an_offer_is_waited_on(rt: HostRuntime) {
     let mut sink = at(State::SoftReset);
@@ -62,6 +67,7 @@ fn k29_an_offer_is_waited_on(rt: HostRuntime) {
     assert!(rt; acts.as_slice() == [Act::DropWaiting].as_slice());
 }
 
+/// K30, PE_SNK_Soft_Reset.
 /// The contract goes with it.
 #[test]
 fn k30_a_lost_accept_resets_hard(rt: HostRuntime) {
@@ -74,6 +80,7 @@ fn k30_a_lost_accept_resets_hard(rt: HostRuntime) {
     assert!(rt; acts.as_slice() == hard_reset_acts().as_slice());
 }
 
+/// K31, PE_SNK_Hard_Reset.
 /// No mark is cleared.
 #[test]
 fn k31_the_hard_reset_has_ended(rt: HostRuntime) {
@@ -87,6 +94,7 @@ fn k31_the_hard_reset_has_ended(rt: HostRuntime) {
     assert!(rt; acts.as_slice() == [Act::DropWaiting].as_slice());
 }
 
+/// K33, the states of rows K4 to K30, PE_SNK_Wait_for_Capabilities to PE_SNK_Soft_Reset.
 #[test]
 fn k33_a_soft_reset_comes(rt: HostRuntime) {
     for state in [
@@ -110,6 +118,7 @@ fn k33_a_soft_reset_comes(rt: HostRuntime) {
     }
 }
 
+/// K34, all states but Off and Disabled.
 /// It clears the contract and both marks, and leaves the counter.
 #[test]
 fn k34_a_hard_reset_comes(rt: HostRuntime) {

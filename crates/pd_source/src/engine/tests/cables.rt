@@ -2,6 +2,7 @@
 
 use super::*;
 
+/// S1, Off.
 #[test]
 fn s1_attach_starts_up(rt: HostRuntime) {
     let source = detached(0);
@@ -11,6 +12,7 @@ fn s1_attach_starts_up(rt: HostRuntime) {
     assert!(rt; gives(source, 7, &Stimulus::Attach, &want, &[Act::DropWaiting]));
 }
 
+/// S2, PE_SRC_Startup.
 #[test]
 fn s2_turn_on_makes_an_offer(rt: HostRuntime) {
     let source = at_startup(0);
@@ -23,6 +25,7 @@ fn s2_turn_on_makes_an_offer(rt: HostRuntime) {
     assert!(rt; at_send_capabilities().hold(500_000) == 57_400_000);
 }
 
+/// S3, PE_SRC_Startup.
 #[test]
 fn s3_asks_who_the_cable_is(rt: HostRuntime) {
     let source = at_startup(1);
@@ -38,6 +41,7 @@ fn s3_asks_who_the_cable_is(rt: HostRuntime) {
     assert!(rt; gives(source, 50_000, &turn_on, &want, &acts));
 }
 
+/// S4, PE_SRC_VDM_Identity_Request.
 #[test]
 fn s4_sent_waits_for_the_answer(rt: HostRuntime) {
     let source = at_vdm_identity_request(1);
@@ -47,6 +51,7 @@ fn s4_sent_waits_for_the_answer(rt: HostRuntime) {
     assert!(rt; gives(source, 51_000, &sent(), &want, &[]));
 }
 
+/// S5, PE_SRC_VDM_Identity_Request.
 #[test]
 fn s5_ack_tells_the_limit(rt: HostRuntime) {
     for (objects, limit) in [(ACK_OF_FIVE_AMPERES, 5_000), (ACK_OF_THREE_AMPERES, 3_000)] {
@@ -73,6 +78,7 @@ fn notes_unread() -> [Act; 3] {
     ]
 }
 
+/// S6, PE_SRC_VDM_Identity_Request.
 /// A NAK, an answer of no known type, and one without an object.
 #[test]
 fn s6_nak_leaves_the_cable_unread(rt: HostRuntime) {
@@ -97,6 +103,7 @@ fn silent() -> [Stimulus; 3] {
     ]
 }
 
+/// S7, PE_SRC_VDM_Identity_Request.
 #[test]
 fn s7_asks_again_later(rt: HostRuntime) {
     for stimulus in silent().iter() {
@@ -108,6 +115,7 @@ fn s7_asks_again_later(rt: HostRuntime) {
     }
 }
 
+/// S8, PE_SRC_VDM_Identity_Request.
 #[test]
 fn s8_a_silent_plug_leaves_the_cable_unread(rt: HostRuntime) {
     for stimulus in silent().iter() {
@@ -118,6 +126,7 @@ fn s8_a_silent_plug_leaves_the_cable_unread(rt: HostRuntime) {
     }
 }
 
+/// S9, PE_SRC_VDM_Identity_Request.
 #[test]
 fn s9_asks_again(rt: HostRuntime) {
     let source = after(at_vdm_identity_request(2), 51_000, &Stimulus::Failed);

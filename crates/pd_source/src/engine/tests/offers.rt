@@ -4,6 +4,7 @@ ghost use Rattle.std.specs.Prelude.{◌≤◌};
 
 use super::*;
 
+/// S10, PE_SRC_Send_Capabilities.
 #[test]
 fn s10_sent_settles_the_offer(rt: HostRuntime) {
     let source = at_send_capabilities();
@@ -47,11 +48,13 @@ pub(super) fn keeps(state: State, now: u64) -> bool
     true
 }
 
+/// S11, PE_SRC_Send_Capabilities.
 #[test]
 fn s11_keeps_a_request(rt: HostRuntime) {
     assert!(rt; keeps(State::SendCapabilities, 52_000));
 }
 
+/// S11, PE_SRC_Send_Capabilities.
 #[test]
 fn s11_needs_the_offer_sent(rt: HostRuntime) {
     let source = at_send_capabilities();
@@ -66,6 +69,7 @@ fn offering_again() -> Source {
     source
 }
 
+/// S12, PE_SRC_Send_Capabilities.
 #[test]
 fn s12_failed_resets_softly_under_a_contract(rt: HostRuntime) {
     let source = offering_again();
@@ -82,6 +86,7 @@ fn s12_failed_resets_softly_under_a_contract(rt: HostRuntime) {
     );
 }
 
+/// S13, PE_SRC_Send_Capabilities.
 #[test]
 fn s13_failed_waits_for_a_sink(rt: HostRuntime) {
     let source = at_send_capabilities();
@@ -99,6 +104,7 @@ fn s13_failed_waits_for_a_sink(rt: HostRuntime) {
     );
 }
 
+/// S14, PE_SRC_Send_Capabilities.
 #[test]
 fn s14_no_request_resets_hard(rt: HostRuntime) {
     let source = at_offered();
@@ -107,6 +113,7 @@ fn s14_no_request_resets_hard(rt: HostRuntime) {
     assert!(rt; gives(source, 78_000, &stimulus, &want, &sends_hard_reset()));
 }
 
+/// S15, PE_SRC_Discovery.
 #[test]
 fn s15_offers_again(rt: HostRuntime) {
     let source = at(State::Discovery);
@@ -117,6 +124,7 @@ fn s15_offers_again(rt: HostRuntime) {
     assert!(rt; answered_gives(source, 201_000, &stimulus, offer(), &want, &sends_offer()));
 }
 
+/// S16, PE_SRC_Discovery.
 #[test]
 fn s16_gives_up(rt: HostRuntime) {
     let source = counts::at_last_discovery();
@@ -128,6 +136,7 @@ fn s16_gives_up(rt: HostRuntime) {
     assert!(rt; gives(source, 9_000_000, &stimulus, &want, &acts));
 }
 
+/// S17, PE_SRC_Negotiate_Capability.
 /// Requests of position 0 and 3, of an operating and of a maximum current above the offered one, and a greedy one.
 #[test]
 fn s17_reject_an_invalid_request(rt: HostRuntime) {
@@ -152,6 +161,7 @@ fn s17_reject_an_invalid_request(rt: HostRuntime) {
     }
 }
 
+/// S18, PE_SRC_Negotiate_Capability.
 #[test]
 fn s18_accepts_a_request_that_fits(rt: HostRuntime) {
     let source = at_negotiate_capability(REQUEST);
@@ -171,6 +181,7 @@ fn s18_accepts_a_request_that_fits(rt: HostRuntime) {
     assert!(rt; answered_gives(source, 54_000, &stimulus, fits, &want, &acts));
 }
 
+/// S19, PE_SRC_Negotiate_Capability.
 #[test]
 fn s19_puts_off_a_request_that_does_not_fit(rt: HostRuntime) {
     let source = at_negotiate_capability(REQUEST);
@@ -192,6 +203,7 @@ fn responding_under_contract() -> Source {
     source
 }
 
+/// S20, PE_SRC_Capability_Response.
 #[test]
 fn s20_answered_under_a_contract(rt: HostRuntime) {
     let source = responding_under_contract();
@@ -201,6 +213,7 @@ fn s20_answered_under_a_contract(rt: HostRuntime) {
     assert!(rt; gives(source, 193_000, &sent(), &want, &[Act::DropWaiting]));
 }
 
+/// S21, PE_SRC_Capability_Response.
 #[test]
 fn s21_answered_without_a_contract(rt: HostRuntime) {
     let source = at_capability_response();
@@ -209,6 +222,7 @@ fn s21_answered_without_a_contract(rt: HostRuntime) {
     assert!(rt; gives(source, 55_000, &sent(), &want, &[Act::DropWaiting]));
 }
 
+/// S22, PE_SRC_Capability_Response.
 #[test]
 fn s22_unheard_answer_resets_softly(rt: HostRuntime) {
     for source in [at_capability_response(), responding_under_contract()].iter() {

@@ -2,6 +2,7 @@
 
 use super::*;
 
+/// S23, PE_SRC_Transition_Supply.
 #[test]
 fn s23_accepted_starts_the_transition(rt: HostRuntime) {
     let source = at_transition_supply();
@@ -11,6 +12,7 @@ fn s23_accepted_starts_the_transition(rt: HostRuntime) {
     assert!(rt; gives(source, 55_000, &Stimulus::Sent(Sent::Accept), &want, &[]));
 }
 
+/// S24, PE_SRC_Transition_Supply.
 #[test]
 fn s24_the_supply_settles(rt: HostRuntime) {
     let source = after(
@@ -33,6 +35,7 @@ fn settling(offering: Source) -> Source {
     after(source, 734_000, &ended(Timer::SrcTransition))
 }
 
+/// S25, PE_SRC_Transition_Supply.
 #[test]
 fn s25_tells_that_the_supply_is_ready(rt: HostRuntime) {
     let source = settling(at_send_capabilities());
@@ -42,6 +45,7 @@ fn s25_tells_that_the_supply_is_ready(rt: HostRuntime) {
     assert!(rt; gives(source, 834_000, &ended(Timer::Settling), &want, &acts));
 }
 
+/// S26, PE_SRC_Transition_Supply.
 /// After a hard reset, so that its count is seen to fall.
 #[test]
 fn s26_commits_the_contract(rt: HostRuntime) {
@@ -58,6 +62,7 @@ fn s26_commits_the_contract(rt: HostRuntime) {
     assert!(rt; gives(source, 835_000, &stimulus, &want, &[Act::DropWaiting]));
 }
 
+/// S23 and S26, PE_SRC_Transition_Supply.
 #[test]
 fn s23_and_s26_ask_what_was_sent(rt: HostRuntime) {
     let source = at_transition_supply();
@@ -66,6 +71,7 @@ fn s23_and_s26_ask_what_was_sent(rt: HostRuntime) {
     assert!(rt; gives(source, 55_000, &sent(), &want, &[]));
 }
 
+/// S27, PE_SRC_Transition_Supply.
 #[test]
 fn s27_failed_transition_resets_hard(rt: HostRuntime) {
     let source = at_transition_supply();
@@ -84,6 +90,7 @@ fn s27_failed_transition_resets_hard(rt: HostRuntime) {
 /// The states in which the offer is looked at again.
 const POLLING: [State; 2] = [State::Ready, State::WaitNewCapabilities];
 
+/// S28, PE_SRC_Ready and PE_SRC_Wait_New_Capabilities.
 #[test]
 fn s28_another_offer_is_made(rt: HostRuntime) {
     let stimulus = ended(Timer::OfferPoll);
@@ -102,6 +109,7 @@ fn s28_another_offer_is_made(rt: HostRuntime) {
     }
 }
 
+/// S29, PE_SRC_Ready and PE_SRC_Wait_New_Capabilities.
 #[test]
 fn s29_the_same_offer_is_looked_at_again(rt: HostRuntime) {
     let stimulus = ended(Timer::OfferPoll);
@@ -114,6 +122,7 @@ fn s29_the_same_offer_is_looked_at_again(rt: HostRuntime) {
     }
 }
 
+/// S30, PE_SRC_Ready and PE_SRC_Wait_New_Capabilities.
 #[test]
 fn s30_get_source_cap_starts_a_delay(rt: HostRuntime) {
     for state in POLLING {
@@ -125,6 +134,7 @@ fn s30_get_source_cap_starts_a_delay(rt: HostRuntime) {
     }
 }
 
+/// S31, PE_SRC_Ready and PE_SRC_Wait_New_Capabilities.
 #[test]
 fn s31_answers_get_source_cap(rt: HostRuntime) {
     let stimulus = ended(Timer::Delay);
@@ -136,11 +146,13 @@ fn s31_answers_get_source_cap(rt: HostRuntime) {
     }
 }
 
+/// S32, PE_SRC_Ready.
 #[test]
 fn s32_keeps_another_request(rt: HostRuntime) {
     assert!(rt; offers::keeps(State::Ready, 190_000));
 }
 
+/// S33, PE_SRC_Ready.
 #[test]
 fn s33_asks_for_the_sinks_capabilities(rt: HostRuntime) {
     let source = at_ready();
@@ -149,6 +161,7 @@ fn s33_asks_for_the_sinks_capabilities(rt: HostRuntime) {
     assert!(rt; gives(source, 190_000, &Stimulus::GetSink, &want, &acts));
 }
 
+/// S34, PE_SRC_Get_Sink_Cap.
 #[test]
 fn s34_waits_for_the_sinks_capabilities(rt: HostRuntime) {
     let source = at(State::GetSinkCap);
@@ -158,6 +171,7 @@ fn s34_waits_for_the_sinks_capabilities(rt: HostRuntime) {
     assert!(rt; gives(source, 191_000, &sent(), &want, &[]));
 }
 
+/// S35, PE_SRC_Get_Sink_Cap.
 #[test]
 fn s35_is_ready_again(rt: HostRuntime) {
     let stimuli = [Stimulus::SinkCapabilities, ended(Timer::SenderResponse)];
@@ -169,11 +183,13 @@ fn s35_is_ready_again(rt: HostRuntime) {
     }
 }
 
+/// S36, PE_SRC_Get_Sink_Cap.
 #[test]
 fn s36_keeps_a_request_in_place_of_capabilities(rt: HostRuntime) {
     assert!(rt; offers::keeps(State::GetSinkCap, 191_500));
 }
 
+/// S37, PE_SRC_Get_Sink_Cap.
 #[test]
 fn s37_unheard_question_resets_softly(rt: HostRuntime) {
     let source = at(State::GetSinkCap);

@@ -25,6 +25,7 @@ const OTHER_STATES: [State; 5] = [
     State::TransitionToDefault,
 ];
 
+/// S38, PE_SRC_Send_Soft_Reset.
 #[test]
 fn s38_waits_for_accept(rt: HostRuntime) {
     let source = at(State::SendSoftReset);
@@ -34,6 +35,7 @@ fn s38_waits_for_accept(rt: HostRuntime) {
     assert!(rt; gives(source, 192_000, &sent(), &want, &[]));
 }
 
+/// S39, PE_SRC_Send_Soft_Reset.
 #[test]
 fn s39_accept_makes_an_offer(rt: HostRuntime) {
     let source = after(at(State::SendSoftReset), 192_000, &sent());
@@ -51,6 +53,7 @@ fn s39_accept_makes_an_offer(rt: HostRuntime) {
     );
 }
 
+/// S39, PE_SRC_Send_Soft_Reset.
 #[test]
 fn s39_needs_the_reset_sent(rt: HostRuntime) {
     let source = at(State::SendSoftReset);
@@ -59,6 +62,7 @@ fn s39_needs_the_reset_sent(rt: HostRuntime) {
     assert!(rt; gives(source, 193_000, &Stimulus::Accept, &want, &[]));
 }
 
+/// S40, PE_SRC_Send_Soft_Reset.
 #[test]
 fn s40_no_accept_resets_hard(rt: HostRuntime) {
     let stimuli = [ended(Timer::SenderResponse), Stimulus::Failed];
@@ -69,6 +73,7 @@ fn s40_no_accept_resets_hard(rt: HostRuntime) {
     }
 }
 
+/// S41, PE_SRC_Soft_Reset.
 #[test]
 fn s41_accepts_a_soft_reset(rt: HostRuntime) {
     let source = at(State::SoftReset);
@@ -78,6 +83,7 @@ fn s41_accepts_a_soft_reset(rt: HostRuntime) {
     assert!(rt; gives(source, 192_000, &ended(Timer::Delay), &want, &acts));
 }
 
+/// S42, PE_SRC_Soft_Reset.
 #[test]
 fn s42_offers_after_a_soft_reset(rt: HostRuntime) {
     let source = after(at(State::SoftReset), 192_000, &ended(Timer::Delay));
@@ -86,6 +92,7 @@ fn s42_offers_after_a_soft_reset(rt: HostRuntime) {
     assert!(rt; answered_gives(source, 193_000, &sent(), offer(), &want, &sends_offer()));
 }
 
+/// S43, PE_SRC_Soft_Reset.
 #[test]
 fn s43_unheard_accept_resets_hard(rt: HostRuntime) {
     let source = after(at(State::SoftReset), 192_000, &ended(Timer::Delay));
@@ -101,6 +108,7 @@ fn s43_unheard_accept_resets_hard(rt: HostRuntime) {
     );
 }
 
+/// S44, PE_SRC_Hard_Reset.
 #[test]
 fn s44_the_hard_reset_has_ended(rt: HostRuntime) {
     let source = at_hard_reset();
@@ -110,6 +118,7 @@ fn s44_the_hard_reset_has_ended(rt: HostRuntime) {
     assert!(rt; gives(source, 78_280, &sent(), &want, &[]));
 }
 
+/// S45, PE_SRC_Hard_Reset and PE_SRC_Hard_Reset_Received.
 #[test]
 fn s45_switches_off(rt: HostRuntime) {
     let sources = [
@@ -132,6 +141,7 @@ fn s45_switches_off(rt: HostRuntime) {
     }
 }
 
+/// S46, PE_SRC_Transition_to_default.
 #[test]
 fn s46_starts_up_again(rt: HostRuntime) {
     let source = at(State::TransitionToDefault);
@@ -141,6 +151,7 @@ fn s46_starts_up_again(rt: HostRuntime) {
     assert!(rt; gives(source, 909_000, &stimulus, &want, &[Act::DropWaiting]));
 }
 
+/// S47, the states of rows S10 to S43, PE_SRC_Send_Capabilities to PE_SRC_Soft_Reset.
 #[test]
 fn s47_soft_reset_is_received(rt: HostRuntime) {
     for state in SOFT_RESET_STATES {
@@ -161,6 +172,7 @@ fn s47_soft_reset_is_received(rt: HostRuntime) {
     }
 }
 
+/// S47, the states of rows S10 to S43, PE_SRC_Send_Capabilities to PE_SRC_Soft_Reset.
 #[test]
 fn s47_elsewhere_a_soft_reset_is_nothing(rt: HostRuntime) {
     for state in OTHER_STATES {
@@ -186,6 +198,7 @@ fn received(state: State) -> bool {
         )
 }
 
+/// S48, all states but Off and PE_SRC_Disabled.
 #[test]
 fn s48_hard_reset_is_received(rt: HostRuntime) {
     for state in SOFT_RESET_STATES {
@@ -205,6 +218,7 @@ fn shed(state: State) -> bool {
         && gives(source, 200_000, &Stimulus::Shed, &want, &sends_hard_reset())
 }
 
+/// S49, all states but Off and PE_SRC_Disabled.
 #[test]
 fn s49_shed_resets_hard(rt: HostRuntime) {
     for state in SOFT_RESET_STATES {

@@ -1,0 +1,2 @@
+//! The words in which the policy engines' state tables are told, for contracts alone: see `specs/Table.antt`.
+#![tactic(auto)]
