@@ -13,7 +13,7 @@ use crate::rows::choose;
 use crate::{Act, State, Stimulus};
 use arrayvec::ArrayVec;
 use pd_identity::{Cable, CablePlug, answer};
-use pd_timers::{Deadlines, Timer};
+use pd_timers::{Deadlines, LAST_TIME, Timer};
 use std::marker::Model;
 
 /// The plug's policy engine.
@@ -65,7 +65,7 @@ impl Plug {
     /// One step at a time in microseconds: the first row that fits, and its acts.
     #[tactic(auto, unfolding(crate::specs::Step::stepped, crate::specs::Step::acts_of))]
     pub fn step(&mut self, now: u64, stimulus: &Stimulus) -> ArrayVec<Act, 8>
-        requires { now ≤ 120000000 }
+        requires { now ≤ LAST_TIME }
         ensures after { self.new ≡ stepped now stimulus.now self.old }
         ensures acts { result.items ≡ acts_of now stimulus.now self.old }
         ensures few { length result.items ≤ 6 }
@@ -117,7 +117,7 @@ impl Plug {
 
     /// Takes the acts of a row, in order.
     fn run(&mut self, deeds: &[Deed], now: u64) -> ArrayVec<Act, 8>
-        requires time { now ≤ 120000000 }
+        requires time { now ≤ LAST_TIME }
         requires few { length deeds.now ≤ 6 }
         ensures after { self.new ≡ all_after deeds.now now self.old }
         ensures acts { result.items ≡ all_wants deeds.now now self.old }
@@ -132,7 +132,7 @@ impl Plug {
 
     /// Takes one act of a row.
     fn take(&mut self, deed: Deed, now: u64, acts: &mut ArrayVec<Act, 8>)
-        requires time { now ≤ 120000000 }
+        requires time { now ≤ LAST_TIME }
         requires room { array_vec_len acts.old < 8 }
         ensures after { self.new ≡ after deed now self.old }
         ensures few { array_vec_len acts.new ≤ array_vec_len acts.old + 1 }

@@ -16,7 +16,8 @@ use crate::rule::{Asked, request};
 use crate::{Act, Note, Sending, State, Stimulus};
 use arrayvec::ArrayVec;
 use pd_setup::{Demand, SinkMode, SinkRevision, SinkSettings};
-use pd_timers::{Deadlines, Timer};
+use pd_symbols::copied;
+use pd_timers::{Deadlines, LAST_TIME, Timer};
 use std::marker::Model;
 
 /// How often Hard Reset is sent again: nHardResetCount.
@@ -70,16 +71,6 @@ macro_rules! all_of {
         )*
         true
     }};
-}
-
-/// A copy of a short list of objects.
-fn copied(objects: &[u32]) -> ArrayVec<u32, 7>
-    requires { length objects.now ≤ 7 }
-    ensures { result.items ≡ objects.now }
-{
-    let mut copy = ArrayVec::new();
-    copy.try_extend_from_slice(objects).unwrap();
-    copy
 }
 
 impl Sink {
@@ -137,7 +128,7 @@ impl Sink {
 
     /// One step at a time in microseconds: the first row that fits, and its acts.
     pub fn step(&mut self, now: u64, stimulus: &Stimulus) -> ArrayVec<Act, 8>
-        requires { now ≤ 120000000 }
+        requires { now ≤ LAST_TIME }
         ensures after { self.new ≡ stepped now stimulus.now self.old }
         ensures acts { result.items ≡ acts_of now stimulus.now self.old }
         ensures few { length result.items ≤ 6 }
@@ -149,7 +140,7 @@ impl Sink {
     /// Takes the first row that fits.
     #[tactic(auto, unfolding(crate::specs::Step::stepped, crate::specs::Step::acts_of))]
     fn take_row(&mut self, now: u64, stimulus: &Stimulus) -> ArrayVec<Act, 8>
-        requires { now ≤ 120000000 }
+        requires { now ≤ LAST_TIME }
         ensures after { self.new ≡ stepped now stimulus.now self.old }
         ensures acts { result.items ≡ acts_of now stimulus.now self.old }
         ensures few { length result.items ≤ 6 }
@@ -190,7 +181,7 @@ impl Sink {
 
     /// Takes the acts of a row, in order.
     fn run(&mut self, deeds: &[Deed], now: u64, stimulus: &Stimulus) -> ArrayVec<Act, 8>
-        requires time { now ≤ 120000000 }
+        requires time { now ≤ LAST_TIME }
         requires few { length deeds.now ≤ 6 }
         ensures after { self.new ≡ all_after deeds.now now stimulus.now self.old }
         ensures acts { result.items ≡ all_wants deeds.now now stimulus.now self.old }
@@ -205,7 +196,7 @@ impl Sink {
 
     /// Takes one act of a row.
     fn take(&mut self, deed: Deed, now: u64, stimulus: &Stimulus, acts: &mut ArrayVec<Act, 8>)
-        requires time { now ≤ 120000000 }
+        requires time { now ≤ LAST_TIME }
         requires room { array_vec_len acts.old < 8 }
         ensures after { self.new ≡ after deed now stimulus.now self.old }
         ensures few { array_vec_len acts.new ≤ array_vec_len acts.old + 1 }
@@ -219,7 +210,7 @@ impl Sink {
 
     /// What an act of a row does to the engine.
     fn change(&mut self, deed: Deed, now: u64, stimulus: &Stimulus)
-        requires { now ≤ 120000000 }
+        requires { now ≤ LAST_TIME }
         ensures { self.new ≡ after deed now stimulus.now self.old }
     {
         match deed {
@@ -245,7 +236,7 @@ impl Sink {
 
     /// Starts a timer, where it is to be started.
     fn start_where(&mut self, is_wanted: bool, now: u64, timer: Timer)
-        requires { now ≤ 120000000 }
+        requires { now ≤ LAST_TIME }
         ensures { self.new ≡ record self.old { deadlines = started_where is_wanted self.old.deadlines now timer } }
     {
         if is_wanted {

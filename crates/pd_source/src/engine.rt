@@ -10,13 +10,14 @@ ghost use Rattle.pd_source.specs.declared.kinds.Revision.TheVariants as spoken;
 ghost use Rattle.pd_source.specs.Step.{before_row, stepped, acts_of, hears_in, is_ready, revision_bits};
 
 use crate::kinds::{Deed, Message};
-use crate::offer::{capabilities, copied};
+use crate::offer::capabilities;
 use crate::request::{contract_of, revision_of};
 use crate::{Act, Revision, Sending, State, Stimulus};
 use arrayvec::ArrayVec;
 use pd_identity::limit_ma;
 use pd_objects::{Answer, Contract, Supply};
-use pd_timers::{Deadlines, Timer};
+use pd_symbols::copied;
+use pd_timers::{Deadlines, LAST_TIME, Timer};
 use std::marker::Model;
 
 mod asks;
@@ -151,7 +152,7 @@ impl Source {
         stimulus: &Stimulus,
         answer: Option<Answer>,
     ) -> ArrayVec<Act, 8>
-        requires { now ≤ 120000000 }
+        requires { now ≤ LAST_TIME }
         ensures after { self.new ≡ record self.old { «record» = stepped self.old.settings now stimulus.now answer self.old.record } }
         ensures acts { result.items ≡ acts_of self.old.settings now stimulus.now answer self.old.record }
         ensures few { length result.items ≤ 6 }
@@ -168,7 +169,7 @@ impl Source {
         stimulus: &Stimulus,
         answer: Option<Answer>,
     ) -> ArrayVec<Act, 8>
-        requires { now ≤ 120000000 }
+        requires { now ≤ LAST_TIME }
         ensures after { self.new ≡ record self.old { «record» = stepped self.old.settings now stimulus.now answer self.old.record } }
         ensures acts { result.items ≡ acts_of self.old.settings now stimulus.now answer self.old.record }
         ensures few { length result.items ≤ 6 }
@@ -197,7 +198,7 @@ impl Source {
         stimulus: &Stimulus,
         answer: &Option<Answer>,
     ) -> ArrayVec<Act, 8>
-        requires time { now ≤ 120000000 }
+        requires time { now ≤ LAST_TIME }
         requires few { length deeds.now ≤ 6 }
         ensures after { self.new ≡ record self.old { «record» = all_after self.old.settings deeds.now now stimulus.now answer.now self.old.record } }
         ensures acts { result.items ≡ all_wants self.old.settings deeds.now now stimulus.now answer.now self.old.record }
@@ -219,7 +220,7 @@ impl Source {
         answer: &Option<Answer>,
         acts: &mut ArrayVec<Act, 8>,
     )
-        requires time { now ≤ 120000000 }
+        requires time { now ≤ LAST_TIME }
         requires room { array_vec_len acts.old < 8 }
         ensures after { self.new ≡ record self.old { «record» = after self.old.settings deed now stimulus.now answer.now self.old.record } }
         ensures few { array_vec_len acts.new ≤ array_vec_len acts.old + 1 }
@@ -249,7 +250,7 @@ impl Source {
 
     /// What an act of a row does to the engine.
     fn change(&mut self, deed: Deed, now: u64, stimulus: &Stimulus, answer: &Option<Answer>)
-        requires { now ≤ 120000000 }
+        requires { now ≤ LAST_TIME }
         ensures { self.new ≡ record self.old { «record» = after self.old.settings deed now stimulus.now answer.now self.old.record } }
     {
         match deed {

@@ -1,6 +1,6 @@
 //! The currents and objects of an offer.
 
-ghost use Rattle.std.specs.Prelude.{◌≡◌, ◌≤◌, ◌↔◌, IsTrue, length, fold, max};
+ghost use Rattle.std.specs.Prelude.{◌≡◌, ◌≤◌, length, fold, max};
 ghost use Rattle.pd_source.specs.Acts as acts;
 ghost use Rattle.pd_source.specs.Step.{powers};
 
@@ -10,16 +10,6 @@ use pd_objects::{FixedSupply, Supply, SupplyFlags};
 
 /// The greatest current that an object states, in 10 mA.
 const GREATEST_CURRENT: u32 = 1_023;
-
-/// A copy of a short list.
-pub(crate) fn copied<T: Copy + Default>(items: &[T]) -> ArrayVec<T, 7>
-    requires { length items.now ≤ 7 }
-    ensures { result.items ≡ items.now }
-{
-    let mut copy = ArrayVec::new();
-    copy.try_extend_from_slice(items).unwrap();
-    copy
-}
 
 /// The objects of Source_Capabilities for these supplies at these currents in mA.
 pub(crate) fn capabilities(
@@ -66,16 +56,4 @@ pub(crate) fn greatest_power(least: u64, supplies: &[Supply], currents: &[u32]) 
         greatest = greatest.max(u64::from(supply.mv()) * u64::from(*ma));
     }
     greatest
-}
-
-pub(crate) fn same_supplies(supplies: &[Supply], others: &[Supply]) -> bool
-    ensures { IsTrue result ↔ (supplies.now ≡ others.now) }
-{
-    match (supplies, others) {
-        ([], []) => true,
-        ([supply, supplies @ ..], [other, others @ ..]) => {
-            supply.same(other) && same_supplies(supplies, others)
-        }
-        _ => false,
-    }
 }

@@ -8,11 +8,11 @@ ghost use Rattle.pd_source.specs.Step as step;
 
 use super::{CABLE_CURRENT_MA, Source, limit_from};
 use crate::kinds::{Deed, Facts, Heard};
-use crate::offer::copied;
 use crate::request::is_valid;
 use crate::rows::{choose, heard_of};
 use crate::{State, Stimulus};
 use pd_objects::{Answer, Query};
+use pd_symbols::copied;
 use pd_timers::Timer;
 
 /// nCapsCount: how often Source_Capabilities is sent again.

@@ -3,8 +3,8 @@
 ghost use Rattle.std.specs.Prelude.{◌≡◌, ◌↔◌, IsTrue};
 
 use super::Source;
-use crate::offer::{copied, same_supplies};
-use pd_objects::Contract;
+use pd_objects::{Contract, same_supplies};
+use pd_symbols::copied;
 
 /// Whether all tests hold, with a return at the first that doesn't.
 macro_rules! all_of {

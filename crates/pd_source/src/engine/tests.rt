@@ -138,7 +138,7 @@ fn at_hard_reset() -> Source {
 
 /// A source after one more stimulus, without an answer.
 fn after(source: Source, now: u64, stimulus: &Stimulus) -> Source
-    requires { now ≤ 120000000 }
+    requires { now ≤ LAST_TIME }
 {
     let mut next = source;
     let _ = next.step(now, stimulus, None);
@@ -246,7 +246,7 @@ fn sends_hard_reset() -> [Act; 3] {
 
 /// Whether a step with no answer leaves what is wanted, and wants these acts.
 fn gives(source: Source, now: u64, stimulus: &Stimulus, want: &Source, acts: &[Act]) -> bool
-    requires { now ≤ 120000000 }
+    requires { now ≤ LAST_TIME }
 {
     let mut next = source;
     let wanted = next.step(now, stimulus, None);
@@ -262,7 +262,7 @@ fn answered_gives(
     want: &Source,
     acts: &[Act],
 ) -> bool
-    requires { now ≤ 120000000 }
+    requires { now ≤ LAST_TIME }
 {
     let mut next = source;
     let wanted = next.step(now, stimulus, answer);

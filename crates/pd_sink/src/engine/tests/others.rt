@@ -44,7 +44,7 @@ fn k20_capabilities_are_sent(rt: HostRuntime) {
 
 /// Whether a step leads back to Ready; what is to be asked again, or is fresh, is timed anew.
 fn is_back(mut sink: Sink, now: u64, stimulus: &Stimulus) -> bool
-    requires { now ≤ 120000000 }
+    requires { now ≤ LAST_TIME }
 {
     let mut want = sink.copy();
     let acts = sink.step(now, stimulus);

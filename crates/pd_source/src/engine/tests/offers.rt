@@ -18,7 +18,7 @@ fn s10_sent_settles_the_offer(rt: HostRuntime) {
 
 /// What keeping a request leaves, with a revision.
 fn keeping(source: &Source, now: u64, revision: Revision) -> Source
-    requires { now ≤ 120000000 }
+    requires { now ≤ LAST_TIME }
 {
     let mut want = entered(source, State::NegotiateCapability);
     want.kept_request = Some(REQUEST);
@@ -29,7 +29,7 @@ fn keeping(source: &Source, now: u64, revision: Revision) -> Source
 
 /// Whether a state keeps a request, of each revision.
 pub(super) fn keeps(state: State, now: u64) -> bool
-    requires { now ≤ 120000000 }
+    requires { now ≤ LAST_TIME }
 {
     for (bits, revision) in [(1, Revision::Revision2), (2, Revision::Revision3)] {
         let source = at(state);

@@ -1,5 +1,0 @@
-use Rattle.std.proofs.Common.{length}
-use Rattle.pd_source.proofs.offer.+same_supplies.Given as goal
-
-abbrev pub decreases-same_supplies : goal.decreases-same_supplies
-decreases-same_supplies l = length l.supplies.now
