@@ -14,9 +14,9 @@ below_more (suc k) zero h = absurd (omega arith)
 below_more (suc k) (suc n) h = elim (below_more k n (omega arith)) [ inl a ↦ inl (omega arith) | inr e ↦ inr (ap suc e) ]
 
 -- one port's due is one
-same_due : (plan : Plan) (live : LiveData) (p q : ℕ) (d f : Due) → p ≡ q → due_at plan live q ≡ Some d → due_at plan live p ≡ Some f → d ≡ f
-same_due plan live p q d f e g h =
-    let i : due_at plan live p ≡ due_at plan live q = ap (due_at plan live) e in
+same_due : (live : LiveData) (p q : ℕ) (d f : Due) → p ≡ q → due_at live q ≡ Some d → due_at live p ≡ Some f → d ≡ f
+same_due live p q d f e g h =
+    let i : due_at live p ≡ due_at live q = ap (due_at live) e in
     let j : Some d ≡ Some f = sym g ∙ sym i ∙ h in
     cc
 
@@ -24,8 +24,8 @@ same_due plan live p q d f e g h =
 abbrev pub IsSooner : ℕ → Option (ℕ × Due) → Type 0
 IsSooner t first = MatchOption first ⊤ (λ r. t < r.1.time)
 
-earliest_yet : (plan : Plan) (live : LiveData) (n : ℕ) (d : Due) → due_at plan live n ≡ Some d → d.time ≤ plan.end →
-    ((q : ℕ) (f : Due) → q < n → due_at plan live q ≡ Some f → d.time < f.time) → IsFirstOf plan live (n + 1) n d
+earliest_yet : (plan : Plan) (live : LiveData) (n : ℕ) (d : Due) → due_at live n ≡ Some d → d.time ≤ plan.end →
+    ((q : ℕ) (f : Due) → q < n → due_at live q ≡ Some f → d.time < f.time) → IsFirstOf plan live (n + 1) n d
 earliest_yet plan live n d e h all =
     record {
       known = omega arith;
@@ -33,14 +33,14 @@ earliest_yet plan live n d e h all =
       soon = h;
       least = λ q f below g. elim (below_more q n below) [
         | inl k ↦ let l = all q f k g in record { by_time = omega arith; by_port = λ x. absurd (omega arith) }
-        | inr k ↦ let s : d.time ≡ f.time = ap (λ (x : Due). x.time) (same_due plan live q n d f k e g) in
+        | inr k ↦ let s : d.time ≡ f.time = ap (λ (x : Due). x.time) (same_due live q n d f k e g) in
             record { by_time = omega arith; by_port = λ x. omega arith }
       ];
     }
 
 -- a due that is sooner is the first now
 pub takes : (plan : Plan) (live : LiveData) (n : ℕ) (d : Due) (first : Option (ℕ × Due)) → IsSoFar plan live n first →
-    due_at plan live n ≡ Some d → d.time ≤ plan.end → IsSooner d.time first → IsSoFar plan live (n + 1) (Some (n, d))
+    due_at live n ≡ Some d → d.time ≤ plan.end → IsSooner d.time first → IsSoFar plan live (n + 1) (Some (n, d))
 takes plan live n d None h e l s = earliest_yet plan live n d e l (λ q f below g. let k = h.late q f below g in omega arith)
 takes plan live n d (Some r) h e l s = earliest_yet plan live n d e l (λ q f below g. let k = (h.least q f below g).by_time in omega arith)
 
@@ -51,12 +51,12 @@ Passes plan f (Some r) = r.1.time ≤ f.time
 
 -- where the port's due is no sooner, what was the first stays so
 pub keeps : (plan : Plan) (live : LiveData) (n : ℕ) (first : Option (ℕ × Due)) → IsSoFar plan live n first →
-    ((f : Due) → due_at plan live n ≡ Some f → Passes plan f first) → IsSoFar plan live (n + 1) first
+    ((f : Due) → due_at live n ≡ Some f → Passes plan f first) → IsSoFar plan live (n + 1) first
 keeps plan live n None h p =
     record {
       late = λ q f below g. elim (below_more q n below) [
         | inl k ↦ h.late q f k g
-        | inr k ↦ p f (ap (due_at plan live) (sym k) ∙ g)
+        | inr k ↦ p f (ap (due_at live) (sym k) ∙ g)
       ];
     }
 keeps plan live n (Some r) h p =
@@ -67,7 +67,7 @@ keeps plan live n (Some r) h p =
       soon = h.soon;
       least = λ q f below g. elim (below_more q n below) [
         | inl k ↦ h.least q f k g
-        | inr k ↦ let l : r.1.time ≤ f.time = p f (ap (due_at plan live) (sym k) ∙ g) in
+        | inr k ↦ let l : r.1.time ≤ f.time = p f (ap (due_at live) (sym k) ∙ g) in
             record { by_time = l; by_port = λ x. omega arith }
       ];
     }
@@ -89,15 +89,15 @@ passes_no_sooner plan d (Some r) b h n =
     ]
 
 -- one due of a port passes, and so each that the port has
-pub passes_each : (plan : Plan) (live : LiveData) (n : ℕ) (first : Option (ℕ × Due)) (d : Due) → due_at plan live n ≡ Some d
+pub passes_each : (plan : Plan) (live : LiveData) (n : ℕ) (first : Option (ℕ × Due)) (d : Due) → due_at live n ≡ Some d
     → Passes plan d first →
-    (f : Due) → due_at plan live n ≡ Some f → Passes plan f first
+    (f : Due) → due_at live n ≡ Some f → Passes plan f first
 passes_each plan live n first d e p f g =
-    subst (λ (x : Due). Passes plan x first) (same_due plan live n n d f refl e g) p
+    subst (λ (x : Due). Passes plan x first) (same_due live n n d f refl e g) p
 
 -- where nothing falls due, all that does passes
-pub passes_none : (plan : Plan) (live : LiveData) (n : ℕ) (first : Option (ℕ × Due)) → due_at plan live n ≡ None →
-    (f : Due) → due_at plan live n ≡ Some f → Passes plan f first
+pub passes_none : (plan : Plan) (live : LiveData) (n : ℕ) (first : Option (ℕ × Due)) → due_at live n ≡ None →
+    (f : Due) → due_at live n ≡ Some f → Passes plan f first
 passes_none plan live n first e f g = absurd (let x : None ≡ Some f = sym e ∙ g in cc)
 
 pub none_so_far : (plan : Plan) (live : LiveData) → IsSoFar plan live 0 None

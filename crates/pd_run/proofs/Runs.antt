@@ -14,7 +14,6 @@ use Rattle.pd_run.specs.Order.{IsNoLater}
 use Rattle.pd_run.specs.Run.{Move, Run, Standing, standing, moved, taken_after, due_after, due_from, GoesOn, IsInOrder, IsAnswered}
 use Rattle.pd_run.specs.Live.{LiveData, RunsTo, StandsAfter, IsFirst, IsOver, next_move}
 use Rattle.pd_run.proofs.Moves.{standing-same, due_after-other, EachAfter-push, none_later-raise, none_later-push}
-use Rattle.pd_run.proofs.Steps.{due_known}
 
 pub runs_start : (plan : Plan) → RunsTo plan []
 runs_start plan = record { chained = tt; ordered = tt; answered = tt; timely = tt; ahead = λ p d k e. tt }
@@ -62,7 +61,7 @@ pub runs_step : (n : ℕ) (plan : Plan) (past : List Move) (live : LiveData) (p 
 runs_step n plan past live p d is s first =
     let runs : RunsTo plan past = s.runs in
     let m : Move = next_move plan past p d in
-    let now : due_after plan past p ≡ Some d = sym (due_known plan past live p s first.known) ∙ first.is_due in
+    let now : due_after plan past p ≡ Some d = sym (s.dues_are p first.known) ∙ first.is_due in
     record {
       chained = EachAfter-push (GoesOn plan) [] past m runs.chained
           (record { known = first.known; before_is = refl; due_is = now; entry_is = refl });
@@ -78,7 +77,7 @@ runs_step n plan past live p d is s first =
           none_later-push f.time q past m (none_later-raise d.time p f.time q past le (runs.ahead p d first.known now)) le)
           (λ (other : q ≢ p).
           let before : due_after plan past q ≡ Some f = sym (due_after-other plan past m q (λ x. other (sym x))) ∙ e in
-          none_later-push f.time q past m (runs.ahead q f k before) (first.least q f k (due_known plan past live q s k ∙ before)))
+          none_later-push f.time q past m (runs.ahead q f k before) (first.least q f k (s.dues_are q k ∙ before)))
           (cases_eq q p);
     }
 
@@ -90,5 +89,5 @@ runs_end plan moves live s over = record {
   ordered = s.runs.ordered;
   answered = s.runs.answered;
   timely = s.runs.timely;
-  complete = λ p k d e. over.late p d k (due_known plan moves live p s k ∙ e);
+  complete = λ p k d e. over.late p d k (s.dues_are p k ∙ e);
 }

@@ -1,5 +1,6 @@
 -- What the ports, the events that they have had and the budget are after one more move.
-use Rattle.std.proofs.Common.{◌≡◌, ◌≢◌, ℕ, ◌+◌, ◌<◌, ◌≤◌, ⊎_elim, List, [], ◌∷◌, ◌++◌, length, map, max, Option, Some, option_map}
+use Rattle.std.proofs.Common.{◌≡◌, ◌≢◌, ℕ, ◌+◌, ◌<◌, ◌≤◌, ⊎_elim, List, [], ◌∷◌, ◌++◌, length, map, max, Option, Some, None}
+use Rattle.std.proofs.Common.{option_map, ◌-◌}
 use Rattle.std.proofs.Common.{true, refl, ap, sym, ◌∙◌, subst, arith, get_or, slice_index, slice_index_or, slice_set, slice_get}
 use Rattle.std.proofs.Common.{set, replicate}
 use Rattle.std.specs.List.{range_with_len}
@@ -16,7 +17,7 @@ use Rattle.pd_port.specs.declared.due.Due.{Due}
 use Rattle.pd_port.specs.declared.due.What.{What}
 use Rattle.pd_port.specs.declared.due.What.TheVariants as what
 use Rattle.pd_port.specs.Port.{PortData, is_event, detached, due, ask, entry_of, hold, record_after}
-use Rattle.pd_port.proofs.PortLaws.{due_event, hold_fits, hold_detached}
+use Rattle.pd_port.proofs.PortLaws.{due_event, hold_fits, hold_detached, hold_floor}
 use Rattle.pd_ledger.specs.Account.{Account, free_of}
 use Rattle.pd_ledger.specs.Offer.{answer_of}
 use Rattle.pd_ledger.proofs.Offers.{answer-allowed}
@@ -24,8 +25,8 @@ use Rattle.pd_scenario.specs.Plan.{Plan, IsPlan, count, settings_of, script_of, 
 use Rattle.pd_run.specs.Run.{Move, Standing, standing, moved, after, taken_after, due_after, account_after, holds_after, reply_after}
 use Rattle.pd_run.specs.Start.{start_of, no_port}
 use Rattle.pd_run.specs.Live.{LiveData, RunsTo, StandsAfter, IsFirst, IsNext, at_budget, due_at, next_move, port_at, port_after}
-use Rattle.pd_run.specs.Live.{reply_at, moved_port}
-use Rattle.pd_run.proofs.Moves.{standing-same, standing-other}
+use Rattle.pd_run.specs.Live.{reply_at, moved_port, asked_due, HasMoved}
+use Rattle.pd_run.proofs.Moves.{standing-same, standing-other, due_after-other}
 
 -- a table with one entry changed
 pub table-set : {X : Type 0} (f g : ℕ → X) (n p : ℕ) (y : X) → p < n → ((k : ℕ) → k ≢ p → g k ≡ f k) → g p ≡ y
@@ -45,13 +46,6 @@ table-set {X} f g n p y lt others here =
     (λ (other : k ≢ p). get_or-set_other xs p k y d other ∙ get_or-map-range_with_len f 0 n k k d kn (omega arith)
     ∙ sym (others k other) ∙ sym at_g)
     (cases_eq k p))
-
--- what is due by the ports is what is due after the moves
-pub due_known : (plan : Plan) (past : List Move) (live : LiveData) (p : ℕ) → StandsAfter plan past live → p < count plan
-    → due_at plan live p ≡ due_after plan past p
-due_known plan past live p s lt =
-    ap (λ (x : PortData). due x.port_record (slice_get (script_of plan p) (slice_index live.taken p))) (s.ports_are p lt)
-    ∙ ap (λ t. due (standing plan past p).state (slice_get (script_of plan p) t)) (s.taken_are p lt)
 
 -- the budget's hold is the port's
 pub hold_known : (plan : Plan) (past : List Move) (p : ℕ) → p < count plan
@@ -90,6 +84,8 @@ StandsAfter-budget plan past live budget s = record {
   taken_count = s.taken_count;
   ports_are = s.ports_are;
   taken_are = s.taken_are;
+  dues_count = s.dues_count;
+  dues_are = s.dues_are;
   floors_are = s.floors_are;
   holds_are = s.holds_are;
 }
@@ -103,25 +99,33 @@ IsNext-budget plan live port d budget h = record {
 }
 
 -- all of it after one more move
-pub StandsAfter-step : (plan : Plan) (past : List Move) (live : LiveData) (p : ℕ) (d : Due) (port : PortData) (more : List ℕ) (h : ℕ)
-    → StandsAfter plan past live → RunsTo plan (past ++ next_move plan past p d ∷ []) → p < count plan
+pub StandsAfter-step : (plan : Plan) (past : List Move) (live : LiveData) (p : ℕ) (d : Due) (port : PortData) (more : List ℕ)
+    (next : Option Due) (h : ℕ) → StandsAfter plan past live → RunsTo plan (past ++ next_move plan past p d ∷ []) → p < count plan
     → port ≡ port_after plan (past ++ next_move plan past p d ∷ []) p → length more ≡ length live.taken
-    → slice_index more p ≡ taken_after (slice_index live.taken p) d → ((k : ℕ) → k ≢ p → slice_index more k ≡ slice_index live.taken k)
+    → slice_index more p ≡ taken_after (slice_index live.taken p) d
+    → ((k : ℕ) → k ≢ p → slice_index more k ≡ slice_index live.taken k)
+    → next ≡ due port.port_record (slice_get (script_of plan p) (taken_after (slice_index live.taken p) d))
     → h ≡ hold (settings_of plan p) (after plan (next_move plan past p d))
-    → StandsAfter plan (past ++ next_move plan past p d ∷ [])
-    (record {
+    → StandsAfter plan (past ++ next_move plan past p d ∷ []) (record {
       ports = slice_set live.ports p port;
       taken = more;
-      account =
-          record live.account { holds = slice_set live.account.holds p h };
+      dues = slice_set live.dues p next;
+      account = record live.account { holds = slice_set live.account.holds p h };
     })
-StandsAfter-step plan past live p d port more h s runs lt port_is counted at_p at_others h_is =
+StandsAfter-step plan past live p d port more next h s runs lt port_is counted at_p at_others next_is h_is =
     let m : Move = next_move plan past p d in
     let ports : List PortData = live.ports in
+    let dues : List (Option Due) = live.dues in
     let here : standing plan (past ++ m ∷ []) p ≡ moved plan (standing plan past p) m = standing-same plan past m p refl in
     let others : (k : ℕ) → k ≢ p → standing plan (past ++ m ∷ []) k ≡ standing plan past k =
     λ k ne. standing-other plan past m k (λ e. ne (sym e)) in
     let inside : p < length ports = omega (arith, s.ports_count) in
+    let inside_dues : p < length dues = omega (arith, s.dues_count) in
+    let used : taken_after (slice_index live.taken p) d ≡ (standing plan (past ++ m ∷ []) p).taken =
+    ap (λ t. taken_after t d) (s.taken_are p lt) ∙ ap (λ (x : Standing). x.taken) (sym here) in
+    let due_is : next ≡ due_after plan (past ++ m ∷ []) p =
+    next_is ∙ ap (λ (x : PortData). due x.port_record (slice_get (script_of plan p) (taken_after (slice_index live.taken p) d))) port_is
+    ∙ ap (λ t. due (standing plan (past ++ m ∷ []) p).state (slice_get (script_of plan p) t)) used in
     let holds : slice_set (holds_after plan past) p h ≡ holds_after plan (past ++ m ∷ []) =
     table-set _ _ (count plan) p h lt (λ k ne. ap (λ (x : Standing). hold (settings_of plan k) x.state) (others k ne))
     (ap (λ (x : Standing). hold (settings_of plan p) x.state) here ∙ sym h_is) in
@@ -131,16 +135,23 @@ StandsAfter-step plan past live p d port more h s runs lt port_is counted at_p a
       taken_count = counted ∙ s.taken_count;
       ports_are = λ k kn.
           ⊎_elim
-          (λ (same : k ≡ p). ap (λ i. get_or (set ports p port) i no_port) same ∙ get_or-set_same ports p port no_port inside ∙ port_is
-          ∙ ap (λ i. port_after plan (past ++ m ∷ []) i) (sym same))
+          (λ (same : k ≡ p). ap (λ i. get_or (set ports p port) i no_port) same ∙ get_or-set_same ports p port no_port inside
+          ∙ port_is ∙ ap (λ i. port_after plan (past ++ m ∷ []) i) (sym same))
           (λ (other : k ≢ p). get_or-set_other ports p k port no_port other ∙ s.ports_are k kn
           ∙ ap (λ (x : Standing). record { settings = settings_of plan k; port_record = x.state }) (sym (others k other)))
           (cases_eq k p);
       taken_are = λ k kn.
           ⊎_elim
-          (λ (same : k ≡ p). ap (slice_index more) same ∙ at_p ∙ ap (λ t. taken_after t d) (s.taken_are p lt)
-          ∙ ap (λ (x : Standing). x.taken) (sym here) ∙ ap (λ i. (standing plan (past ++ m ∷ []) i).taken) (sym same))
+          (λ (same : k ≡ p). ap (slice_index more) same ∙ at_p ∙ used ∙ ap (λ i. (standing plan (past ++ m ∷ []) i).taken) (sym same))
           (λ (other : k ≢ p). at_others k other ∙ s.taken_are k kn ∙ ap (λ (x : Standing). x.taken) (sym (others k other)))
+          (cases_eq k p);
+      dues_count = length-set dues p next ∙ s.dues_count;
+      dues_are = λ k kn.
+          ⊎_elim
+          (λ (same : k ≡ p). ap (λ i. get_or (set dues p next) i None) same ∙ get_or-set_same dues p next None inside_dues
+          ∙ due_is ∙ ap (due_after plan (past ++ m ∷ [])) (sym same))
+          (λ (other : k ≢ p). get_or-set_other dues p k next None other ∙ s.dues_are k kn
+          ∙ sym (due_after-other plan past m k (λ e. other (sym e))))
           (cases_eq k p);
       floors_are = s.floors_are;
       holds_are = ap (λ hs. slice_set hs p h) s.holds_are ∙ holds;
@@ -158,28 +169,28 @@ some_event what.Line h = cc
 some_event (what.Timer side timer) h = cc
 
 -- a script isn't used up where an event falls due
-pub taken_few : (n : ℕ) (plan : Plan) (live : LiveData) (p : ℕ) (d : Due) → IsPlan n plan → p < n → due_at plan live p ≡ Some d
-    → is_event d.what ≡ true → slice_index live.taken p < 4096
-taken_few n plan live p d is lt du ev =
+pub taken_few : (n : ℕ) (plan : Plan) (past : List Move) (live : LiveData) (p : ℕ) (d : Due) → IsPlan n plan
+    → StandsAfter plan past live → p < count plan → due_at live p ≡ Some d → is_event d.what ≡ true → slice_index live.taken p < 4096
+taken_few n plan past live p d is s lt du ev =
     let e = some_event d.what ev in
-    let next = due_event _ _ d e.0 du e.1 in
-    let inside = slice_get_within (script_of plan p) (slice_index live.taken p) e.0 next.0 in
-    omega (arith, is.brief p lt)
-
--- a number that is read from the list
-pub taken_read : (taken : List ℕ) (p t : ℕ) → p < length taken → t ≡ slice_index_or taken p t → slice_index taken p ≡ t
-taken_read taken p t lt e = get_or_default taken p 0 t lt ∙ sym e
+    let next = due_event _ _ d e.0 (sym (s.dues_are p lt) ∙ du) e.1 in
+    let inside = slice_get_within (script_of plan p) (standing plan past p).taken e.0 next.0 in
+    omega (arith, is.brief p (omega (arith, is.settings_count)), s.taken_are p lt)
 
 -- at the start
-pub StandsAfter-start : (n : ℕ) (plan : Plan) (ports : List PortData) (taken : List ℕ) → RunsTo plan [] → IsPlan n plan
-    → ports ≡ map start_of plan.settings → taken ≡ replicate n 0
+pub StandsAfter-start : (n : ℕ) (plan : Plan) (ports : List PortData) (taken : List ℕ) (dues : List (Option Due))
+    → RunsTo plan [] → IsPlan n plan
+    → ports ≡ map start_of plan.settings → taken ≡ replicate n 0 → length dues ≡ n
+    → ((p : ℕ) → p < n → slice_index_or dues p None ≡ due (slice_index_or ports p no_port).port_record (slice_get (script_of plan p) 0))
     → StandsAfter plan [] (record {
       ports = ports;
       taken = taken;
-      account =
-          record { budget = plan.budget; floors = floors_of plan; holds = floors_of plan };
+      dues = dues;
+      account = record { budget = plan.budget; floors = floors_of plan; holds = floors_of plan };
     })
-StandsAfter-start n plan ports taken runs is ports_is taken_is =
+StandsAfter-start n plan ports taken dues runs is ports_is taken_is dues_count dues_are =
+    let start : (p : ℕ) → p < count plan → slice_index_or ports p no_port ≡ port_after plan [] p =
+    λ p k. ap (λ (l : List PortData). get_or l p no_port) ports_is ∙ list_map.get_or-map start_of plan.settings p no_settings in
     let holds : floors_of plan ≡ holds_after plan [] =
     same_lists (floors_of plan) (holds_after plan []) (length-map plan.settings floor_of ∙ sym (length-holds_after plan []))
     (λ k d h.
@@ -192,8 +203,11 @@ StandsAfter-start n plan ports taken runs is ports_is taken_is =
       runs = runs;
       ports_count = ap length ports_is ∙ length-map plan.settings start_of;
       taken_count = ap length taken_is ∙ length-replicate n 0 ∙ sym is.settings_count;
-      ports_are = λ p k. ap (λ (l : List PortData). get_or l p no_port) ports_is ∙ list_map.get_or-map start_of plan.settings p no_settings;
+      ports_are = start;
       taken_are = λ p k. ap (λ (l : List ℕ). slice_index l p) taken_is ∙ get_or-replicate n p 0 0 (omega (arith, is.settings_count));
+      dues_count = dues_count ∙ sym is.settings_count;
+      dues_are = λ p k. dues_are p (omega (arith, is.settings_count))
+          ∙ ap (λ (x : PortData). due x.port_record (slice_get (script_of plan p) 0)) (start p k);
       floors_are = refl;
       holds_are = holds;
     }
@@ -240,3 +254,71 @@ pub entry_known : (plan : Plan) (past : List Move) (live : LiveData) (p : ℕ) (
 entry_known plan past live p d x a s budget_is lt x_is a_is =
     ap (λ (z : PortData). entry_of z.settings z.port_record d a) (x_is ∙ s.ports_are p lt)
     ∙ ap (entry_of (settings_of plan p) (standing plan past p).state d) (a_is ∙ reply_known plan past live p d s budget_is lt)
+
+-- the moved port, as it stands
+pub moved_at : (plan : Plan) (past : List Move) (before : LiveData) (port : ℕ) (d : Due) (live : LiveData)
+    → HasMoved plan past before port d live
+    → port_at live (port - 1) ≡ port_after plan (past ++ next_move plan past (port - 1) d ∷ []) (port - 1)
+moved_at plan past before port d live h =
+    let p = port - 1 in
+    let known : p < count plan = h.next.first.known in
+    let inside : p < length before.ports = omega (arith, h.stood.ports_count) in
+    ap (λ (l : LiveData). port_at l p) h.moved
+    ∙ get_or-set_same before.ports p (moved_port before p d) no_port inside
+    ∙ moved_known plan past before p d h.stood h.budget known
+
+-- all of it once what follows from a port's move is renewed
+pub StandsAfter-renewed : (n : ℕ) (plan : Plan) (past : List Move) (before : LiveData) (port : ℕ) (d : Due) (live : LiveData)
+    (taken : ℕ) (next : Option Due) (h : ℕ) → IsPlan n plan → HasMoved plan past before port d live
+    → RunsTo plan (past ++ next_move plan past (port - 1) d ∷ [])
+    → taken ≡ taken_after (slice_index live.taken (port - 1)) d → next ≡ asked_due plan live (port - 1) taken
+    → h ≡ hold (port_at live (port - 1)).settings (port_at live (port - 1)).port_record
+    → StandsAfter plan (past ++ next_move plan past (port - 1) d ∷ []) (record {
+      ports = live.ports;
+      taken = slice_set live.taken (port - 1) taken;
+      dues = slice_set live.dues (port - 1) next;
+      account = record live.account { holds = slice_set live.account.holds (port - 1) h };
+    })
+StandsAfter-renewed n plan past before port d live taken next h is hm runs taken_is next_is h_is =
+    let p = port - 1 in
+    let m : Move = next_move plan past p d in
+    let x : PortData = moved_port before p d in
+    let s = hm.stood in
+    let known : p < count plan = hm.next.first.known in
+    let inside : p < length before.ports = omega (arith, s.ports_count) in
+    let inside_taken : p < length before.taken = omega (arith, s.taken_count) in
+    let x_is : x ≡ port_after plan (past ++ m ∷ []) p = moved_known plan past before p d s hm.budget known in
+    let x_at : port_at live p ≡ x = ap (λ (l : LiveData). port_at l p) hm.moved ∙ get_or-set_same before.ports p x no_port inside in
+    let t_is : taken ≡ taken_after (slice_index before.taken p) d =
+    taken_is ∙ ap (λ (l : LiveData). taken_after (slice_index l.taken p) d) hm.moved in
+    let n_is : next ≡ due x.port_record (slice_get (script_of plan p) (taken_after (slice_index before.taken p) d)) =
+    next_is ∙ ap (λ (z : PortData). due z.port_record (slice_get (script_of plan p) taken)) x_at
+    ∙ ap (λ t. due x.port_record (slice_get (script_of plan p) t)) t_is in
+    let held : h ≡ hold (settings_of plan p) (after plan m) =
+    h_is ∙ moved_hold plan past p d (port_at live p) (moved_at plan past before port d live hm) in
+    subst (λ (l : LiveData). StandsAfter plan (past ++ m ∷ []) (record {
+      ports = l.ports;
+      taken = slice_set l.taken p taken;
+      dues = slice_set l.dues p next;
+      account = record l.account { holds = slice_set l.account.holds p h };
+    })) (sym hm.moved)
+    (StandsAfter-step plan past before p d x (slice_set before.taken p taken) next h s runs known x_is
+    (length-set before.taken p taken) (get_or-set_same before.taken p taken 0 inside_taken ∙ t_is)
+    (λ k ne. get_or-set_other before.taken p k taken 0 ne) n_is held)
+
+-- the hold that a port has moved to is no less than its floor, and no more than was free, or than it was
+pub renewed_fits : (plan : Plan) (past : List Move) (before : LiveData) (port : ℕ) (d : Due) (live : LiveData) (h : ℕ)
+    → HasMoved plan past before port d live → h ≡ hold (port_at live (port - 1)).settings (port_at live (port - 1)).port_record
+    → (slice_index live.account.floors (port - 1) ≤ h)
+    × (h ≤ max (free_of live.account (port - 1)) (slice_index live.account.holds (port - 1)))
+renewed_fits plan past before port d live h hm h_is =
+    let p = port - 1 in
+    let s = hm.stood in
+    let m : Move = next_move plan past p d in
+    let held : h ≡ hold (settings_of plan p) (after plan m) =
+    h_is ∙ moved_hold plan past p d (port_at live p) (moved_at plan past before port d live hm) in
+    let fits = hold_after-fits plan past before p d s hm.budget hm.next.first.known in
+    let floor = floor_known plan past before p s in
+    let least = hold_floor (settings_of plan p) (after plan m) in
+    subst (λ (l : LiveData). (slice_index l.account.floors p ≤ h) × (h ≤ max (free_of l.account p) (slice_index l.account.holds p)))
+    (sym hm.moved) (omega arith, omega arith)

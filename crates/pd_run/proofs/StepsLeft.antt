@@ -21,7 +21,7 @@ use Rattle.pd_run.specs.Run.{Move, Standing, standing, moved, after, taken_after
 use Rattle.pd_run.specs.Live.{LiveData, StandsAfter, IsFirst, next_move}
 use Rattle.pd_run.specs.StepsLeft.{steps_left_from, steps_left_at, steps_left_of, steps_left}
 use Rattle.pd_run.proofs.Moves.{standing-same, standing-other}
-use Rattle.pd_run.proofs.Steps.{table-set, due_known}
+use Rattle.pd_run.proofs.Steps.{table-set}
 use Rattle.pd_run.proofs.Runs.{due_after-same}
 
 -- what is left to do on all ports after these moves
@@ -124,6 +124,6 @@ pub steps_left_less : (n : ℕ) (plan : Plan) (past : List Move) (live new : Liv
 steps_left_less n plan past live new p d is stands first stood =
     let before = steps_left_known plan past live stands in
     let after = steps_left_known plan (past ++ next_move plan past p d ∷ []) new stood in
-    let due = sym (due_known plan past live p stands first.known) ∙ first.is_due in
+    let due = sym (stands.dues_are p first.known) ∙ first.is_due in
     let falls = steps_left_falls n plan past p d is first.known due first.soon in
     omega arith

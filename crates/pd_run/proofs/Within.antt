@@ -1,7 +1,7 @@
 -- The holds of a run fit the budget at the end of each instant.
-use Rattle.std.proofs.Common.{◌≡◌, ◌≢◌, ⊎_elim, ◌⊎◌, ℕ, suc, ◌+◌, ◌<◌, ◌≤◌, Bool, true, false, nat_le, List, [], ◌∷◌, ◌++◌, length}
+use Rattle.std.proofs.Common.{◌≡◌, ◌≢◌, ⊎_elim, ℕ, suc, ◌+◌, ◌<◌, ◌≤◌, Bool, true, false, nat_le, List, [], ◌∷◌, ◌++◌, length}
 use Rattle.std.proofs.Common.{sum, Option, Some, option_map, refl, ap, sym, ◌∙◌, subst, inl, inr, arith, append_assoc, slice_get}
-use Rattle.std.proofs.Common.{slice_index, slice_set, if◌then◌else◌}
+use Rattle.std.proofs.Common.{slice_index, slice_set}
 use Rattle.std.specs.Prelude.{All, Contains}
 use Rattle.std.proofs.lemmas.List.{append-nil, get_or-set_same, get_or-set_other, length-set}
 use Rattle.std.proofs.lemmas.Bool.{cases_lt, cases_eq, cases_Bool}
@@ -11,34 +11,32 @@ use Rattle.pd_objects.specs.Answers.{IsAllowed}
 use Rattle.pd_objects.specs.declared.query.Answer.{Answer}
 use Rattle.pd_objects.specs.declared.query.Answer.TheVariants as answers
 use Rattle.pd_setup.specs.Settings.{floor_of}
-use Rattle.pd_setup.specs.Events.{EventData}
 use Rattle.pd_port.specs.declared.due.Due.{Due}
 use Rattle.pd_port.specs.declared.due.What.TheVariants as what
 use Rattle.pd_port.specs.Budget.{RestsEmpty}
 use Rattle.pd_port.specs.Happens.{is_budget}
-use Rattle.pd_port.specs.Port.{is_event, due, ask, hold}
-use Rattle.pd_port.proofs.PortLaws.{due_event, hold_fits, hold_floor, hold_detached}
-use Rattle.pd_port.proofs.BudgetLaws.{empty_detached, empty_after, ask_budget, keeps_or_sheds, due_some, event_first}
+use Rattle.pd_port.specs.Port.{due, ask, hold}
+use Rattle.pd_port.proofs.PortLaws.{hold_fits, hold_floor, hold_detached}
+use Rattle.pd_port.proofs.BudgetLaws.{empty_detached, empty_after, ask_budget, keeps_or_sheds, event_first}
 use Rattle.pd_ledger.specs.Account.{free_of, total_with}
 use Rattle.pd_ledger.specs.Offer.{answer_of}
 use Rattle.pd_ledger.proofs.Offers.{answer-allowed}
 use Rattle.pd_ledger.proofs.Sums.{sum-set}
 use Rattle.pd_scenario.specs.declared.budget.BudgetChange.{BudgetChange}
-use Rattle.pd_scenario.specs.Plan.{Plan, IsPlan, count, settings_of, script_of, floors_of, told_at, force}
+use Rattle.pd_scenario.specs.Plan.{Plan, IsPlan, count, settings_of, script_of, floors_of, force}
 use Rattle.pd_run.specs.Order.{EachAfter, IsNoLater}
-use Rattle.pd_run.specs.Run.{Move, Run, Standing, standing, moved, after, taken_after, due_after, account_after, holds_after}
+use Rattle.pd_run.specs.Run.{Move, Run, Standing, standing, moved, after, due_after, account_after, holds_after}
 use Rattle.pd_run.specs.Run.{GoesOn, IsInOrder, NoneLater, IsAnswered}
-use Rattle.pd_run.specs.Laws.{AreFloored, HoldsFit, ContractsFit, AtEnds, EndsBetween, IsWithin}
+use Rattle.pd_run.specs.Laws.{HoldsFit, ContractsFit, AtEnds, EndsBetween, IsWithin}
 use Rattle.pd_run.proofs.Moves.{standing-same, standing-other, none_later-raise}
 use Rattle.pd_run.proofs.OneRun.{Rest, tail, whole, first_first}
-use Rattle.pd_run.proofs.Forces.{change_or_none, same_force, change_at, changes_there}
-use Rattle.pd_run.proofs.Scripts.{next_tells}
-use Rattle.pd_run.proofs.Steps.{table-set, hold_known, length-holds_after, some_event}
+use Rattle.pd_run.proofs.Forces.{change_at, changes_there}
+use Rattle.pd_run.proofs.Steps.{table-set, hold_known, length-holds_after}
 use Rattle.pd_run.proofs.Contracts.{contracts_held}
 use Rattle.pd_run.proofs.Awaited.{tells, counted, all_counted, counted_at, length-all_counted, told_of, tells_of, counted_floor}
-use Rattle.pd_run.proofs.Awaited.{counted_hold, counted_less, counted_falls, floor_at, length-floors, sum-below, sum-parts}
-use Rattle.pd_run.proofs.Passing.{floored, floored_from, HaveHad, split, below_next, by_event, had_now, had_step, NothingBefore}
-use Rattle.pd_run.proofs.Passing.{no_event_before, told_next, Counts, floors_count, passes, all_held}
+use Rattle.pd_run.proofs.Awaited.{counted_hold, counted_less, floor_at, length-floors, sum-below, sum-parts}
+use Rattle.pd_run.proofs.Passing.{floored, floored_from, HaveHad, split, had_step, NothingBefore}
+use Rattle.pd_run.proofs.Passing.{no_event_before, told_next, Counts, passes, all_held}
 
 -- One more move at a time.
 record Step (plan : Plan) (past : List Move) (m : Move) : Type 0 where

@@ -1,29 +1,34 @@
 -- Ports that move.
-use Rattle.std.specs.Prelude.{◌≡◌, ℕ, ◌-◌, ◌<◌, ◌≤◌, List, [], length, slice_index, slice_index_or, slice_get, Option, None, Some}
-use Rattle.std.specs.Prelude.{option_map}
+use Rattle.std.specs.Prelude.{◌≡◌, ℕ, ◌-◌, ◌<◌, ◌≤◌, List, [], length, slice_index, slice_index_or, slice_set, slice_get}
+use Rattle.std.specs.Prelude.{Option, None, Some, option_map}
 use Rattle.pd_objects.specs.declared.query.Answer.{Answer}
 use Rattle.pd_port.specs.declared.due.Due.{Due}
 use Rattle.pd_port.specs.Port.{PortData, due, ask, entry_of, record_after}
 use Rattle.pd_ledger.specs.Account.{Account}
 use Rattle.pd_ledger.specs.Offer.{answer_of}
-use Rattle.pd_scenario.specs.Plan.{Plan, count, settings_of, script_of, floors_of}
+use Rattle.pd_scenario.specs.Plan.{Plan, count, settings_of, script_of, floors_of, force}
 use Rattle.pd_run.specs.Order.{EachAfter, IsNoLater}
 use Rattle.pd_run.specs.Run.{Move, standing, due_after, holds_after, reply_after, GoesOn, IsInOrder, NoneLater, IsAnswered}
 use Rattle.pd_run.specs.Start.{no_port}
 
--- the ports, how many events each has had, and the shared budget
+-- the ports, how many events each has had, what is kept of what falls due next on each, and the shared budget
 pub record LiveData : Type 0 where
   pub ports : List PortData
   pub taken : List ℕ
+  pub dues : List (Option Due)
   pub account : Account
 
 -- the port of this number, the ports being numbered from 0 here
 abbrev pub port_at : LiveData → ℕ → PortData
 port_at live p = slice_index_or live.ports p no_port
 
--- what falls due on a port
-abbrev pub due_at : Plan → LiveData → ℕ → Option Due
-due_at plan live p = due (port_at live p).port_record (slice_get (script_of plan p) (slice_index live.taken p))
+-- what is kept of what falls due next on a port
+abbrev pub due_at : LiveData → ℕ → Option Due
+due_at live p = slice_index_or live.dues p None
+
+-- what falls due next on a port as it stands, after so many events of its script
+abbrev pub asked_due : Plan → LiveData → ℕ → ℕ → Option Due
+asked_due plan live p taken = due (port_at live p).port_record (slice_get (script_of plan p) taken)
 
 -- a port of these settings stands where these moves have left it
 abbrev pub port_after : Plan → List Move → ℕ → PortData
@@ -37,14 +42,16 @@ pub record RunsTo (plan : Plan) (moves : List Move) : Type 0 where
   pub timely : EachAfter (λ _ m. m.due.time ≤ plan.end) [] moves
   pub ahead : (p : ℕ) (d : Due) → p < count plan → due_after plan moves p ≡ Some d → NoneLater d.time p moves
 
--- these moves are a run as far as it has come, and the ports, the events that they have had and what they hold are as these
--- moves leave them
+-- these moves are a run as far as it has come, and the ports, the events that they have had, what is kept of what falls due on
+-- them, and what they hold are as these moves leave them
 pub record StandsAfter (plan : Plan) (past : List Move) (live : LiveData) : Type 0 where
   pub runs : RunsTo plan past
   pub ports_count : length live.ports ≡ count plan
   pub taken_count : length live.taken ≡ count plan
   pub ports_are : (p : ℕ) → p < count plan → port_at live p ≡ port_after plan past p
   pub taken_are : (p : ℕ) → p < count plan → slice_index live.taken p ≡ (standing plan past p).taken
+  pub dues_count : length live.dues ≡ count plan
+  pub dues_are : (p : ℕ) → p < count plan → due_at live p ≡ due_after plan past p
   pub floors_are : live.account.floors ≡ floors_of plan
   pub holds_are : live.account.holds ≡ holds_after plan past
 
@@ -66,9 +73,9 @@ next_move plan past p d = record {
 -- among the ports below n, the due of this port is the first one, and not after the end
 pub record IsFirstOf (plan : Plan) (live : LiveData) (n p : ℕ) (d : Due) : Type 0 where
   pub known : p < n
-  pub is_due : due_at plan live p ≡ Some d
+  pub is_due : due_at live p ≡ Some d
   pub soon : d.time ≤ plan.end
-  pub least : (q : ℕ) (f : Due) → q < n → due_at plan live q ≡ Some f → IsNoLater d.time p f.time q
+  pub least : (q : ℕ) (f : Due) → q < n → due_at live q ≡ Some f → IsNoLater d.time p f.time q
 
 -- the due of this port is the first one
 abbrev pub IsFirst : Plan → LiveData → ℕ → Due → Type 0
@@ -76,7 +83,7 @@ IsFirst plan live p d = IsFirstOf plan live (count plan) p d
 
 -- nothing falls due on the ports below n up to the end
 pub record IsOver (plan : Plan) (live : LiveData) (n : ℕ) : Type 0 where
-  pub late : (q : ℕ) (f : Due) → q < n → due_at plan live q ≡ Some f → plan.end < f.time
+  pub late : (q : ℕ) (f : Due) → q < n → due_at live q ≡ Some f → plan.end < f.time
 
 -- of the ports below n, this is the first due that isn't after the end, if there is one
 abbrev pub IsSoFar : Plan → LiveData → ℕ → Option (ℕ × Due) → Type 0
@@ -99,7 +106,16 @@ pub record IsNext (plan : Plan) (live : LiveData) (port : ℕ) (d : Due) : Type 
   pub from_one : 1 ≤ port
   pub first : IsFirst plan live (port - 1) d
 
+-- The next port, which is numbered from 1 here, has moved for what was due, and all else is as it was before: how many events
+-- the port has had, what is kept of its due, and its hold are still to be renewed.
+pub record HasMoved (plan : Plan) (past : List Move) (before : LiveData) (port : ℕ) (d : Due) (live : LiveData) : Type 0 where
+  pub stood : StandsAfter plan past before
+  pub next : IsNext plan before port d
+  pub budget : before.account.budget ≡ force plan d.time
+  pub moved : live ≡ record before { ports = slice_set before.ports (port - 1) (moved_port before (port - 1) d) }
+
 -- there are n ports
 pub record HasPorts (n : ℕ) (live : LiveData) : Type 0 where
   pub ports_count : length live.ports ≡ n
   pub taken_count : length live.taken ≡ n
+  pub dues_count : length live.dues ≡ n

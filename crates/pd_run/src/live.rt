@@ -1,28 +1,33 @@
 //! Ports that move.
 
-ghost use Rattle.std.specs.Prelude.{◌≡◌, ℕ, ◌+◌, ◌-◌, ◌<◌, ◌≤◌, ◌∷◌, ◌++◌, ◌↔◌, List, []};
-ghost use Rattle.std.specs.Prelude.{IfOk, IfSome, IfNone, MatchOption, IsTrue, ⊤, option_map};
-ghost use Rattle.pd_port.specs.Port.{is_event};
+ghost use Rattle.std.specs.Prelude.{◌≡◌, ℕ, ◌+◌, ◌-◌, ◌<◌, ◌≤◌, ◌∷◌, ◌++◌, ◌↔◌, List, [], None, true, length};
+ghost use Rattle.std.specs.Prelude.{IfOk, IfSome, IfNone, MatchOption, IsTrue, ⊤, option_map, slice_get, slice_index, slice_index_or};
+ghost use Rattle.pd_port.specs.Meter.{raised};
+ghost use Rattle.pd_port.specs.Port.{is_event, due};
 ghost use Rattle.pd_ledger.specs.Offer.{answer_of};
-ghost use Rattle.pd_scenario.specs.Plan.{IsPlan, count, force};
-ghost use Rattle.pd_run.specs.Run.{Move, NoneLater};
+ghost use Rattle.pd_scenario.specs.Plan.{IsPlan, count, force, script_of};
+ghost use Rattle.pd_run.specs.Run.{Move, NoneLater, taken_after};
 ghost use Rattle.pd_run.specs.Live.{LiveData, StandsAfter, IsSoFar, IsNext, IsOver, at_budget, due_at, next_move, port_at};
-ghost use Rattle.pd_run.specs.Live.{reply_at, moved_port};
+ghost use Rattle.pd_run.specs.Live.{reply_at, moved_port, HasMoved};
 ghost use Rattle.pd_run.specs.Shown.{SafeRun};
+ghost use Rattle.pd_run.specs.Start.{no_port};
 ghost use Rattle.pd_run.specs.StepsLeft.{steps_left};
 
 use crate::Plan;
 use pd_ledger::Ledger;
 use pd_objects::{Answer, Query};
-use pd_port::{Due, Port, What};
+use pd_port::{Due, Entry, Meter, Port, What};
 use std::alloc::{AllocError, Global};
 use std::marker::Model;
 
-/// N ports as they stand, 1 to 8, how many events each has had, and the shared budget. Ports are numbered from 1.
+/// N ports as they stand, 1 to 8, how many events each has had, what falls due next on each, and the shared budget. Ports are
+/// numbered from 1.
 #[derive(Drop)]
 pub struct Live<const N: usize> {
     ports: Vec<Port>,
     taken: Vec<usize>,
+    // A port's due changes only when the port moves, so it is asked then and kept.
+    dues: Vec<Option<Due>>,
     ledger: Ledger<N>,
 }
 
@@ -31,9 +36,14 @@ impl<const N: usize> Model for Live<N> {
 
     ghost Value = { LiveData };
 
-    ghost view = { λ l. record { ports = l.ports.items; taken = l.taken.items; account = l.ledger } };
+    ghost view = { λ l. record { ports = l.ports.items; taken = l.taken.items; dues = l.dues.items; account = l.ledger } };
 
-    ghost invariant = { λ l. HasPorts N (record { ports = l.ports.items; taken = l.taken.items; account = l.ledger }) };
+    ghost invariant = { λ l. HasPorts N (record {
+      ports = l.ports.items;
+      taken = l.taken.items;
+      dues = l.dues.items;
+      account = l.ledger;
+    }) };
 }
 
 impl<const N: usize> Live<N> {
@@ -44,11 +54,15 @@ impl<const N: usize> Live<N> {
     pub fn new(alloc: Global, plan: &Plan<N>) -> Result<Live<N>, AllocError>
         ensures { IfOk result (λ live. StandsAfter plan.now [] live) }
     {
+        let budget = plan.budget();
         let floors = plan.floors(alloc)?;
+        let ports = plan.ports(alloc)?;
+        let dues = first_dues(alloc, plan, ports.as_slice())?;
         Ok(Live {
-            ports: plan.ports(alloc)?,
+            ports,
             taken: vec![in alloc; 0; N]?,
-            ledger: Ledger::new(plan.budget(), floors.as_slice()),
+            dues,
+            ledger: Ledger::new(budget, floors.as_slice()),
         })
     }
 
@@ -93,6 +107,32 @@ impl<const N: usize> Live<N> {
         reply(&self.ledger, port, query)
     }
 
+    /// The step of the port that moves next for what falls due, with the answer to what it asked. The meter rises by one.
+    pub fn step(
+        &mut self,
+        plan: &Plan<N>,
+        port: usize,
+        due: &Due,
+        answer: Option<Answer>,
+        meter: &mut Meter,
+    ) -> Entry
+        requires plan { IsPlan N plan.now }
+        requires stands { (past : List Move) × StandsAfter plan.now past self.old }
+        requires next { IsNext plan.now self.old port due.now }
+        requires budget { self.old.account.budget ≡ force plan.now due.now.time }
+        requires answer { answer ≡ reply_at self.old (port - 1) due.now }
+        ensures entry { (past : List Move) → StandsAfter plan.now past self.old
+            → result ≡ (next_move plan.now past (port - 1) due.now).entry }
+        ensures stands { (past : List Move) → StandsAfter plan.now past self.old
+            → StandsAfter plan.now (past ++ next_move plan.now past (port - 1) due.now ∷ []) self.new }
+        ensures less { steps_left plan.now self.new < steps_left plan.now self.old }
+        ensures meter { meter.new ≡ raised meter.old 1 }
+    {
+        let entry = self.ports[port - 1].step(due, answer, meter);
+        self.renew(plan, port, due);
+        entry
+    }
+
     /// Puts the port that moves next to where its move for what falls due has left it.
     pub fn settle(&mut self, plan: &Plan<N>, port: usize, due: &Due, after: Port)
         requires plan { IsPlan N plan.now }
@@ -104,12 +144,34 @@ impl<const N: usize> Live<N> {
             → StandsAfter plan.now (past ++ next_move plan.now past (port - 1) due.now ∷ []) self.new }
         ensures less { steps_left plan.now self.new < steps_left plan.now self.old }
     {
-        let hold = after.hold();
         self.ports[port - 1] = after;
+        self.renew(plan, port, due);
+    }
+
+    // What a move for a due changes beside the port itself.
+    fn renew(&mut self, plan: &Plan<N>, port: usize, due: &Due)
+        requires plan { IsPlan N plan.now }
+        requires moved { (past : List Move) × (before : LiveData) × HasMoved plan.now past before port due.now self.old }
+        ensures stands { (past : List Move) (before : LiveData) → HasMoved plan.now past before port due.now self.old
+            → StandsAfter plan.now (past ++ next_move plan.now past (port - 1) due.now ∷ []) self.new }
+        ensures less { (past : List Move) (before : LiveData) → HasMoved plan.now past before port due.now self.old
+            → steps_left plan.now self.new < steps_left plan.now before }
+    {
+        let hold = self.port(port).hold();
+        let taken = taken_after(self.had(port), due);
+        let next = self.port(port).due(plan.event(port, taken));
         self.ledger.set_hold(port, hold);
-        if is_event(&due.what) {
-            self.taken[port - 1] += 1;
-        }
+        self.taken[port - 1] = taken;
+        self.dues[port - 1] = next;
+    }
+
+    // How many events a port has had.
+    fn had(&self, port: usize) -> usize
+        requires first { 1 ≤ port }
+        requires last { port ≤ N }
+        ensures { result ≡ slice_index self.now.taken (port - 1) }
+    {
+        self.taken[port - 1]
     }
 
     // Like `next`, with the ports numbered from 0.
@@ -137,7 +199,7 @@ impl<const N: usize> Live<N> {
         ensures { IsSoFar plan.now self.now (port + 1) result }
     {
         let end = plan.end();
-        let Some(due) = self.due(plan, port) else {
+        let Some(due) = self.due(port) else {
             return first;
         };
         if due.time > end {
@@ -149,12 +211,41 @@ impl<const N: usize> Live<N> {
         first
     }
 
-    fn due(&self, plan: &Plan<N>, port: usize) -> Option<Due>
+    fn due(&self, port: usize) -> Option<Due>
         requires { port < N }
-        ensures { result ≡ due_at plan.now self.now port }
+        ensures { result ≡ due_at self.now port }
     {
-        let taken = self.taken[port];
-        self.ports[port].due(plan.event(port + 1, taken))
+        self.dues[port]
+    }
+}
+
+// What falls due first on each port.
+fn first_dues<const N: usize>(
+    alloc: Global,
+    plan: &Plan<N>,
+    ports: &[Port],
+) -> Result<Vec<Option<Due>>, AllocError>
+    requires { length ports.now ≡ N }
+    ensures count { IfOk result (λ dues. length dues.items ≡ N) }
+    ensures dues { IfOk result (λ dues. (p : ℕ) → p < N
+        → slice_index_or dues.items p None ≡ due (slice_index_or ports.now p no_port).port_record (slice_get (script_of plan.now p) 0)) }
+{
+    let mut dues = Vec::new(alloc);
+    for (place, port) in ports.iter().enumerate() {
+        dues.push(port.due(plan.event(place + 1, 0)))?;
+    }
+    Ok(dues)
+}
+
+// How many events a port has had after a due.
+fn taken_after(taken: usize, due: &Due) -> usize
+    requires { is_event due.now.what ≡ true → taken < 4096 }
+    ensures { result ≡ taken_after taken due.now }
+{
+    if is_event(&due.what) {
+        taken + 1
+    } else {
+        taken
     }
 }
 

@@ -87,9 +87,7 @@ fn run<const N: usize>(
     let mut entries = Vec::new(alloc);
     while let Some((port, due)) = live.next(plan) {
         let answer = live.reply(plan, port, &due);
-        let mut after = live.port(port).copy();
-        let entry = after.step(&due, answer, meter);
-        live.settle(plan, port, &due, after);
+        let entry = live.step(plan, port, &due, answer, meter);
         entries.push((port, entry))?;
     }
     Ok(entries)

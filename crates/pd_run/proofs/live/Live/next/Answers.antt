@@ -3,7 +3,6 @@ use Rattle.pd_scenario.specs.Plan.{count}
 use Rattle.pd_run.specs.Live.{IsOver}
 use Rattle.pd_run.proofs.First.{first_is_next}
 use Rattle.pd_run.proofs.Safe.{safe_end}
-use Rattle.pd_run.proofs.Steps.{due_known}
 use Rattle.pd_run.proofs.live.Live.next.Goals as goal
 
 pub returns-clause-next : goal.returns-clause-next
@@ -25,5 +24,5 @@ returns-clause-in_order g c = λ past stands.
     let next = first_is_next plan c.args.self.now g.row.N c.in_ok-port.port c.in_ok-port.due c.in_ok-port.ensures.is_plan.settings_count
     c.in_ok-port.ensures.first in
     let p = c.in_ok-port.port + 1 - 1 in
-    stands.runs.ahead p c.in_ok-port.due next.first.known (sym (due_known plan past c.args.self.now p stands next.first.known)
+    stands.runs.ahead p c.in_ok-port.due next.first.known (sym (stands.dues_are p next.first.known)
     ∙ next.first.is_due)

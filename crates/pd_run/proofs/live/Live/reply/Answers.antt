@@ -12,7 +12,12 @@ use Rattle.pd_run.proofs.live.Live.reply.Goals as goal
 pub returns-clause-next : goal.returns-clause-next
 returns-clause-next g c = λ next.
     let plan = c.args.plan.now in
-    let live : LiveData = record { ports = c.self.inside.ports.items; taken = c.self.inside.taken.items; account = c.self.inside.ledger } in
+    let live : LiveData = record {
+      ports = c.self.inside.ports.items;
+      taken = c.self.inside.taken.items;
+      dues = c.self.inside.dues.items;
+      account = c.self.inside.ledger;
+    } in
     rw c.set_budget.ensures
     (IsNext-budget plan live c.args.port c.args.due.now c.force-budget.result
     (subst (λ (l : LiveData). IsNext plan l c.args.port c.args.due.now) (sym c.self.view_is) next))
@@ -20,7 +25,12 @@ returns-clause-next g c = λ next.
 pub returns-clause-stands : goal.returns-clause-stands
 returns-clause-stands g c = λ past stands.
     let plan = c.args.plan.now in
-    let live : LiveData = record { ports = c.self.inside.ports.items; taken = c.self.inside.taken.items; account = c.self.inside.ledger } in
+    let live : LiveData = record {
+      ports = c.self.inside.ports.items;
+      taken = c.self.inside.taken.items;
+      dues = c.self.inside.dues.items;
+      account = c.self.inside.ledger;
+    } in
     rw c.set_budget.ensures
     (StandsAfter-budget plan past live c.force-budget.result (subst (StandsAfter plan past) (sym c.self.view_is) stands))
 
@@ -28,7 +38,12 @@ pub returns-clause-known : goal.returns-clause-known
 returns-clause-known g c = λ past stands.
     let plan = c.args.plan.now in
     let p = c.args.port - 1 in
-    let old : LiveData = record { ports = c.self.inside.ports.items; taken = c.self.inside.taken.items; account = c.self.inside.ledger } in
+    let old : LiveData = record {
+      ports = c.self.inside.ports.items;
+      taken = c.self.inside.taken.items;
+      dues = c.self.inside.dues.items;
+      account = c.self.inside.ledger;
+    } in
     let live : LiveData = at_budget old c.force-budget.result in
     let stood : StandsAfter plan past live =
     StandsAfter-budget plan past old c.force-budget.result (subst (StandsAfter plan past) (sym c.self.view_is) stands) in
