@@ -1,4 +1,3 @@
-pub mod Device
 pub mod Laws
 pub mod Pending
 pub mod Session

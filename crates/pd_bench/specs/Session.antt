@@ -17,13 +17,13 @@ use Rattle.pd_edit_lines.specs.declared.line.Show.TheVariants.{Transcript, Contr
 use Rattle.pd_edit_lines.specs.declared.fault.EditFault.{EditFault}
 use Rattle.pd_edit_lines.specs.declared.fault.EditFault.TheVariants as edit_faults
 use Rattle.pd_run.specs.Shown.{Shows}
-use Rattle.pd_report.specs.Device.{Begins, one_more}
+use Rattle.pd_device.specs.Device.{Begins, one_more}
 use Rattle.pd_report.specs.Report.{transcript_text}
 use Rattle.pd_report.specs.ContractLines.{contracts_text}
 use Rattle.pd_report.specs.FaultLines.{faults_text}
 use Rattle.pd_report.specs.Margins.{margins_text}
-use Rattle.pd_report.specs.declared.fault.BenchFault.{BenchFault}
-use Rattle.pd_report.specs.declared.fault.BenchFault.TheVariants.{ReadFailed, WriteFailed, Memory, ReaderTooLong}
+use Rattle.pd_device.specs.declared.fault.BenchFault.{BenchFault}
+use Rattle.pd_device.specs.declared.fault.BenchFault.TheVariants.{ReadFailed, WriteFailed, Memory, ReaderTooLong}
 use Rattle.pd_bench.specs.declared.tally.Tally.{Tally}
 use Rattle.pd_bench.specs.declared.tally.Outcome.{Outcome}
 use Rattle.pd_bench.specs.declared.tally.Outcome.TheVariants.{Skipped, Accepted, Refused, Shown}

@@ -10,9 +10,9 @@ use Rattle.pd_edit_lines.specs.Grammar.{line_of}
 use Rattle.pd_edit_lines.specs.declared.line.Line.{Line}
 use Rattle.pd_edit_lines.specs.declared.fault.EditFault.{EditFault}
 use Rattle.pd_run.specs.Shown.{Shows}
-use Rattle.pd_report.specs.Device.{Begins}
-use Rattle.pd_report.specs.declared.fault.BenchFault.{BenchFault}
-use Rattle.pd_report.specs.declared.fault.BenchFault.TheVariants.{ReadFailed, Memory, ReaderTooLong}
+use Rattle.pd_device.specs.Device.{Begins}
+use Rattle.pd_device.specs.declared.fault.BenchFault.{BenchFault}
+use Rattle.pd_device.specs.declared.fault.BenchFault.TheVariants.{ReadFailed, Memory, ReaderTooLong}
 use Rattle.pd_bench.specs.declared.tally.Tally.{Tally}
 use Rattle.pd_bench.specs.declared.tally.Outcome.{Outcome}
 use Rattle.pd_bench.specs.Pending.{IsPending}

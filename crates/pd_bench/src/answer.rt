@@ -7,19 +7,18 @@ ghost use Rattle.pd_edit.specs.Refusals.{edited};
 ghost use Rattle.pd_edit_lines.specs.Grammar.{line_of};
 ghost use Rattle.pd_edit_lines.specs.Numbers.{number_of};
 ghost use Rattle.pd_edit_lines.specs.declared.fault.EditFault.TheVariants as edit_faults;
-ghost use Rattle.pd_report.specs.Device.{CountsFailure, Writes};
+ghost use Rattle.pd_device.specs.Device.{CountsFailure, Writes};
 ghost use Rattle.pd_bench.specs.declared.tally.Outcome.{Outcome as OutcomeData};
 ghost use Rattle.pd_bench.specs.declared.tally.Outcome.TheVariants as outcomes;
 ghost use Rattle.pd_bench.specs.Session.{EditReply, ShowReply, show_text, can_show, answered, counted, done_text, refused_text};
 ghost use Rattle.pd_bench.specs.Stream.{IsRunning, Replied};
 
 use crate::{Outcome, Tally};
+use pd_device::{BenchFault, Text, TextOut, write_all, write_text};
 use pd_edit::apply;
 use pd_edit_lines::{Edit, EditFault, Line, Show};
 use pd_port::Meter;
-use pd_report::{
-    BenchFault, Text, TextOut, contracts, faults, margins, transcript, write_all, write_text,
-};
+use pd_report::{contracts, faults, margins, transcript};
 use pd_run::Runner;
 use pd_scenario::Scenario;
 use std::alloc::Global;

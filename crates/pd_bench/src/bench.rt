@@ -1,16 +1,16 @@
 //! A session: it reads edits and shows, and writes their answers.
 
 ghost use Rattle.std.specs.Prelude.{◌≡◌, ◌+◌, ◌<◌, ◌≤◌, ◌^◌, ◌∷◌, [], length, OnOk, MatchResult};
-ghost use Rattle.pd_report.specs.Device.{CountsFailure};
-ghost use Rattle.pd_report.specs.declared.fault.BenchFault.TheVariants.{WriteFailed as write_failed};
+ghost use Rattle.pd_device.specs.Device.{CountsFailure};
+ghost use Rattle.pd_device.specs.declared.fault.BenchFault.TheVariants.{WriteFailed as write_failed};
 ghost use Rattle.pd_bench.specs.Session.{CountsFault, SessionEnds, WritesSession, answered};
 ghost use Rattle.pd_bench.specs.Stream.{Fed, FedPart, Finished, FinishedPart, IsRunning, TookIn, TookPart};
 
 use crate::answer::{State, answer, write_done};
 use crate::pending::Pending;
 use crate::{Tally, TextIn};
+use pd_device::{BenchFault, TextOut};
 use pd_port::Meter;
-use pd_report::{BenchFault, TextOut};
 use pd_run::Runner;
 use pd_scenario::Scenario;
 use std::alloc::Global;

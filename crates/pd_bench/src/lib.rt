@@ -3,11 +3,10 @@
 
 mod answer;
 mod bench;
-mod device;
 pub mod laws;
 mod pending;
 mod tally;
 
 pub use bench::session;
-pub use device::TextIn;
+pub use pd_device::TextIn;
 pub use tally::{Outcome, Tally};

@@ -3,8 +3,9 @@
 ghost use Rattle.std.specs.Prelude.{◌<◌};
 
 use super::*;
+use pd_device::Output;
 use pd_port::Meter;
-use pd_run_text::{Output, run_kept, run_plain};
+use pd_run_text::{run_kept, run_plain};
 use std::alloc::{AllocError, Global};
 use std::test::Fail;
 

@@ -4,8 +4,7 @@
 ghost use Rattle.std.specs.Prelude.{◌≡◌, ◌+◌, ◌≤◌, ◌<◌, ◌++◌, min, length, take, drop, Some};
 
 use arrayvec::ArrayVec;
-use pd_bench::TextIn;
-use pd_report::{DeviceFault, TextOut};
+use pd_device::{DeviceFault, TextIn, TextOut};
 
 /// Gives the bytes of a text, a few at a time, and fails at one call.
 #[derive(Drop)]

@@ -3,8 +3,8 @@
 use super::failures::phone_session;
 use super::*;
 use pd_bench::Tally;
+use pd_device::BenchFault;
 use pd_keep::Kept;
-use pd_report::BenchFault;
 use pd_run::{Plain, Runner};
 use std::alloc::Global;
 

@@ -4,8 +4,9 @@ ghost use Rattle.std.specs.Prelude.{◌≡◌, ◌≤◌, ℕ, Some};
 ghost use Rattle.pd_scenario.specs.Plans.{plan_of};
 
 use super::*;
+use pd_device::BenchFault;
 use pd_port::Meter;
-use pd_report::{BenchFault, contracts, faults, margins};
+use pd_report::{contracts, faults, margins};
 use pd_run::{Plain, Runner};
 use pd_scenario::Scenario;
 use pd_scenario_text::scenario_from_text;

@@ -1,7 +1,7 @@
 use super::*;
 use pd_bench::{Tally, session};
+use pd_device::BenchFault;
 use pd_port::Meter;
-use pd_report::BenchFault;
 use pd_run::{Plain, Runner};
 use pd_scenario_text::scenario_from_text;
 use std::alloc::Global;

@@ -4,8 +4,9 @@ ghost use Rattle.std.specs.Prelude.{IsTrue};
 ghost use Rattle.pd_run_text.specs.Texts.{IsAnswered, IsRefusedBy};
 
 use crate::cases::Case;
+use pd_device::Output;
 use pd_port::Meter;
-use pd_run_text::{Output, check_text, run_kept, run_plain};
+use pd_run_text::{check_text, run_kept, run_plain};
 use std::alloc::Global;
 
 // Whether a session writes what is expected.

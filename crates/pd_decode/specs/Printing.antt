@@ -1,7 +1,7 @@
 -- What is printed of the codes that a user gives.
 use Rattle.std.specs.Prelude.{◌≡◌, ℕ, List, Option, Result, IfOk}
-use Rattle.pd_report.specs.declared.fault.BenchFault.{BenchFault}
-use Rattle.pd_report.specs.Device.{Writes}
+use Rattle.pd_device.specs.declared.fault.BenchFault.{BenchFault}
+use Rattle.pd_device.specs.Device.{Writes}
 use Rattle.pd_decode.specs.declared.decoded.Decoded.{Decoded}
 use Rattle.pd_decode.specs.Decoding.{Decodes, decoded_text, status_of}
 

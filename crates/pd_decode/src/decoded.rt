@@ -1,8 +1,8 @@
 //! What codes come to.
 
 use crate::lines::{fault_text, packet_text, refused_text};
+use pd_device::Text;
 use pd_packet::{Packet, PacketFault};
-use pd_report::Text;
 
 /// The most bytes of a text.
 pub const WIDTH: usize = 256;

@@ -5,9 +5,9 @@ ghost use Rattle.pd_symbols.specs.Hex.{hex_digits};
 ghost use Rattle.pd_decode.specs.Lines.{fault_line, header_line, object_line, packet_text, refused_line, set_line};
 
 use crate::decoded::WIDTH;
+use pd_device::Text;
 use pd_header::{header_count, header_id, header_kind};
 use pd_packet::{Packet, PacketFault, check_of_words};
-use pd_report::Text;
 use pd_symbols::{Channel, hex_digits};
 
 /// The lines of a packet.

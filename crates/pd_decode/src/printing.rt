@@ -1,12 +1,12 @@
 //! What a user is shown of codes.
 
 ghost use Rattle.std.specs.Prelude.{◌≡◌, ◌≢◌};
-ghost use Rattle.pd_report.specs.Device.{CountsFailure};
-ghost use Rattle.pd_report.specs.declared.fault.BenchFault.TheVariants.{Memory as no_memory};
+ghost use Rattle.pd_device.specs.Device.{CountsFailure};
+ghost use Rattle.pd_device.specs.declared.fault.BenchFault.TheVariants.{Memory as no_memory};
 ghost use Rattle.pd_decode.specs.Printing.{Prints};
 
 use crate::decoding::decode;
-use pd_report::{BenchFault, TextOut, write_text};
+use pd_device::{BenchFault, TextOut, write_text};
 use std::alloc::Global;
 
 /// Writes what the codes that a text gives come to, and answers the status that the program ends with.

@@ -2,7 +2,7 @@ ghost use Rattle.std.specs.Prelude.{Some};
 
 use super::*;
 use arrayvec::ArrayVec;
-use pd_report::{BenchFault, DeviceFault, TextOut};
+use pd_device::{BenchFault, DeviceFault, TextOut};
 use std::test::*;
 
 /// What is printed for packets.

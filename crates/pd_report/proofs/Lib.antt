@@ -1,6 +1,5 @@
-pub mod DeviceLemmas
 pub mod MarginLemmas
-pub mod TextLemmas
+pub mod ShownLemmas
 pub mod ToldLemmas
 pub mod TruthLemmas
 pub mod WalkLemmas

@@ -18,7 +18,7 @@ use Rattle.pd_run.specs.Laws.{EndsBetween, IsWithin}
 use Rattle.pd_run.specs.Order.{EachAfter}
 use Rattle.pd_run.specs.Run.{Move, Run, Standing, GoesOn, IsInOrder, standing, standing_from, at_start, moved, after, shown}
 use Rattle.pd_run.proofs.Moves.{standing-same, standing-other, in_order-member}
-use Rattle.pd_report.specs.Text.{right}
+use Rattle.pd_device.specs.Text.{right}
 use Rattle.pd_report.specs.Margins.{change_on, power_on, up_to, most_ports, contracts_at, has_line, instant_text, margin_text}
 use Rattle.pd_report.specs.Truth.{moves_up_to, recorded_contracts, recorded_power, TellsTrue, MarginsAreTrue}
 use Rattle.pd_report.proofs.MarginLemmas.{Moves, at-due, power_then, change-then, change_here, change_other}

@@ -9,13 +9,13 @@ use Rattle.std.proofs.lemmas.List.{append-nil, drop_all}
 use Rattle.pd_port.specs.declared.entry.Entry.{Entry}
 use Rattle.pd_scenario.specs.Plan.{Plan, count, force}
 use Rattle.pd_run.specs.Shown.{IsShown}
-use Rattle.pd_report.specs.declared.fault.BenchFault.{BenchFault}
+use Rattle.pd_device.specs.declared.fault.BenchFault.{BenchFault}
 use Rattle.pd_report.specs.declared.walk.Standing.{Standing}
 use Rattle.pd_report.specs.declared.walk.Walk.{Walk}
-use Rattle.pd_report.specs.Device.{Writes, WrotePart}
+use Rattle.pd_device.specs.Device.{Writes, WrotePart}
 use Rattle.pd_report.specs.Margins.{most_ports, power_on, up_to, contracts_at, stays_at, has_line, instant_text, margin_text, margins_head, margins_text}
 use Rattle.pd_report.specs.Walk.{standing_at, standing_before, noted, line_after, later_walk, passed, last_line, passing_line, NoneLater, NoneBefore, IsWalk, text_before}
-use Rattle.pd_report.proofs.DeviceLemmas.{WrotePart-after, WrotePart-longer}
+use Rattle.pd_device.proofs.DeviceLemmas.{WrotePart-after, WrotePart-longer}
 use Rattle.pd_report.proofs.MarginLemmas.{Moves, all-mono, take-next, happens_at, up_to-is, nothing_between, powers-start, powers-more, text-next, text-to, InTime, known-at, none-before-next, none-before-here, not-before, none-later-next}
 use Rattle.pd_report.proofs.ToldLemmas.{force-stays}
 

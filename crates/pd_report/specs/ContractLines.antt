@@ -4,7 +4,7 @@ use Rattle.std.specs.List.{flat_map}
 use Rattle.pd_port.specs.declared.entry.ContractChange.{ContractChange}
 use Rattle.pd_port.specs.declared.entry.ContractChange.TheVariants.{Made, Lost}
 use Rattle.pd_port.specs.declared.entry.Entry.{Entry}
-use Rattle.pd_report.specs.Text.{at_port}
+use Rattle.pd_report.specs.Line.{at_port}
 
 -- the words of a change: the contract that is made, by its position, voltage and maximum operating current, or that there
 -- is none any more

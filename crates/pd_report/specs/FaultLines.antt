@@ -6,7 +6,7 @@ use Rattle.pd_line.specs.declared.notes.Fault.{Fault}
 use Rattle.pd_line.specs.declared.notes.Fault.TheVariants.{Ignored, NoGoodCrc, SoftReset, HardReset, SourceDisabled, SinkDisabled, CableUnread, Mismatch, Reject, Wait}
 use Rattle.pd_port.specs.declared.entry.Entry.{Entry}
 use Rattle.pd_report.specs.Report.{side_text}
-use Rattle.pd_report.specs.Text.{at_port}
+use Rattle.pd_report.specs.Line.{at_port}
 
 -- the words of a fault
 unfoldable pub fault_words : Fault → List ℕ

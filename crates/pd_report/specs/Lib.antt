@@ -1,9 +1,7 @@
 pub mod ContractLines
-pub mod Device
 pub mod FaultLines
+pub mod Line
 pub mod Margins
-pub mod Numbers
 pub mod Report
-pub mod Text
 pub mod Truth
 pub mod Walk

@@ -7,7 +7,7 @@ use Rattle.pd_port.specs.declared.entry.ContractChange.{ContractChange}
 use Rattle.pd_port.specs.declared.entry.ContractChange.TheVariants.{Made, Lost}
 use Rattle.pd_port.specs.declared.entry.Entry.{Entry}
 use Rattle.pd_scenario.specs.Plan.{Plan, force}
-use Rattle.pd_report.specs.Text.{right}
+use Rattle.pd_device.specs.Text.{right}
 
 -- the power in microwatts that a change of a contract leaves: millivolts times milliamperes
 abbrev pub power_left : ContractChange → ℕ

@@ -16,7 +16,7 @@ use Rattle.pd_packet.specs.Hearing.{shown}
 use Rattle.pd_port.specs.declared.entry.Entry.{Entry}
 use Rattle.pd_line.specs.declared.notes.Start.{Start}
 use Rattle.pd_line.specs.declared.notes.Start.TheVariants as starts
-use Rattle.pd_report.specs.Text.{right, code_text}
+use Rattle.pd_device.specs.Text.{right, code_text}
 
 -- the side that speaks
 abbrev pub side_text : Side → List ℕ

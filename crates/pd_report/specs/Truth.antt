@@ -5,7 +5,7 @@ use Rattle.pd_port.specs.Budget.{contract_power}
 use Rattle.pd_scenario.specs.Plan.{Plan, IsPlan, count, force}
 use Rattle.pd_run.specs.Run.{Move, standing, contract_powers}
 use Rattle.pd_run.specs.Shown.{Shows}
-use Rattle.pd_report.specs.Text.{right}
+use Rattle.pd_device.specs.Text.{right}
 use Rattle.pd_report.specs.Margins.{power_on, up_to, contracts_at, has_line, instant_text}
 
 -- the moves up to a time

@@ -1,11 +1,11 @@
 //! The contracts of a run as text.
 
 ghost use Rattle.std.specs.Prelude.{◌≡◌, ◌+◌, ◌<◌, ◌≤◌, ◌++◌, List, ℕ, [], length, decimal, codes, MatchOption, slice_get};
-ghost use Rattle.pd_report.specs.Device.{CountsFailure, Writes};
+ghost use Rattle.pd_device.specs.Device.{CountsFailure, Writes};
 ghost use Rattle.pd_report.specs.ContractLines.{change_text, contract_line, contracts_text};
 
-use crate::text::start_of_line;
-use crate::{BenchFault, Text, TextOut, write_all, write_text};
+use crate::line::start_of_line;
+use pd_device::{BenchFault, Text, TextOut, write_all, write_text};
 use pd_port::ContractChange;
 use pd_run::Runner;
 

@@ -3,13 +3,13 @@
 ghost use Rattle.std.specs.Prelude.{◌≡◌, ◌+◌, ◌<◌, ◌≤◌, ◌++◌, List, ℕ, [], length, decimal, codes, MatchOption, slice_get};
 ghost use Rattle.std.specs.List.{flat_map};
 ghost use Rattle.pd_header.specs.Kinds.{name_of};
-ghost use Rattle.pd_report.specs.Device.{CountsFailure, Writes};
+ghost use Rattle.pd_device.specs.Device.{CountsFailure, Writes};
 ghost use Rattle.pd_report.specs.FaultLines.{fault_words, fault_text, fault_lines, faults_text};
 ghost use Rattle.pd_report.specs.Report.{side_text as side_words};
 
+use crate::line::start_of_line;
 use crate::report::side_text;
-use crate::text::start_of_line;
-use crate::{BenchFault, Text, TextOut, write_all, write_text};
+use pd_device::{BenchFault, Text, TextOut, write_all, write_text};
 use pd_header::{Kind, Side};
 use pd_port::Fault;
 use pd_run::Runner;

@@ -1,14 +1,14 @@
 //! The margins of a run as text.
 
 ghost use Rattle.std.specs.Prelude.{◌≡◌, ◌+◌, ◌-◌, ◌<◌, ◌≤◌, ◌++◌, List, ℕ, [], length, Some, MatchOption, slice_get};
-ghost use Rattle.pd_report.specs.Device.{CountsFailure, Writes};
+ghost use Rattle.pd_device.specs.Device.{CountsFailure, Writes};
 ghost use Rattle.pd_report.specs.Margins.{margins_text};
 ghost use Rattle.pd_report.specs.Walk.{IsWalk, passed, passing_line, text_before};
 ghost use Rattle.pd_run.specs.Shown.{IsShown};
 ghost use Rattle.pd_scenario.specs.Plans.{plan_of};
 
 use crate::walk::{WIDTH, Walk};
-use crate::{BenchFault, Text, TextOut, write_all, write_text};
+use pd_device::{BenchFault, Text, TextOut, write_all, write_text};
 use pd_run::Runner;
 use pd_scenario::Scenario;
 

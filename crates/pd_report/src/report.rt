@@ -1,10 +1,10 @@
 //! The packets of a run as text.
 
 ghost use Rattle.std.specs.Prelude.{◌≡◌, ◌+◌, ◌<◌, ◌≤◌, ◌++◌, List, ℕ, [], length, decimal, codes, MatchOption, slice_get};
-ghost use Rattle.pd_report.specs.Device.{CountsFailure, Writes};
+ghost use Rattle.pd_device.specs.Device.{CountsFailure, Writes};
 ghost use Rattle.pd_report.specs.Report.{head_text, line_of, start_text, packet_text, hard_reset_text, side_text, set_text, fate_text, transcript_text};
 
-use crate::{BenchFault, Text, TextOut, write_text};
+use pd_device::{BenchFault, Text, TextOut, write_text};
 use pd_header::{Side, header_id, header_kind};
 use pd_packet::{Fate, Packet, codes_of};
 use pd_port::Start;

@@ -6,7 +6,7 @@ ghost use Rattle.pd_report.specs.Walk.{line_after, noted};
 ghost use Rattle.pd_scenario.specs.Plan.{IsPlan, force};
 ghost use Rattle.pd_scenario.specs.Plans.{plan_of};
 
-use crate::Text;
+use pd_device::Text;
 use pd_port::ContractChange;
 use pd_scenario::Scenario;
 

@@ -4,8 +4,8 @@ use Rattle.pd_scenario.specs.Contents.{Contents}
 use Rattle.pd_scenario_tables.specs.declared.fault.ScenarioFault.{ScenarioFault}
 use Rattle.pd_scenario_tables.specs.Numbers.{number_of}
 use Rattle.pd_scenario_text.specs.Reading.{Counts, Reads}
-use Rattle.pd_report.specs.Device.{one_more}
-use Rattle.pd_report.specs.declared.fault.BenchFault.TheVariants.{WriteFailed}
+use Rattle.pd_device.specs.Device.{one_more}
+use Rattle.pd_device.specs.declared.fault.BenchFault.TheVariants.{WriteFailed}
 use Rattle.pd_bench.specs.declared.tally.Tally.{Tally}
 use Rattle.pd_bench.specs.Session.{Session, SessionEnds}
 use Rattle.pd_run_text.specs.declared.texts.RunFault.{RunFault}

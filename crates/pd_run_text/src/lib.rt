@@ -3,11 +3,10 @@
 #![tactic(auto)]
 
 mod check;
-mod devices;
 mod files;
 mod texts;
 
 pub use check::check_text;
-pub use devices::{Input, Output};
 pub use files::read_whole;
+pub use pd_device::{Input, Output};
 pub use texts::{RunFault, run_kept, run_plain};

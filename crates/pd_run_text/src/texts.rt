@@ -4,11 +4,10 @@ ghost use Rattle.std.specs.Prelude.{◌≡◌, ℕ, ◌≤◌, Ok};
 ghost use Rattle.pd_scenario_text.specs.Reading.{Counts};
 ghost use Rattle.pd_run_text.specs.Texts.{CountsWrites, RunsText};
 
-use crate::devices::Input;
 use pd_bench::{Tally, session};
+use pd_device::{BenchFault, Input, TextOut};
 use pd_keep::Kept;
 use pd_port::Meter;
-use pd_report::{BenchFault, TextOut};
 use pd_run::{Plain, Runner};
 use pd_scenario_text::{ScenarioFault, port_count, scenario_from_text};
 use std::alloc::Global;

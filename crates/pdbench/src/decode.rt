@@ -3,7 +3,7 @@
 use crate::Ending;
 use crate::fault::tell;
 use pd_decode::print_decoded;
-use pd_run_text::Output;
+use pd_device::Output;
 use std::alloc::Global;
 use std::io;
 

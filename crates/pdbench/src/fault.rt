@@ -1,7 +1,7 @@
 //! Faults, as the program tells them.
 
 use crate::Ending;
-use pd_report::BenchFault;
+use pd_device::BenchFault;
 use pd_scenario_text::ScenarioFault;
 
 /// Tells a fault on standard error.

@@ -2,8 +2,9 @@
 
 use crate::Ending;
 use crate::fault::{tell, tell_refused};
+use pd_device::Output;
 use pd_port::Meter;
-use pd_run_text::{Output, RunFault, read_whole, run_kept};
+use pd_run_text::{RunFault, read_whole, run_kept};
 use std::alloc::Global;
 use std::io;
 use std::rt::Files;

@@ -1,6 +1,6 @@
 use Rattle.std.proofs.Common.{◌≡◌}
 use Rattle.pd_report.specs.ContractLines.{contracts_head, contract_line}
-use Rattle.pd_report.proofs.DeviceLemmas.{Walked}
+use Rattle.pd_report.proofs.ShownLemmas.{Walked}
 use Rattle.pd_report.proofs.contract_lines.contracts.Given as goal
 
 abbrev pub invariant-loop-index : goal.invariant-loop-index

@@ -2,7 +2,8 @@ use Rattle.std.proofs.Common.{arith, ◌∙◌}
 use Rattle.std.specs.List.{flat_map}
 use Rattle.std.proofs.lemmas.Result.{err_from_is_err_and}
 use Rattle.pd_report.specs.FaultLines.{faults_head, fault_lines, faults_text}
-use Rattle.pd_report.proofs.DeviceLemmas.{WrotePart-longer, Walked-start, Walked-wrote, Walked-cut, Walked-all}
+use Rattle.pd_device.proofs.DeviceLemmas.{WrotePart-longer}
+use Rattle.pd_report.proofs.ShownLemmas.{Walked-start, Walked-wrote, Walked-cut, Walked-all}
 use Rattle.pd_report.proofs.fault_lines.faults.Goals as goal
 
 pub returns-in_err-write_all-clause-text : goal.returns-in_err-write_all-clause-text

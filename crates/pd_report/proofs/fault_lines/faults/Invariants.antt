@@ -1,6 +1,6 @@
 use Rattle.std.proofs.Common.{◌≡◌}
 use Rattle.pd_report.specs.FaultLines.{faults_head, fault_lines}
-use Rattle.pd_report.proofs.DeviceLemmas.{Walked}
+use Rattle.pd_report.proofs.ShownLemmas.{Walked}
 use Rattle.pd_report.proofs.fault_lines.faults.Given as goal
 
 abbrev pub invariant-loop-index : goal.invariant-loop-index

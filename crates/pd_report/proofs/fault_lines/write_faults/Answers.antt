@@ -2,7 +2,7 @@ use Rattle.std.proofs.Common.{arith, ◌∙◌, [], length, ◌<◌}
 use Rattle.std.proofs.lemmas.Result.{err_from_is_err_and}
 use Rattle.pd_line.specs.declared.notes.Fault.TheVariants.{Ignored}
 use Rattle.pd_report.specs.FaultLines.{fault_text}
-use Rattle.pd_report.proofs.DeviceLemmas.{Walked-at, Walked-more, Walked-part, Walked-all}
+use Rattle.pd_report.proofs.ShownLemmas.{Walked-at, Walked-more, Walked-part, Walked-all}
 use Rattle.pd_report.proofs.fault_lines.write_faults.Goals as goal
 
 pub loop-fault-preserved : goal.loop-fault-preserved

@@ -1,6 +1,6 @@
 use Rattle.std.proofs.Common.{◌≡◌, []}
 use Rattle.pd_report.specs.FaultLines.{fault_text}
-use Rattle.pd_report.proofs.DeviceLemmas.{Walked}
+use Rattle.pd_report.proofs.ShownLemmas.{Walked}
 use Rattle.pd_report.proofs.fault_lines.write_faults.Given as goal
 
 abbrev pub invariant-loop-fault : goal.invariant-loop-fault

@@ -6,10 +6,10 @@ use Rattle.pd_scenario.specs.Plan.{Plan}
 use Rattle.pd_run.specs.Shown.{IsShown}
 use Rattle.pd_scenario.specs.Plans.{plan_of}
 use Rattle.pd_report.specs.declared.walk.Walk.{Walk}
-use Rattle.pd_report.specs.Device.{Writes}
+use Rattle.pd_device.specs.Device.{Writes}
 use Rattle.pd_report.specs.Margins.{margins_head, margins_text}
 use Rattle.pd_report.specs.Walk.{text_before, line_after, last_line}
-use Rattle.pd_report.proofs.DeviceLemmas.{WrotePart-longer}
+use Rattle.pd_device.proofs.DeviceLemmas.{WrotePart-longer}
 use Rattle.pd_report.proofs.WalkLemmas.{budget-stays, walk-start, text-whole, cut-line, written-more, Writes-after}
 use Rattle.pd_report.proofs.margin_lines.margins.Goals as goal
 

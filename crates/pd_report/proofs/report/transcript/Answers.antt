@@ -2,7 +2,8 @@ use Rattle.std.proofs.Common.{sym, arith, ◌∙◌}
 use Rattle.std.specs.List.{flat_map}
 use Rattle.std.proofs.lemmas.Result.{err_from_is_err_and}
 use Rattle.pd_report.specs.Report.{head_text, line_of, transcript_text}
-use Rattle.pd_report.proofs.DeviceLemmas.{WrotePart-longer, Walked-start, Walked-more, Walked-part, Walked-all}
+use Rattle.pd_device.proofs.DeviceLemmas.{WrotePart-longer}
+use Rattle.pd_report.proofs.ShownLemmas.{Walked-start, Walked-more, Walked-part, Walked-all}
 use Rattle.pd_report.proofs.report.transcript.Goals as goal
 
 pub returns-in_err-write_text-clause-text : goal.returns-in_err-write_text-clause-text

@@ -1,6 +1,6 @@
 use Rattle.std.proofs.Common.{◌≡◌}
 use Rattle.pd_report.specs.Report.{head_text, line_of}
-use Rattle.pd_report.proofs.DeviceLemmas.{Walked}
+use Rattle.pd_report.proofs.ShownLemmas.{Walked}
 use Rattle.pd_report.proofs.report.transcript.Given as goal
 
 abbrev pub invariant-loop-index : goal.invariant-loop-index

@@ -1,13 +1,31 @@
-//! Where text goes.
+//! Where text comes from, and where it goes.
 
 ghost use Rattle.std.specs.Prelude.{◌≡◌, ◌≢◌, ◌+◌, ℕ, List, length, None, Option};
-ghost use Rattle.pd_report.specs.Device.{CountsFailure, CountsWrite, Writes, WritesSome};
+ghost use Rattle.std.specs.Io.KnownBytes.{ReadConsumes};
+ghost use Rattle.pd_device.specs.Device.{CountsFailure, CountsRead, CountsWrite, Writes, WritesSome};
 
 use crate::BenchFault;
 
 /// A call of a device failed. Nothing else is known of it.
 #[derive(Clone, Copy, Debug, PartialEq, Eq)]
 pub struct DeviceFault;
+
+/// Where text comes from.
+pub trait TextIn {
+    // the bytes left, where the device tells them
+    ghost left: { Self → Option (List ℕ) } = { λ _. None };
+
+    // how many calls failed, up to the greatest value
+    ghost failures: { Self → ℕ };
+
+    /// Fills the first part of the space, and says how much. None of some space is the end.
+    ///
+    /// # Errors
+    /// The device failed, and gave none.
+    fn read(&mut self, space: &mut [u8]) -> Result<usize, DeviceFault>
+        ensures bytes { ReadConsumes (left self.old) (left self.new) result space.new }
+        ensures counts { CountsRead (failures self.old) (failures self.new) result space.old };
+}
 
 /// Where text goes.
 pub trait TextOut {

@@ -1,8 +1,8 @@
 -- What a call of a device does to its bytes and to its count of failed calls.
 use Rattle.std.specs.Prelude.{◌≡◌, ℕ, ◌+◌, ◌-◌, ◌^◌, ◌<◌, ◌≤◌, min, List, ◌++◌, length, take, MatchResult, Result, Option}
 use Rattle.std.specs.Io.KnownBytes.{Appends}
-use Rattle.pd_report.specs.declared.fault.BenchFault.{BenchFault}
-use Rattle.pd_report.specs.declared.fault.BenchFault.TheVariants.{WriteFailed}
+use Rattle.pd_device.specs.declared.fault.BenchFault.{BenchFault}
+use Rattle.pd_device.specs.declared.fault.BenchFault.TheVariants.{WriteFailed}
 
 -- the count after one more failed call: it stays at its greatest value
 abbrev pub one_more : ℕ → ℕ
@@ -17,6 +17,10 @@ abbrev pub CountsWrite : {E : Type 0} → ℕ → ℕ → Result ℕ E → List 
 CountsWrite old new r bytes = MatchResult r
     (λ n. (n ≤ length bytes) × (0 < n → new ≡ old) × (length bytes ≡ 0 → new ≡ old) × (n ≡ 0 → 0 < length bytes → new ≡ one_more old))
     (λ _. new ≡ one_more old)
+
+-- a read gave at most the space; it failed where it says so
+abbrev pub CountsRead : {E : Type 0} → ℕ → ℕ → Result ℕ E → List ℕ → Type 0
+CountsRead old new r space = MatchResult r (λ n. (n ≤ length space) × (new ≡ old)) (λ _. new ≡ one_more old)
 
 -- the known bytes of a writer grew by the first bytes of a text
 pub record WrotePart (old new : Option (List ℕ)) (text : List ℕ) : Type 0 where

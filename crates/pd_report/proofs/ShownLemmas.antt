@@ -1,62 +1,16 @@
--- Facts on what was written so far.
+-- Facts on a show that is written entry by entry.
 use Rattle.std.proofs.Common.{◌≡◌, ℕ, ◌+◌, ◌<◌, ◌≤◌, List, [], ◌∷◌, ◌++◌, length, take, drop, get_or, Option, refl, sym, ap, ◌∙◌, append_assoc}
 use Rattle.std.specs.Prelude.{MatchOption, slice_get, Some, None}
 use Rattle.std.specs.List.{flat_map}
 use Rattle.std.proofs.lemmas.List.{append-nil, take-append-drop, drop_more, take_more, take_all}
 use Rattle.std.proofs.lemmas.List.Concat.{flat_map-append}
 use Rattle.std.proofs.lemmas.Option.{get_or_from_slice_get, slice_get-get_or, slice_get_within}
-use Rattle.std.specs.Io.KnownBytes.{Appends, Keeps}
-use Rattle.std.proofs.KnownBytes.{Appends-trans, Appends-kept, Appends-nil}
-use Rattle.pd_report.specs.Device.{WrotePart}
-use Rattle.pd_report.specs.declared.fault.BenchFault.{BenchFault}
-use Rattle.pd_report.specs.declared.fault.BenchFault.TheVariants.{WriteFailed}
-
--- all is what was written and what is left to write
-pub record Wrote (all rest : List ℕ) (old new : Option (List ℕ)) : Type 0 where
-  pub out : List ℕ
-  pub whole : all ≡ out ++ rest
-  pub appends : Appends old new out
-
-pub Wrote-nothing : (all : List ℕ) (a : Option (List ℕ)) → Wrote all all a a
-Wrote-nothing all a = record { out = []; whole = refl; appends = Appends-nil a }
-
-pub Wrote-more : (all rest : List ℕ) (a b c : Option (List ℕ)) (n : ℕ) → Wrote all rest a b → Appends b c (take n rest) → Wrote all (drop n rest) a c
-Wrote-more all rest a b c n w more = record {
-  out = w.out ++ take n rest;
-  whole = w.whole ∙ ap (λ v. w.out ++ v) (sym (take-append-drop n rest)) ∙ sym (append_assoc w.out (take n rest) (drop n rest));
-  appends = Appends-trans a b c w.out (take n rest) w.appends more;
-}
-
-pub Wrote-all : (all rest : List ℕ) (a b : Option (List ℕ)) → Wrote all rest a b → rest ≡ [] → Appends a b all
-Wrote-all all rest a b w e = let k : all ≡ w.out = w.whole ∙ ap (λ v. w.out ++ v) e ∙ append-nil w.out in rw k w.appends
-
--- a writer that failed after some first bytes of what was left
-pub Wrote-part : (all rest : List ℕ) (a b c : Option (List ℕ)) → Wrote all rest a b → WrotePart b c rest → WrotePart a c all
-Wrote-part all rest a b c w part = record {
-  out = w.out ++ part.out;
-  begins = (part.begins.0, w.whole ∙ ap (λ v. w.out ++ v) part.begins.1 ∙ sym (append_assoc w.out part.out part.begins.0));
-  appends = Appends-trans a b c w.out part.out w.appends part.appends;
-}
-
--- none is a part of each text
-pub wrote_none : (a b : Option (List ℕ)) (text : List ℕ) → Keeps a b → WrotePart a b text
-wrote_none a b text k = record { out = []; begins = (text, refl); appends = Appends-kept a a b [] (Appends-nil a) k }
-
--- a part of what follows a text that was written
-pub WrotePart-after : (a b c : Option (List ℕ)) (text more : List ℕ) → Appends a b text → WrotePart b c more → WrotePart a c (text ++ more)
-WrotePart-after a b c text more first w = record {
-  out = text ++ w.out;
-  begins = (w.begins.0, ap (λ v. text ++ v) w.begins.1 ∙ sym (append_assoc text w.out w.begins.0));
-  appends = Appends-trans a b c text w.out first w.appends;
-}
-
--- a part of a text is a part of a longer one
-pub WrotePart-longer : (a b : Option (List ℕ)) (text more : List ℕ) → WrotePart a b text → WrotePart a b (text ++ more)
-WrotePart-longer a b text more w = record {
-  out = w.out;
-  begins = (w.begins.0 ++ more, ap (λ v. v ++ more) w.begins.1 ∙ append_assoc w.out w.begins.0 more);
-  appends = w.appends;
-}
+use Rattle.std.specs.Io.KnownBytes.{Appends}
+use Rattle.std.proofs.KnownBytes.{Appends-trans}
+use Rattle.pd_device.specs.Device.{WrotePart}
+use Rattle.pd_device.specs.declared.fault.BenchFault.{BenchFault}
+use Rattle.pd_device.specs.declared.fault.BenchFault.TheVariants.{WriteFailed}
+use Rattle.pd_device.proofs.DeviceLemmas.{WrotePart-after, WrotePart-longer}
 
 -- what was written is a head and then what each of the first i elements adds
 pub record Walked {X : Type 0} (f : X → List ℕ) (head : List ℕ) (xs : List X) (i : ℕ) (old new : Option (List ℕ)) : Type 0 where

@@ -1,6 +1,6 @@
 use Rattle.std.proofs.Common.{rules, ◌++◌, ap, ◌∙◌}
-use Rattle.pd_report.proofs.TextLemmas.{right_pad}
-use Rattle.pd_report.proofs.text.Text.push_right.Goals as goal
+use Rattle.pd_device.proofs.TextLemmas.{right_pad}
+use Rattle.pd_device.proofs.text.Text.push_right.Goals as goal
 
 pub returns-clause-bytes : goal.returns-clause-bytes
 returns-clause-bytes g c =

@@ -1,7 +1,7 @@
 //! What ends a session or a report.
 
 ghost use Rattle.std.specs.Prelude.{◌≡◌, ℕ};
-ghost use Rattle.pd_report.specs.Numbers.{number_of};
+ghost use Rattle.pd_device.specs.Numbers.{number_of};
 
 use thiserror::Error;
 

@@ -1,7 +1,7 @@
 use Rattle.std.proofs.Common.{◌≡◌, ◌+◌, ◌*◌, ◌++◌, length, take}
 use Rattle.std.specs.List.{flat_map}
-use Rattle.pd_report.specs.Text.{code_text}
-use Rattle.pd_report.proofs.text.Text.push_codes.Given as goal
+use Rattle.pd_device.specs.Text.{code_text}
+use Rattle.pd_device.proofs.text.Text.push_codes.Given as goal
 
 abbrev pub invariant-loop-code : goal.invariant-loop-code
 invariant-loop-code g l = record {

@@ -1,6 +1,6 @@
 use Rattle.std.proofs.Common.{◌≡◌, length}
-use Rattle.pd_report.proofs.DeviceLemmas.{Wrote}
-use Rattle.pd_report.proofs.device.write_all.Given as goal
+use Rattle.pd_device.proofs.DeviceLemmas.{Wrote}
+use Rattle.pd_device.proofs.device.write_all.Given as goal
 
 abbrev pub invariant-loop-rest : goal.invariant-loop-rest
 invariant-loop-rest g l = record {

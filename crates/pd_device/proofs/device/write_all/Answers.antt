@@ -1,7 +1,7 @@
 use Rattle.std.proofs.Common.{arith, ◌<◌, ◌∙◌, refl}
 use Rattle.std.proofs.lemmas.List.{take_rest}
-use Rattle.pd_report.proofs.DeviceLemmas.{Wrote-more, Wrote-part}
-use Rattle.pd_report.proofs.device.write_all.Goals as goal
+use Rattle.pd_device.proofs.DeviceLemmas.{Wrote-more, Wrote-part}
+use Rattle.pd_device.proofs.device.write_all.Goals as goal
 
 pub loop-rest-preserved : goal.loop-rest-preserved
 loop-rest-preserved g c = record {

@@ -2,8 +2,8 @@
 
 ghost use Rattle.std.specs.Prelude.{◌≡◌, ◌+◌, ◌-◌, ◌*◌, ◌≤◌, ◌<◌, ◌^◌, ◌++◌, ◌∷◌, [], List, ℕ, length, decimal};
 ghost use Rattle.std.specs.List.{flat_map};
-ghost use Rattle.pd_report.specs.Device.{CountsFailure, Writes};
-ghost use Rattle.pd_report.specs.Text.{at_port, code_text, right};
+ghost use Rattle.pd_device.specs.Device.{CountsFailure, Writes};
+ghost use Rattle.pd_device.specs.Text.{code_text, right};
 
 use crate::{BenchFault, TextOut, write_all};
 use arrayvec::ArrayVec;
@@ -71,7 +71,7 @@ impl<const CAP: usize> Text<CAP> {
     }
 
     /// A number of up to 128 bits in decimal digits.
-    pub(crate) fn push_wide(&mut self, wide: u128)
+    pub fn push_wide(&mut self, wide: u128)
         requires { length self.old + 39 ≤ CAP }
         ensures bytes { self.new ≡ self.old ++ decimal wide }
         ensures grows { length self.new ≤ length self.old + 39 }
@@ -114,21 +114,6 @@ impl<const CAP: usize> Text<CAP> {
             self.push_code(*code);
         }
     }
-}
-
-/// The head of a line: a time right in nine places, and a port.
-#[tactic(auto, unfolding(crate::specs::Text::at_port))]
-pub(crate) fn start_of_line<const CAP: usize>(at: u64, port: usize) -> Text<CAP>
-    requires { 60 ≤ CAP }
-    ensures text { result ≡ at_port at port }
-    ensures short { length result ≤ 60 }
-{
-    let mut text = Text::new();
-    text.push_right(at);
-    text.push_all(b" port ");
-    text.push_number(port as u64);
-    text.push_all(b" ");
-    text
 }
 
 /// Writes a text.

@@ -1,7 +1,7 @@
 -- The numbers that faults are shown by: this product's own.
 use Rattle.std.specs.Prelude.{ℕ}
-use Rattle.pd_report.specs.declared.fault.BenchFault.{BenchFault}
-use Rattle.pd_report.specs.declared.fault.BenchFault.TheVariants.{ReadFailed, WriteFailed, Memory, ReaderTooLong}
+use Rattle.pd_device.specs.declared.fault.BenchFault.{BenchFault}
+use Rattle.pd_device.specs.declared.fault.BenchFault.TheVariants.{ReadFailed, WriteFailed, Memory, ReaderTooLong}
 
 abbrev pub number_of : BenchFault → ℕ
 number_of ReadFailed = 40
