@@ -1,5 +1,6 @@
 -- What a side hears is of the type of what was sent, and has its objects: also where what was sent is no packet.
-use Rattle.std.proofs.Common.{◌≡◌, ℕ, ◌+◌, ◌-◌, ◌%◌, ◌/◌, ◌^◌, ◌<◌, ◌≤◌, List, ◌++◌, length, take, drop, map, get_or, Some, sym, ap, subst, ◌∙◌, arith, length-drop}
+use Rattle.std.proofs.Common.{◌≡◌, ℕ, ◌+◌, ◌-◌, ◌%◌, ◌/◌, ◌^◌, ◌<◌, ◌≤◌, List, ◌++◌, length, take, drop, map, get_or, Some, sym, ap}
+use Rattle.std.proofs.Common.{subst, ◌∙◌, arith, length-drop}
 use Rattle.std.specs.Prelude.{bit_xor}
 use Rattle.std.specs.List.{AllByRecursion, flat_map}
 use Rattle.std.proofs.Math.ListN.{set}
@@ -28,11 +29,13 @@ long p =
     omega (arith, length-drop 4 (spelling p), n, length-body p, length-digits p)
 
 -- a code behind the set that is replaced by a code is that code, where a packet's codes are left
-same_code : (p q : Contents) (j c : ℕ) → 4 + j < length (spelling p) → set (spelling p) (4 + j) c ≡ spelling q → set (spelling p) (4 + j) c ≡ spelling p
+same_code : (p q : Contents) (j c : ℕ) → 4 + j < length (spelling p) → set (spelling p) (4 + j) c ≡ spelling q
+    → set (spelling p) (4 + j) c ≡ spelling p
 same_code p q j c lt e =
     let s = spelling p in
     let new : body q ≡ set (body p) j c =
-    sym (body_spelled q) ∙ ap (λ (xs : List ℕ). drop 4 xs) (sym e) ∙ drop-set-add 4 s j c ∙ ap (λ (xs : List ℕ). set xs j c) (body_spelled p) in
+    sym (body_spelled q) ∙ ap (λ (xs : List ℕ). drop 4 xs) (sym e) ∙ drop-set-add 4 s j c
+    ∙ ap (λ (xs : List ℕ). set xs j c) (body_spelled p) in
     let n : length (drop 4 s) ≡ length (body p) = ap length (body_spelled p) in
     let room : j < length (body p) = omega (arith, length-drop 4 s, n) in
     let same : c ≡ get_or s (4 + j) 0 =

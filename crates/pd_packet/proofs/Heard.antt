@@ -1,5 +1,6 @@
 -- An undisturbed packet arrives, and a disturbed one reaches nobody.
-use Rattle.std.proofs.Common.{◌≡◌, ℕ, ◌<◌, ◌≤◌, Bool, true, false, List, length, take, get_or, Option, Some, None, if◌then◌else◌, refl, sym, ap, subst, ◌∙◌, arith}
+use Rattle.std.proofs.Common.{◌≡◌, ℕ, ◌<◌, ◌≤◌, Bool, true, false, List, length, take, get_or, Option, Some, None, if◌then◌else◌}
+use Rattle.std.proofs.Common.{refl, sym, ap, subst, ◌∙◌, arith}
 use Rattle.std.specs.Prelude.{bit_xor}
 use Rattle.std.specs.Str.{bytes_eq}
 use Rattle.std.specs.Int.Bits.{xor_assoc, xor_self, xor_zero_l}
@@ -19,8 +20,10 @@ use Rattle.pd_packet.proofs.Spelled.{counted, header_fits, header_is, objects_ar
 channel_found : (front : List ℕ) (c : Channel) → front ≡ set_codes (channel_set c)
     → ◌≡◌ {A = Channel} (if bytes_eq front (set_codes (channel_set channels.Sop)) then channels.Sop else channels.SopPrime) c
 unfolding code_of
-channel_found front channels.Sop e = ap (λ (xs : List ℕ). if bytes_eq xs (set_codes (channel_set channels.Sop)) then channels.Sop else channels.SopPrime) e
-channel_found front channels.SopPrime e = ap (λ (xs : List ℕ). if bytes_eq xs (set_codes (channel_set channels.Sop)) then channels.Sop else channels.SopPrime) e
+channel_found front channels.Sop e =
+    ap (λ (xs : List ℕ). if bytes_eq xs (set_codes (channel_set channels.Sop)) then channels.Sop else channels.SopPrime) e
+channel_found front channels.SopPrime e =
+    ap (λ (xs : List ℕ). if bytes_eq xs (set_codes (channel_set channels.Sop)) then channels.Sop else channels.SopPrime) e
 
 contents_are : (s : List ℕ) (p : Contents) → Spells s p → contents_in s ≡ p
 unfolding contents_in
@@ -42,7 +45,10 @@ some_is x p e = cc
 to_spelled : (s : List ℕ) (p : Contents) (b : Bool) → bytes_eq s (spelling (contents_in s)) ≡ b → received s ≡ Some p → Spells s p
 to_spelled s p true e r =
     let same : contents_in s ≡ p = some_is (contents_in s) p (sym (tested s true e) ∙ r) in
-    subst (λ (q : Contents). Spells s q) same (record { is_packet = is_packet s; codes = (bytes_eq-Decides s (spelling (contents_in s))).0 e })
+    subst (λ (q : Contents). Spells s q) same (record {
+      is_packet = is_packet s;
+      codes = (bytes_eq-Decides s (spelling (contents_in s))).0 e;
+    })
 to_spelled s p false e r = let none : ◌≡◌ {A = Option Contents} None (Some p) = sym (tested s false e) ∙ r in cc
 
 from_spelled : (s : List ℕ) (p : Contents) → Spells s p → received s ≡ Some p
@@ -73,7 +79,8 @@ lost p = refl
 -- a mask other than 0 changes every code
 turned : (c m : ℕ) → 1 ≤ m → bit_xor c m ≡ c → ⊥
 turned c m some e =
-    let none : m ≡ 0 = sym (xor_zero_l m) ∙ ap (λ (z : ℕ). bit_xor z m) (sym (xor_self c)) ∙ xor_assoc c c m ∙ ap (λ (x : ℕ). bit_xor c x) e ∙ xor_self c in
+    let none : m ≡ 0 = sym (xor_zero_l m) ∙ ap (λ (z : ℕ). bit_xor z m) (sym (xor_self c)) ∙ xor_assoc c c m
+    ∙ ap (λ (x : ℕ). bit_xor c x) e ∙ xor_self c in
     absurd (omega arith)
 
 within : (n : ℕ) (d : DamageData) → 5 ≤ n → place_hit n d < n

@@ -1,5 +1,6 @@
 -- What becomes of a packet's codes on the line, and what a side that hears makes of those that are left.
-use Rattle.std.specs.Prelude.{◌≡◌, ◌↔◌, ℕ, ◌+◌, ◌-◌, ◌%◌, Bool, true, false, List, length, take, slice_index, slice_set, bit_xor, if◌then◌else◌, Option, Some, None}
+use Rattle.std.specs.Prelude.{◌≡◌, ◌↔◌, ℕ, ◌+◌, ◌-◌, ◌%◌, Bool, true, false, List, length, take, slice_index, slice_set, bit_xor}
+use Rattle.std.specs.Prelude.{if◌then◌else◌, Option, Some, None}
 use Rattle.std.specs.Option.{option_and_then}
 use Rattle.std.specs.Str.{bytes_eq}
 use Rattle.pd_symbols.specs.declared.channel.Channel.{Channel}

@@ -50,7 +50,7 @@ impl Damage {
         self.mask
     }
 
-    /// Whether both are the same.
+    /// Whether both hit the same place by the same mask.
     pub fn same(&self, other: &Damage) -> bool
         ensures { IsTrue result ↔ (self.now ≡ other.now) }
     {
@@ -71,7 +71,7 @@ pub enum Fate {
 }
 
 impl Fate {
-    /// Whether both are the same.
+    /// Whether both are the same fate, with the same damage.
     pub fn same(&self, other: &Fate) -> bool
         ensures { IsTrue result ↔ (self.now ≡ other.now) }
     {
