@@ -22,11 +22,35 @@ pub struct Header {
 impl Model for Header {
     ghost Value = { HeaderData };
 
-    ghost view = { λ h. record { extended = h.extended; count = h.count; id = h.id; role = h.role; revision = h.revision; data_role = h.data_role; kind = h.kind } };
+    ghost view = { λ h. record {
+      extended = h.extended;
+      count = h.count;
+      id = h.id;
+      role = h.role;
+      revision = h.revision;
+      data_role = h.data_role;
+      kind = h.kind;
+    } };
 
-    ghost invariant = { λ h. IsHeader (record { extended = h.extended; count = h.count; id = h.id; role = h.role; revision = h.revision; data_role = h.data_role; kind = h.kind }) };
+    ghost invariant = { λ h. IsHeader (record {
+      extended = h.extended;
+      count = h.count;
+      id = h.id;
+      role = h.role;
+      revision = h.revision;
+      data_role = h.data_role;
+      kind = h.kind;
+    }) };
 
-    ghost inverse = { λ v. record { extended = v.extended; count = v.count; id = v.id; role = v.role; revision = v.revision; data_role = v.data_role; kind = v.kind } };
+    ghost inverse = { λ v. record {
+      extended = v.extended;
+      count = v.count;
+      id = v.id;
+      role = v.role;
+      revision = v.revision;
+      data_role = v.data_role;
+      kind = v.kind;
+    } };
 }
 
 impl Header {

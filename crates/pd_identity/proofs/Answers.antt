@@ -6,7 +6,8 @@ use Rattle.pd_identity.specs.declared.CablePlug.{CablePlug}
 use Rattle.pd_identity.specs.declared.CablePlug.TheVariants as plug
 use Rattle.pd_identity.specs.declared.Rating.{Rating}
 use Rattle.pd_identity.specs.declared.Rating.TheVariants as rating
-use Rattle.pd_identity.specs.Identity.{header_of, IsHeader, id_header, IsIdHeader, cable_object_of, current_of, IsPassiveCable, answer_of, reply_of, limit_of, rated}
+use Rattle.pd_identity.specs.Identity.{header_of, IsHeader, id_header, IsIdHeader, cable_object_of, current_of, IsPassiveCable}
+use Rattle.pd_identity.specs.Identity.{answer_of, reply_of, limit_of, rated}
 use Rattle.pd_identity.specs.Laws.{IsRead}
 
 pub header_fields : (t : ℕ) → t < 4 → IsHeader (header_of t) t
@@ -28,8 +29,24 @@ id_header_fields = record { data_capable = refl; product_type = refl; others = r
 
 pub cable_fields : (r : Rating) → IsPassiveCable (cable_object_of r) (current_of r)
 unfolding cable_object_of
-cable_fields rating.ThreeAmperes = record { versions = refl; plug_type = refl; reserved = refl; latency = refl; others = refl; current = refl; speed = refl }
-cable_fields rating.FiveAmperes = record { versions = refl; plug_type = refl; reserved = refl; latency = refl; others = refl; current = refl; speed = refl }
+cable_fields rating.ThreeAmperes = record {
+  versions = refl;
+  plug_type = refl;
+  reserved = refl;
+  latency = refl;
+  others = refl;
+  current = refl;
+  speed = refl;
+}
+cable_fields rating.FiveAmperes = record {
+  versions = refl;
+  plug_type = refl;
+  reserved = refl;
+  latency = refl;
+  others = refl;
+  current = refl;
+  speed = refl;
+}
 
 abbrev cable : CablePlug → Rating → Cable
 cable p r = record { plug = p; rating = r }

@@ -5,7 +5,8 @@ use Rattle.pd_identity.specs.declared.CablePlug.TheVariants as plug
 use Rattle.pd_identity.specs.declared.Rating.{Rating}
 use Rattle.pd_identity.specs.declared.Rating.TheVariants as rating
 use Rattle.pd_identity.specs.declared.identity.Reply.TheVariants as reply
-use Rattle.pd_identity.specs.Identity.{header_of, IsHeader, id_header, IsIdHeader, cable_object_of, current_of, IsPassiveCable, answer_of, reply_of, limit_of, rated}
+use Rattle.pd_identity.specs.Identity.{header_of, IsHeader, id_header, IsIdHeader, cable_object_of, current_of, IsPassiveCable}
+use Rattle.pd_identity.specs.Identity.{answer_of, reply_of, limit_of, rated}
 
 -- each object has its fields
 pub record ObjectsHaveFields : Type 0 where

@@ -7,18 +7,25 @@ use crate::{Cable, CablePlug, Rating};
 use arrayvec::ArrayVec;
 use pd_objects::field;
 
+/// The header of Discover Identity with command type REQ.
 const REQUEST: u32 = 0xFF00_A001;
 
+/// The header of the plug's answer ACK.
 const ACK: u32 = 0xFF00_A041;
 
+/// The header of the plug's answer NAK.
 const NAK: u32 = 0xFF00_A081;
 
+/// The header of the plug's answer BUSY.
 const BUSY: u32 = 0xFF00_A0C1;
 
+/// The ID Header of a passive cable of vendor FFFF.
 const PASSIVE_CABLE: u32 = 0x1800_FFFF;
 
+/// The Passive Cable object of a cable for 3 A.
 const THREE_AMPERES: u32 = 0x0008_2020;
 
+/// The Passive Cable object of a cable for 5 A.
 const FIVE_AMPERES: u32 = 0x0008_2040;
 
 /// What a source reads of an answer.
@@ -43,7 +50,7 @@ pub fn request() -> u32
 
 /// The objects that a cable's plug answers: five of a plug that acknowledges, the header alone of one that refuses or is
 /// busy, and none where there is no plug, or a silent one (USB Power Delivery 3.0, section 6.4.4.3.1).
-#[tactic(auto, unfolding(crate::specs::Identity::answer_of, crate::specs::Identity::header_of, crate::specs::Identity::id_header, crate::specs::Identity::cable_object_of))]
+#[tactic(auto, unfolding(crate::specs::Identity::answer_of, crate::specs::Identity::header_of, crate::specs::Identity::id_header))]
 pub fn answer(cable: &Cable) -> ArrayVec<u32, 7>
     ensures { result.items ≡ answer_of cable.now }
 {

@@ -11,9 +11,13 @@ pub use identity::{Reply, answer, limit_ma, reply_of, request};
 pub enum CablePlug {
     /// There is no plug.
     Absent,
+    /// The plug acknowledges: it says what the cable is.
     Ack,
+    /// The plug refuses to say.
     Nak,
+    /// The plug is to be asked again.
     Busy,
+    /// There is a plug, and it answers nothing.
     Silent,
 }
 

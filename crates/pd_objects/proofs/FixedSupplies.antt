@@ -19,4 +19,9 @@ HasFields-word_of v h =
     }
 
 pub fixed_supply_of-word : (w : ℕ) (v : FixedSupplyData) → HasFields w v → fixed_supply_of w ≡ v
-fixed_supply_of-word w v h = λ i. record { flags = h.flags i; peak_current = h.peak_current i; voltage = h.voltage i; current = h.current i }
+fixed_supply_of-word w v h = λ i. record {
+  flags = h.flags i;
+  peak_current = h.peak_current i;
+  voltage = h.voltage i;
+  current = h.current i;
+}

@@ -20,4 +20,9 @@ HasRequestFields-word_of v h =
 
 pub request_of-word : (w : ℕ) (v : RequestData) → HasRequestFields w v → request_of w ≡ v
 request_of-word w v h =
-    λ i. record { position = h.position i; flags = h.flags i; operating_current = h.operating_current i; maximum_current = h.maximum_current i }
+    λ i. record {
+      position = h.position i;
+      flags = h.flags i;
+      operating_current = h.operating_current i;
+      maximum_current = h.maximum_current i;
+    }

@@ -61,9 +61,19 @@ impl Model for FixedSupply {
 
     ghost view = { λ s. record { flags = s.flags.0; peak_current = s.peak_current; voltage = s.voltage; current = s.current } };
 
-    ghost invariant = { λ s. IsFixedSupply (record { flags = s.flags.0; peak_current = s.peak_current; voltage = s.voltage; current = s.current }) };
+    ghost invariant = { λ s. IsFixedSupply (record {
+      flags = s.flags.0;
+      peak_current = s.peak_current;
+      voltage = s.voltage;
+      current = s.current;
+    }) };
 
-    ghost inverse = { λ v. record { flags = record { 0 = v.flags }; peak_current = v.peak_current; voltage = v.voltage; current = v.current } };
+    ghost inverse = { λ v. record {
+      flags = record { 0 = v.flags };
+      peak_current = v.peak_current;
+      voltage = v.voltage;
+      current = v.current;
+    } };
 }
 
 impl FixedSupply {

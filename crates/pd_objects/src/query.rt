@@ -26,7 +26,7 @@ pub enum Query {
 }
 
 impl Query {
-    /// The same query.
+    /// A copy of the query, which allocates nothing.
     pub fn copy(&self) -> Query
         ensures { result ≡ self.now }
     {
@@ -53,7 +53,7 @@ pub enum Answer {
 }
 
 impl Answer {
-    /// The same answer.
+    /// A copy of the answer, which allocates nothing.
     pub fn copy(&self) -> Answer
         ensures { result ≡ self.now }
     {
@@ -63,7 +63,7 @@ impl Answer {
         }
     }
 
-    /// Whether both are the same.
+    /// Whether both give the same currents, or the same yes or no.
     pub fn same(&self, other: &Answer) -> bool
         ensures { IsTrue result ↔ (self.now ≡ other.now) }
     {

@@ -59,11 +59,26 @@ pub struct RequestObject {
 impl Model for RequestObject {
     ghost Value = { RequestData };
 
-    ghost view = { λ r. record { position = r.position; flags = r.flags.0; operating_current = r.operating_current; maximum_current = r.maximum_current } };
+    ghost view = { λ r. record {
+      position = r.position;
+      flags = r.flags.0;
+      operating_current = r.operating_current;
+      maximum_current = r.maximum_current;
+    } };
 
-    ghost invariant = { λ r. IsRequest (record { position = r.position; flags = r.flags.0; operating_current = r.operating_current; maximum_current = r.maximum_current }) };
+    ghost invariant = { λ r. IsRequest (record {
+      position = r.position;
+      flags = r.flags.0;
+      operating_current = r.operating_current;
+      maximum_current = r.maximum_current;
+    }) };
 
-    ghost inverse = { λ v. record { position = v.position; flags = record { 0 = v.flags }; operating_current = v.operating_current; maximum_current = v.maximum_current } };
+    ghost inverse = { λ v. record {
+      position = v.position;
+      flags = record { 0 = v.flags };
+      operating_current = v.operating_current;
+      maximum_current = v.maximum_current;
+    } };
 }
 
 impl RequestObject {
@@ -74,8 +89,18 @@ impl RequestObject {
         operating_current: u16,
         maximum_current: u16,
     ) -> RequestObject
-        requires { IsRequest (record { position = position; flags = flags.0; operating_current = operating_current; maximum_current = maximum_current }) }
-        ensures { result ≡ record { position = position; flags = flags.0; operating_current = operating_current; maximum_current = maximum_current } }
+        requires { IsRequest (record {
+          position = position;
+          flags = flags.0;
+          operating_current = operating_current;
+          maximum_current = maximum_current;
+        }) }
+        ensures { result ≡ record {
+          position = position;
+          flags = flags.0;
+          operating_current = operating_current;
+          maximum_current = maximum_current;
+        } }
     {
         RequestObject {
             position,

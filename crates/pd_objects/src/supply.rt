@@ -50,7 +50,7 @@ impl Supply {
         self.ma
     }
 
-    /// Whether both are the same.
+    /// Whether both are of the same voltage and current.
     pub fn same(&self, other: &Supply) -> bool
         ensures { IsTrue result ↔ (self.now ≡ other.now) }
     {

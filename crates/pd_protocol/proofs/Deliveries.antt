@@ -1,5 +1,6 @@
 -- What the layer's rules come to.
-use Rattle.std.proofs.Common.{◌≡◌, ◌==◌, ℕ, zero, suc, ◌+◌, ◌%◌, ◌^◌, ◌<◌, ◌≤◌, nat_lt, Bool, true, false, if◌then◌else◌, Option, Some, refl, sym, ap, ◌∙◌, arith}
+use Rattle.std.proofs.Common.{◌≡◌, ◌==◌, ℕ, zero, suc, ◌+◌, ◌%◌, ◌^◌, ◌<◌, ◌≤◌, nat_lt, Bool, true, false, if◌then◌else◌, Option}
+use Rattle.std.proofs.Common.{Some, refl, sym, ap, ◌∙◌, arith}
 use Rattle.std.proofs.lemmas.Bool.{eq-eqb, lt-ltb, le-ltb}
 use Rattle.pd_packet.specs.Contents.{Contents}
 use Rattle.pd_header.specs.declared.side.Side.{Side}
@@ -28,11 +29,13 @@ ended : (l : LayerRecord) (p : Contents) (n : ℕ) → IsFree l → closed (wait
 ended l p n free = ap (λ (o : Option OutstandingData). record l { next_id = (l.next_id + 1) % 8; outstanding = o }) (sym free)
 
 -- a GoodCRC of that ID, by the test's answer
-answered : (l : LayerRecord) (p : Contents) (id : ℕ) → id_of p.header == id ≡ true → good_crc (waiting l p 1) id ≡ (closed (waiting l p 1), Sent)
+answered : (l : LayerRecord) (p : Contents) (id : ℕ) → id_of p.header == id ≡ true
+    → good_crc (waiting l p 1) id ≡ (closed (waiting l p 1), Sent)
 unfolding good_crc
 answered l p id e = ap (λ (c : Bool). if c then (closed (waiting l p 1), Sent) else (waiting l p 1, Idle)) e
 
-same_id : (hearer : Side) (answering : ℕ) (p : Contents) → answering < 2 ^ 2 → id_of p.header ≡ id_of (acknowledges hearer answering p).header
+same_id : (hearer : Side) (answering : ℕ) (p : Contents) → answering < 2 ^ 2
+    → id_of p.header ≡ id_of (acknowledges hearer answering p).header
 unfolding acknowledges packet_of id_of
 same_id hearer answering p fits = sym (id_is hearer p.channel answering (id_of p.header) 1 0 fits (omega arith) (omega arith) (omega arith))
 
@@ -57,7 +60,8 @@ failed : (l : LayerRecord) (p : Contents) (n : ℕ) → tries_of p.header ≤ n 
 failed l p n le = timed l p n false (le-ltb n (tries_of p.header) le)
 
 -- n time-outs after the first try, the packet went out n + 1 times
-went_out : (l : LayerRecord) (p : Contents) (k : LayerRecord) (n : ℕ) → k ≡ waiting l p 1 → n < tries_of p.header → after_timeouts n k ≡ waiting l p (n + 1)
+went_out : (l : LayerRecord) (p : Contents) (k : LayerRecord) (n : ℕ) → k ≡ waiting l p 1 → n < tries_of p.header
+    → after_timeouts n k ≡ waiting l p (n + 1)
 went_out l p k zero e lt = e
 went_out l p k (suc n) e lt =
     let more : n + 1 < tries_of p.header = omega arith in

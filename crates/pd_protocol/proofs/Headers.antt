@@ -10,7 +10,12 @@ pub count_is : (side : Side) (channel : Channel) (revision id kind count : ℕ) 
     → count_of (header_of side channel revision id kind count) ≡ count
 unfolding header_of
 count_is side channel revision id kind count r i k n =
-    count_packed (header_data side channel revision id kind count) (record { count_fits = n; id_fits = i; revision_fits = r; kind_fits = k })
+    count_packed (header_data side channel revision id kind count) (record {
+      count_fits = n;
+      id_fits = i;
+      revision_fits = r;
+      kind_fits = k;
+    })
 
 pub id_is : (side : Side) (channel : Channel) (revision id kind count : ℕ) → revision < 2 ^ 2 → id < 2 ^ 3 → kind < 2 ^ 5 → count < 2 ^ 3
     → id_of (header_of side channel revision id kind count) ≡ id

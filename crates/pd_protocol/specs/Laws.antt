@@ -24,7 +24,8 @@ answer_to hearer answering l revision m = acknowledges hearer answering (first_p
 -- The GoodCRC that acknowledges a message's packet ends it, and the next message has the next ID.
 abbrev pub AnsweredIsSent : Type 0
 AnsweredIsSent = (l : LayerRecord) (revision answering : ℕ) (m : MessageData) (hearer : Side) → IsFree l → answering < 2 ^ 2
-    → good_crc (submit l revision m).0 (id_of (answer_to hearer answering l revision m).header) ≡ (record l { next_id = (l.next_id + 1) % 8 }, Sent)
+    → good_crc (submit l revision m).0 (id_of (answer_to hearer answering l revision m).header)
+    ≡ (record l { next_id = (l.next_id + 1) % 8 }, Sent)
 
 -- after so many time-outs
 abbrev pub after_timeouts : ℕ → LayerRecord → LayerRecord

@@ -18,11 +18,11 @@ fresh side channel = record { side = side; channel = channel; next_id = 0; store
 unfoldable pub reset : LayerRecord → LayerRecord
 reset l = fresh l.side l.channel
 
--- how often a packet is sent at most: nRetryCount is 3 in revision 2.0 and 2 in revision 3.0
+-- how often a packet is sent at most: once and nRetryCount times again, which is 3 in revision 2.0 and 2 in revision 3.0
 unfoldable pub tries_of : ℕ → ℕ
 tries_of header = if revision_of header == 1 then 4 else 3
 
--- the outstanding message is done with, and the next ID rises, 7 being followed by 0
+-- the outstanding message is done with, and the next ID (MessageIDCounter) rises, 7 (nMessageIDCount) being followed by 0
 abbrev pub closed : LayerRecord → LayerRecord
 closed l = record l { next_id = (l.next_id + 1) % 8; outstanding = None }
 
@@ -51,7 +51,8 @@ tried_again (Some o) l =
     then (record l { outstanding = Some (record o { tries = o.tries + 1 }) }, Retry o.packet)
     else (closed l, Failed)
 
--- after a time-out the same packet goes out again, and after the last of its tries it has failed
+-- after a time-out (of the CRCReceiveTimer, tReceive) the same packet goes out again, and after the last of its tries it has
+-- failed
 unfoldable pub timed_out : LayerRecord → LayerRecord × LayerAct
 timed_out l = tried_again l.outstanding l
 

@@ -9,6 +9,8 @@ pub record OutstandingData : Type 0 where
   pub packet : Contents
   pub tries : ℕ
 
+-- the next ID (the standard's MessageIDCounter), the ID that came last, and the message that waits for its GoodCRC, with its
+-- tries (one more than the standard's RetryCounter)
 pub record LayerRecord : Type 0 where
   pub side : Side
   pub channel : Channel

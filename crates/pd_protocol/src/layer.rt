@@ -28,7 +28,8 @@ pub enum LayerAct {
     Repeat,
 }
 
-/// The layer of one side on one channel: the next ID, the ID that came last, and the packet that waits for its GoodCRC
+/// The layer of one side on one channel: the next ID (the standard's MessageIDCounter), the ID that came last (its stored
+/// MessageID), and the packet that waits for its GoodCRC with its tries (its RetryCounter, up to nRetryCount retries)
 /// (USB Power Delivery 3.0, sections 6.7 and 6.8.1).
 #[derive(Debug, Drop)]
 pub struct Layer {
@@ -42,12 +43,19 @@ pub struct Layer {
 impl Model for Layer {
     ghost Value = { LayerRecord };
 
-    ghost view = { λ l. record { side = l.side; channel = l.channel; next_id = l.next_id; stored_id = l.stored_id; outstanding = l.outstanding } };
+    ghost view = { λ l. record {
+      side = l.side;
+      channel = l.channel;
+      next_id = l.next_id;
+      stored_id = l.stored_id;
+      outstanding = l.outstanding;
+    } };
 
     ghost invariant = { λ l. l.next_id < 2 ^ 3 };
 }
 
-/// How often a packet with this header is sent at most.
+/// How often a packet with this header is sent at most: once and nRetryCount times again, which is 3 in revision 2.0 and 2
+/// in revision 3.0.
 #[tactic(auto, unfolding(crate::specs::Layer::tries_of))]
 fn tries_of(header: u16) -> u8
     ensures { result ≡ tries_of header }
@@ -70,7 +78,7 @@ impl Layer {
         }
     }
 
-    /// Whether both are the same.
+    /// Whether both are of the same side and channel, with the same counters and the same packet outstanding.
     pub fn same(&self, other: &Layer) -> bool
         ensures { IsTrue result ↔ (self.now ≡ other.now) }
     {
@@ -81,7 +89,7 @@ impl Layer {
             && same_outstanding(&self.outstanding, &other.outstanding)
     }
 
-    /// An equal one.
+    /// A copy of the layer, which allocates nothing.
     pub fn copy(&self) -> Layer
         ensures { result ≡ self.now }
     {
@@ -142,7 +150,7 @@ impl Layer {
         }
     }
 
-    /// What comes of a GoodCRC that did not come in time: Retry, Failed, or Idle where no message is outstanding.
+    /// What comes of a GoodCRC that did not come in time, which is when the CRCReceiveTimer (tReceive) has run out: Retry, Failed, or Idle where no message is outstanding.
     #[tactic(auto, unfolding(crate::specs::Layer::timed_out))]
     pub fn timed_out(&mut self) -> LayerAct
         ensures after { self.new ≡ (timed_out self.old).0 }

@@ -2,7 +2,8 @@
 
 ghost use Rattle.std.specs.Prelude.{◌≡◌, ◌↔◌, ◌<◌, ◌≤◌, ◌^◌, IsTrue, length};
 ghost use Rattle.pd_header.specs.Kinds.{number_of};
-ghost use Rattle.pd_protocol.specs.Messages.{IsMessage, MessageData, acknowledges, control, data_role_of, header_of, message_of, packet_of, role_of};
+ghost use Rattle.pd_protocol.specs.Messages.{IsMessage, MessageData, acknowledges, control, data_role_of, header_of, message_of};
+ghost use Rattle.pd_protocol.specs.Messages.{packet_of, role_of};
 
 use arrayvec::ArrayVec;
 use pd_header::{Header, Kind, Side, header_id};
@@ -70,14 +71,14 @@ impl Message {
         objects
     }
 
-    /// Whether both are the same.
+    /// Whether both are of the same type with the same objects.
     pub fn same(&self, other: &Message) -> bool
         ensures { IsTrue result ↔ (self.now ≡ other.now) }
     {
         self.objects == other.objects && self.kind == other.kind
     }
 
-    /// An equal one, at no cost in memory.
+    /// A copy of the message, which allocates nothing.
     pub fn copy(&self) -> Message
         ensures { result ≡ self.now }
     {

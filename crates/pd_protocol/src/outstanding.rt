@@ -6,7 +6,7 @@ ghost use Rattle.pd_protocol.specs.LayerRecord.{OutstandingData};
 use pd_packet::Packet;
 use std::marker::Model;
 
-/// A packet that waits for its GoodCRC, and how often it was sent.
+/// A packet that waits for its GoodCRC, and how often it was sent: one more than the standard's RetryCounter.
 #[derive(Debug, Drop)]
 pub struct Outstanding {
     pub packet: Packet,
@@ -20,14 +20,14 @@ impl Model for Outstanding {
 }
 
 impl Outstanding {
-    /// Whether both are the same.
+    /// Whether both are the same packet, sent as often.
     pub fn same(&self, other: &Outstanding) -> bool
         ensures { IsTrue result ↔ (self.now ≡ other.now) }
     {
         self.tries == other.tries && self.packet.same(&other.packet)
     }
 
-    /// An equal one.
+    /// A copy, which allocates nothing.
     pub fn copy(&self) -> Outstanding
         ensures { result ≡ self.now }
     {
@@ -38,7 +38,7 @@ impl Outstanding {
     }
 }
 
-/// Whether both are the same.
+/// Whether nothing is outstanding in both, or the same packet, sent as often.
 pub fn same_outstanding(one: &Option<Outstanding>, other: &Option<Outstanding>) -> bool
     ensures { IsTrue result ↔ (one.now ≡ other.now) }
 {
@@ -49,7 +49,7 @@ pub fn same_outstanding(one: &Option<Outstanding>, other: &Option<Outstanding>) 
     }
 }
 
-/// An equal one.
+/// A copy of what is outstanding.
 pub fn copy_outstanding(outstanding: &Option<Outstanding>) -> Option<Outstanding>
     ensures { result ≡ outstanding.now }
 {

@@ -1,5 +1,6 @@
 -- Laws of hexadecimal digits.
-use Rattle.std.proofs.Common.{◌≡◌, ℕ, zero, suc, ◌+◌, ◌-◌, ◌*◌, ◌/◌, ◌%◌, ◌^◌, ◌<◌, List, [], ◌∷◌, ◌++◌, map, reverse, length, drop, refl, sym, ap, ◌∙◌, arith, pow-suc}
+use Rattle.std.proofs.Common.{◌≡◌, ℕ, zero, suc, ◌+◌, ◌-◌, ◌*◌, ◌/◌, ◌%◌, ◌^◌, ◌<◌, List, [], ◌∷◌, ◌++◌, map, reverse, length, drop}
+use Rattle.std.proofs.Common.{refl, sym, ap, ◌∙◌, arith, pow-suc}
 use Rattle.std.specs.Prelude.{slice_set}
 use Rattle.std.proofs.lemmas.Grind.{drop-set_at}
 use Rattle.std.proofs.lemmas.List.{reverse-append}
@@ -8,7 +9,8 @@ use Rattle.pd_symbols.specs.Words.{nibbles}
 use Rattle.pd_symbols.specs.Hex.{hex_digit, hex_digits}
 
 shift_once : (k n : ℕ) → n / 16 / 16 ^ k ≡ n / 16 ^ suc k
-shift_once k n = let e : 16 * 16 ^ k ≡ 16 ^ suc k = omega (arith, pow-suc 16 k) in div-div-eq-div-mul n 16 (16 ^ k) ∙ ap (λ (m : ℕ). n / m) e
+shift_once k n = let e : 16 * 16 ^ k ≡ 16 ^ suc k = omega (arith, pow-suc 16 k) in
+    div-div-eq-div-mul n 16 (16 ^ k) ∙ ap (λ (m : ℕ). n / m) e
 
 nibbles-push : (k n : ℕ) → nibbles (suc k) n ≡ nibbles k n ++ n / 16 ^ k % 16 ∷ []
 unfolding nibbles
@@ -29,7 +31,8 @@ unfolding hex_digits nibbles
 hex_digits-none n = refl
 
 -- The lowest digits stand last, and the next one goes before them.
-pub put_before : (xs ds : List ℕ) (k i d : ℕ) → length xs ≡ k → i < k → drop (k - i) xs ≡ ds → drop (k - (i + 1)) (slice_set xs (k - 1 - i) d) ≡ d ∷ ds
+pub put_before : (xs ds : List ℕ) (k i d : ℕ) → length xs ≡ k → i < k → drop (k - i) xs ≡ ds
+    → drop (k - (i + 1)) (slice_set xs (k - 1 - i) d) ≡ d ∷ ds
 put_before xs ds k i d long lt low =
     let next : k - 1 - i + 1 ≡ k - i = omega arith in
     drop-set_at xs (k - 1 - i) (k - (i + 1)) d (omega arith) (omega arith)

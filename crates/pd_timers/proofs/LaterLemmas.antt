@@ -6,7 +6,8 @@ use Rattle.pd_timers.specs.Timers.{place, value_of}
 use Rattle.pd_timers.specs.Deadlines.{deadline, started, stopped, idle, SetsLater}
 
 -- a deadline after one was written is an old one or the one that was written
-set-later : (now : ℕ) (d : List (Option ℕ)) (i j v at : ℕ) → now < v → get_or (set d i (Some v)) j None ≡ Some at → (get_or d j None ≡ Some at) ⊎ (now < at)
+set-later : (now : ℕ) (d : List (Option ℕ)) (i j v at : ℕ) → now < v → get_or (set d i (Some v)) j None ≡ Some at
+    → (get_or d j None ≡ Some at) ⊎ (now < at)
 set-later now [] i j v at lt h = inl h
 set-later now (x ∷ xs) zero zero v at lt h = let e : v ≡ at = cc in inr (omega arith)
 set-later now (x ∷ xs) zero (suc j) v at lt h = inl h

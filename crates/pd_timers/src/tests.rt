@@ -1,22 +1,22 @@
-//! How long each timer runs, from the written table of the timers.
+//! How long each timer runs, from the written table of the timers, with the standard's parameters.
 
 use super::*;
 
 /// Each timer and its microseconds, in the order of ties.
 const TABLE: [(Timer, u32); 14] = [
     (Timer::Delay, 2_000),
-    (Timer::SenderResponse, 27_000),
-    (Timer::VdmResponse, 27_000),
-    (Timer::SourceCapability, 150_000),
-    (Timer::SinkWaitCap, 465_000),
-    (Timer::DiscoverIdentity, 45_000),
-    (Timer::SrcTransition, 30_000),
+    (Timer::SenderResponse, 27_000), // tSenderResponse
+    (Timer::VdmResponse, 27_000), // tVDMSenderResponse
+    (Timer::SourceCapability, 150_000), // tTypeCSendSourceCap
+    (Timer::SinkWaitCap, 465_000), // tTypeCSinkWaitCap
+    (Timer::DiscoverIdentity, 45_000), // tDiscoverIdentity
+    (Timer::SrcTransition, 30_000), // tSrcTransition
     (Timer::Settling, 100_000),
-    (Timer::PsTransition, 500_000),
-    (Timer::PsHardReset, 30_000),
-    (Timer::SrcRecover, 800_000),
+    (Timer::PsTransition, 500_000), // tPSTransition
+    (Timer::PsHardReset, 30_000), // tPSHardReset
+    (Timer::SrcRecover, 800_000), // tSrcRecover
     (Timer::TurnOn, 50_000),
-    (Timer::SinkRequest, 100_000),
+    (Timer::SinkRequest, 100_000), // tSinkRequest
     (Timer::OfferPoll, 500_000),
 ];
 
