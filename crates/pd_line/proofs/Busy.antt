@@ -1,5 +1,5 @@
 -- The line starts nothing while it is busy, and the engines leave it.
-use Rattle.std.proofs.Common.{◌≡◌, ◌⊎◌, inl, inr, ℕ, false, refl, ◌∙◌, ap}
+use Rattle.std.proofs.Common.{◌≡◌, ◌⊎◌, inl, inr, ℕ, Bool, true, false, if◌then◌else◌, Result, Ok, Err, refl, ◌∙◌, ap}
 use Rattle.pd_symbols.specs.declared.channel.Channel.{Channel}
 use Rattle.pd_symbols.specs.declared.channel.Channel.TheVariants.{Sop, SopPrime}
 use Rattle.pd_header.specs.declared.side.Side.{Side}
@@ -7,6 +7,7 @@ use Rattle.pd_header.specs.declared.side.Side.TheVariants.{Source, Sink, Plug}
 use Rattle.pd_header.specs.Kinds.{kind_of_header}
 use Rattle.pd_packet.specs.Contents.{Contents}
 use Rattle.pd_protocol.specs.Layer as layer
+use Rattle.pd_protocol.specs.Messages.{MessageData}
 use Rattle.pd_protocol.specs.LayerRecord.{LayerRecord}
 use Rattle.pd_protocol.specs.declared.layer.LayerAct.{LayerAct}
 use Rattle.pd_protocol.specs.declared.layer.LayerAct.TheVariants as answer
@@ -24,13 +25,16 @@ use Rattle.pd_line.specs.declared.notes.Fault.{Fault}
 use Rattle.pd_line.specs.declared.notes.Fault.TheVariants.{NoGoodCrc}
 use Rattle.pd_line.specs.declared.port_parts.Line.{Line}
 use Rattle.pd_line.specs.declared.port_parts.Line.TheVariants.{Idle, Message, Pause, GoodCrc, NoAnswer, HardReset}
+use Rattle.pd_line.specs.declared.port_parts.Waiting.{Waiting}
+use Rattle.pd_line.specs.declared.port_parts.Waiting.TheVariants as waits
 use Rattle.pd_line.specs.declared.port_step.PortStep.{PortStep}
 use Rattle.pd_line.specs.PortStep.{with_layer, on_layer, timed_out_on, noted, sink_steps, plug_steps, source_after, source_steps}
-use Rattle.pd_line.specs.PortStep.{tells_timer}
+use Rattle.pd_line.specs.PortStep.{tells_timer, wait, submit_on}
 use Rattle.pd_line.specs.Lines.{with_line, started, packet_starts, good_crc_starts, after_time_out, times_out, line_ends_at}
-use Rattle.pd_line.specs.Lines.{line_ends, is_idle, line_starts}
+use Rattle.pd_line.specs.Lines.{line_ends, is_idle, is_waiting, line_starts, start_on, channel_for, revision_on, waiting_on}
+use Rattle.pd_line.specs.Lines.{submitted, message_starts, hard_reset_starts, waiting_starts, side_starts}
 use Rattle.pd_line.proofs.Kept.{sink_acts_kept, plug_acts_kept, source_acts_kept, noted_kept, tells_failed_kept}
-use Rattle.pd_line.proofs.Kept.{message_ends_kept, good_crc_ends_kept, hard_reset_ends_kept}
+use Rattle.pd_line.proofs.Kept.{wait_kept, message_ends_kept, good_crc_ends_kept, hard_reset_ends_kept}
 use Rattle.pd_line.proofs.Parts.{Kept, of_any, Watched, sink_after, plug_after}
 
 -- while the line is busy, nothing starts
@@ -127,9 +131,14 @@ starts_none t =
       start = λ s. absurd s;
     }
 
+-- the line is busy with what has started
+pub record IsOnLine (v : PortStep) : Type 0 where
+  pub busy : is_idle v.port.line ≡ false
+  pub same : v.start ≡ start_on v.port.line
+
 -- what a step starts: nothing, or else the line is busy with it
 abbrev pub StartsOne : PortStep → PortStep → Type 0
-StartsOne w v = (v.start ≡ w.start) ⊎ (is_idle v.port.line ≡ false)
+StartsOne w v = (v.start ≡ w.start) ⊎ IsOnLine v
 
 -- after something that starts nothing
 then_one : (w v u : PortStep) → v.start ≡ w.start → StartsOne v u → StartsOne w u
@@ -138,11 +147,11 @@ then_one w v u e (inr h) = inr h
 
 packet_starts_one : (side : Side) (p : Contents) (t : ℕ) (w : PortStep) → StartsOne w (packet_starts side p t w)
 unfolding packet_starts started with_line
-packet_starts_one side p t w = inr refl
+packet_starts_one side p t w = inr (record { busy = refl; same = refl })
 
 good_crc_starts_one : (side : Side) (p : Contents) (t : ℕ) (w : PortStep) → StartsOne w (good_crc_starts side p t w)
 unfolding good_crc_starts started with_line
-good_crc_starts_one side p t w = inr refl
+good_crc_starts_one side p t w = inr (record { busy = refl; same = refl })
 
 on_layer_start : (A : Type 0) (side : Side) (channel : Channel) (call : LayerRecord → LayerRecord × A)
     (w : PortStep) → (on_layer side channel call w).0.start ≡ w.start
@@ -175,6 +184,47 @@ line_ends_at_one (HardReset side end) t w = inl (hard_reset_ends_kept t (starts_
 
 pub line_ends_one : (t : ℕ) (w : PortStep) → StartsOne w (line_ends t w)
 unfolding line_ends
-line_ends_one t w = let v =
-    with_line Idle w in
+line_ends_one t w =
+    let v = with_line Idle w in
     then_one w v (line_ends_at w.port.line t v) (line_start Idle w) (line_ends_at_one w.port.line t v)
+
+submitted_one : (side : Side) (t : ℕ) (w : PortStep) (r : Result Contents MessageData) → StartsOne w (submitted side t (w, r))
+submitted_one side t w (Ok p) = packet_starts_one side p t w
+submitted_one side t w (Err m) = inl (wait_kept t (starts_none t) side (waits.Message m) w)
+
+message_starts_one : (side : Side) (m : MessageData) (t : ℕ) (w : PortStep) → StartsOne w (message_starts side m t w)
+unfolding message_starts submit_on
+message_starts_one side m t w =
+    let channel = channel_for side m.kind in
+    let call : LayerRecord → LayerRecord × Result Contents MessageData = λ l. layer.submit l (revision_on side channel w) m in
+    let r = on_layer side channel call w in
+    then_one w r.0 (submitted side t (r.0, r.1)) (on_layer_start (Result Contents MessageData) side channel call w)
+    (submitted_one side t r.0 r.1)
+
+hard_reset_starts_one : (side : Side) (t : ℕ) (w : PortStep) → StartsOne w (hard_reset_starts side t w)
+unfolding hard_reset_starts started with_line
+hard_reset_starts_one side t w = inr (record { busy = refl; same = refl })
+
+waiting_starts_one : (side : Side) (t : ℕ) (x : Waiting) (w : PortStep) → StartsOne w (waiting_starts side t x w)
+waiting_starts_one side t waits.Nothing w = inl refl
+waiting_starts_one side t (waits.Message m) w = message_starts_one side m t w
+waiting_starts_one side t waits.HardReset w = hard_reset_starts_one side t w
+
+side_starts_one : (side : Side) (t : ℕ) (w : PortStep) → StartsOne w (side_starts side t w)
+unfolding side_starts
+side_starts_one side t w =
+    let v = wait side waits.Nothing w in
+    then_one w v (waiting_starts side t (waiting_on side w) v) (wait_kept t (starts_none t) side waits.Nothing w)
+    (waiting_starts_one side t (waiting_on side w) v)
+
+either_one : (b : Bool) (w v u : PortStep) → StartsOne w v → StartsOne w u → StartsOne w (if b then v else u)
+either_one true w v u h k = h
+either_one false w v u h k = k
+
+pub line_starts_one : (t : ℕ) (w : PortStep) → StartsOne w (line_starts t w)
+unfolding line_starts
+line_starts_one t w =
+    let plug = either_one (is_waiting w.port.plug_waits) w _ w (side_starts_one Plug t w) (inl refl) in
+    let sink = either_one (is_waiting w.port.sink_waits) w _ _ (side_starts_one Sink t w) plug in
+    let all = either_one (is_waiting w.port.source_waits) w _ _ (side_starts_one Source t w) sink in
+    either_one (is_idle w.port.line) w _ w all (inl refl)

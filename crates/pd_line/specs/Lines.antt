@@ -98,6 +98,13 @@ with_line line w = with_port (record w.port { line = line }) w
 unfoldable pub started : Start → PortStep → PortStep
 started s w = record w { start = Some s }
 
+-- what a step has started that leaves this on the line
+abbrev pub start_on : Line → Option Start
+start_on (Message side p fate end) = Some (start.Packet side p fate)
+start_on (GoodCrc side p a fate end) = Some (start.Packet (receiver side p.channel) a fate)
+start_on (HardReset side end) = Some (start.HardReset side)
+start_on line = None
+
 -- what a disturbance makes of a packet
 abbrev pub fate_of : Disturbance → Fate
 fate_of disturbance.Lost = LostOnTheWay

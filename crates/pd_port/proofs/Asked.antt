@@ -1,26 +1,14 @@
 -- What a port asks is what its source's engine asks: the step steps it once, with what `source_told` says.
 use Rattle.std.proofs.Common.{◌≡◌, ℕ, Bool, true, false, is_some, if◌then◌else◌, nat_lt, ◌++◌, [], ◌∷◌, length, Option, Some}
-use Rattle.std.proofs.Common.{None, option_and_then, refl, ◌∙◌, sym, ap, subst}
-use Rattle.pd_symbols.specs.declared.channel.Channel.{Channel}
-use Rattle.pd_symbols.specs.declared.channel.Channel.TheVariants.{Sop, SopPrime}
+use Rattle.std.proofs.Common.{None, refl, ◌∙◌, sym, ap}
 use Rattle.pd_header.specs.declared.side.Side.{Side}
 use Rattle.pd_header.specs.declared.side.Side.TheVariants.{Source, Sink, Plug}
-use Rattle.pd_header.specs.Header.{id_of}
-use Rattle.pd_header.specs.Kinds.{kind_of_header}
 use Rattle.pd_identity.specs.declared.Cable.{Cable}
-use Rattle.pd_packet.specs.Contents.{Contents}
-use Rattle.pd_packet.specs.Hearing.{heard}
-use Rattle.pd_packet.specs.declared.fate.Fate.{Fate}
 use Rattle.pd_timers.specs.declared.Timer.{Timer}
 use Rattle.pd_objects.specs.declared.query.Answer.{Answer}
 use Rattle.pd_objects.specs.declared.query.Answer.TheVariants as answers
-use Rattle.pd_protocol.specs.Layer as layer
-use Rattle.pd_protocol.specs.LayerRecord.{LayerRecord}
-use Rattle.pd_protocol.specs.declared.layer.LayerAct.{LayerAct}
-use Rattle.pd_protocol.specs.declared.layer.LayerAct.TheVariants as answer
-use Rattle.pd_source.specs.Record.{SourceRecord, SourceData, off}
+use Rattle.pd_source.specs.Record.{off}
 use Rattle.pd_source.specs.Step as source
-use Rattle.pd_source.specs.declared.kinds.Sent.TheVariants as sent
 use Rattle.pd_source.specs.declared.kinds.Stimulus.{Stimulus}
 use Rattle.pd_source.specs.declared.kinds.Stimulus.TheVariants as told
 use Rattle.pd_setup.specs.Sinks.{SinkData}
@@ -31,44 +19,33 @@ use Rattle.pd_setup.specs.declared.event.EventKind.TheVariants.{Attach, Detach, 
 use Rattle.pd_setup.specs.declared.event.Happening.{Happening}
 use Rattle.pd_setup.specs.declared.event.Happening.TheVariants.{Port, Budget}
 use Rattle.pd_setup.specs.Settings.{SettingsData}
-use Rattle.pd_line.specs.declared.notes.Fault.TheVariants.{NoGoodCrc, Ignored}
+use Rattle.pd_line.specs.declared.notes.Fault.TheVariants.{Ignored}
 use Rattle.pd_line.specs.declared.port_parts.Disturbance.{Disturbance}
 use Rattle.pd_line.specs.declared.port_parts.Disturbance.TheVariants.{Lost, Damaged}
-use Rattle.pd_line.specs.declared.port_parts.PortParts.{PortParts}
-use Rattle.pd_line.specs.declared.port_parts.Line.{Line}
-use Rattle.pd_line.specs.declared.port_parts.Line.TheVariants.{Idle, Message, Pause, GoodCrc, NoAnswer, HardReset}
 use Rattle.pd_line.specs.declared.port_step.PortStep.{PortStep}
 use Rattle.pd_line.specs.Record.{without_settings, nothing_attached}
-use Rattle.pd_line.specs.Told.{sent_as, source_hears_as}
-use Rattle.pd_line.specs.PortStep.{with_port, noted, layer_on, on_layer, good_crc_on, timed_out_on, received_on, sink_steps}
-use Rattle.pd_line.specs.PortStep.{plug_steps, source_steps, tells_sent, tells_failed, tells_message, tells_reset, tells_timer}
+use Rattle.pd_line.specs.PortStep.{with_port, noted, sink_steps}
+use Rattle.pd_line.specs.PortStep.{plug_steps, source_steps, tells_timer}
 use Rattle.pd_line.specs.PortStep.{tells_attach}
-use Rattle.pd_line.specs.Lines.{with_line, receiver, hears, told_sent, acknowledged, told_message, goes_up, good_crc_ends}
-use Rattle.pd_line.specs.Lines.{after_time_out, times_out, waiting_dropped, layers_reset, hears_reset, all_hear_reset}
-use Rattle.pd_line.specs.Lines.{hard_reset_ends, line_ends_at, line_ends, line_starts}
-use Rattle.pd_line.proofs.Kept.{choice, noted_kept, sink_steps_kept, plug_steps_kept, tells_sent_kept, packet_starts_kept}
-use Rattle.pd_line.proofs.Kept.{good_crc_starts_kept, message_ends_kept, acknowledged_kept, goes_up_kept, times_out_kept}
-use Rattle.pd_line.proofs.Kept.{waiting_dropped_kept, layers_reset_kept, hears_reset_kept, attached_kept, line_starts_kept}
-use Rattle.pd_line.proofs.Parts.{OfSource, unanswered}
-use Rattle.pd_line.proofs.Source.{acknowledged_layer, line_layer, tells_timer_spares, Spares, SparesWith, spares, none, joins}
-use Rattle.pd_line.proofs.Source.{on_layer_spares, source_steps_step, line_spares, sparing}
+use Rattle.pd_line.specs.Lines.{line_starts}
+use Rattle.pd_line.proofs.Kept.{choice, noted_kept, sink_steps_kept, plug_steps_kept}
+use Rattle.pd_line.proofs.Kept.{attached_kept, line_starts_kept}
+use Rattle.pd_line.proofs.Parts.{unanswered}
+use Rattle.pd_line.proofs.Source.{tells_timer_spares, Spares, spares}
+use Rattle.pd_line.proofs.Source.{source_steps_step, sparing}
 use Rattle.pd_port.specs.declared.due.Due.{Due}
 use Rattle.pd_port.specs.declared.due.What.{What}
 use Rattle.pd_port.specs.declared.due.What.TheVariants as what
 use Rattle.pd_port.specs.declared.entry.Entry.{Entry}
 use Rattle.pd_port.specs.Laws.{source_after_told, source_after}
 use Rattle.pd_port.specs.Happens.{detaches, disturbs, gets_source, gets_sink, happens_attached, happens_detached, shed, budget_changes}
-use Rattle.pd_port.specs.SourceTold.{source_layer, told_if_sent, told_if_up, told_if_failed, told_of_good_crc, told_at_good_crc}
-use Rattle.pd_port.specs.SourceTold.{told_at_time_out, told_of_reset, told_by_line, told_attached, told_detached, source_told}
+use Rattle.pd_port.specs.SourceTold.{told_attached, told_detached, source_told}
 use Rattle.pd_port.specs.SourceTold.{told_if_shed}
 use Rattle.pd_port.specs.Changes.{contract_change}
 use Rattle.pd_port.specs.Port.{PortRecord, happens, begun, portstep, whole, source_settings, record_after, entry_of, ask, asks}
-use Rattle.pd_port.proofs.SourceTold.{Becomes, AsksNothing, Tells, spares_tell, source_steps_tell, becomes_first, told_first}
-use Rattle.pd_port.proofs.SourceTold.{after_spared, told_then, told_then_with, HasLayers, its_layers, retold, told_sent_tells}
-use Rattle.pd_port.proofs.SourceTold.{told_message_tells, after_time_out_tells, acknowledged_tells, goes_up_tells, others_hear}
-use Rattle.pd_port.proofs.SourceTold.{any_touches, other_good_crc_tells, good_crc_ends_tells, times_out_tells, reset_spares}
-use Rattle.pd_port.proofs.SourceTold.{own_reset_tells, told_if_hears, source_gets_reset, source_hears_reset, other_reset_tells}
-use Rattle.pd_port.proofs.SourceTold.{hard_reset_tells, line_ends_at_tells, line_ends_tells}
+use Rattle.pd_port.proofs.SourceTold.{Becomes, Tells, spares_tell, source_steps_tell, becomes_first, told_first}
+use Rattle.pd_port.proofs.SourceTold.{told_then}
+use Rattle.pd_port.proofs.SourceTold.{line_ends_tells}
 
 timer_tells : (side : Side) (timer : Timer) (t : ℕ) (w : PortStep) →
     Tells t (source_told (what.Timer side timer) w.port) w (tells_timer side timer t w) (tells_timer side timer t (unanswered w))

@@ -96,8 +96,8 @@ portstep_line r d given h n m =
     let e = portstep-busy r d given (ap is_idle k.line ∙ h) in
     record { line = ap (λ (x : PortStep). x.port.line) e ∙ k.line; start = ap (λ (x : PortStep). x.start) e ∙ k.start }
 
-pub record_after-line : (s : SettingsData) (r : PortRecord) (d : Due) (given : Option Answer) → is_idle r.line
-    ≡ false → is_line d.what ≡ false →
+pub record_after-line : (s : SettingsData) (r : PortRecord) (d : Due) (given : Option Answer) →
+    is_idle r.line ≡ false → is_line d.what ≡ false →
     is_detach d.what ≡ false → (record_after s r d given).line ≡ r.line
 unfolding record_after
 record_after-line s r d given h n m = (portstep_line (whole s r) d given h n m).line
@@ -121,7 +121,7 @@ event_start : (h : Happening) (t : ℕ) (w : PortStep) → (event_happens h t w)
 event_start (Port id k) t w = kind_start id k t w
 event_start Budget t w = (event_line Budget t w refl).start
 
-happens_one : (x : What) (t : ℕ) (w : PortStep) → StartsOne w (happens x t w)
+pub happens_one : (x : What) (t : ℕ) (w : PortStep) → StartsOne w (happens x t w)
 happens_one (what.Event e) t w = inl (event_start e.happening t w)
 happens_one what.Line t w = line_ends_one t w
 happens_one (what.Timer side timer) t w = inl (tells_timer_line side timer t w).start
@@ -130,7 +130,8 @@ one_of : (r : PortParts) (d : Due) (given : Option Answer) (v : PortStep) →
     v ≡ happens d.what d.time (begun r given) → StartsOne (begun r given) v →
     (v.start ≡ None) ⊎ (portstep r d given ≡ v)
 one_of r d given v e (inl h) = inl h
-one_of r d given v e (inr h) = inr (portstep-busy r d given (ap (λ (w : PortStep). is_idle w.port.line) (sym e) ∙ h) ∙ sym e)
+one_of r d given v e (inr h) =
+    inr (portstep-busy r d given (ap (λ (w : PortStep). is_idle w.port.line) (sym e) ∙ h.busy) ∙ sym e)
 
 -- what falls due starts nothing, or else nothing that waits starts
 pub portstep-one : (r : PortParts) (d : Due) (given : Option Answer) →
@@ -150,8 +151,8 @@ kind_new : (s : SettingsData) (r : PortRecord) (id : ℕ) (k : EventKind) (t : �
 kind_new s r id Detach t given p e = pulled_out (is_some r.cable) s r id t given e
 kind_new s r id k t given p e = absurd (cc)
 
-event_new : (s : SettingsData) (r : PortRecord) (h : Happening) (t : ℕ) (given : Option Answer) → pulls_cable h
-    ≡ true → is_some r.cable ≡ true →
+event_new : (s : SettingsData) (r : PortRecord) (h : Happening) (t : ℕ) (given : Option Answer) →
+    pulls_cable h ≡ true → is_some r.cable ≡ true →
     without_settings (line_starts t (event_happens h t (begun (whole s r) given))).port ≡ detached s
 event_new s r (Port id k) t given p e = kind_new s r id k t given p e
 event_new s r Budget t given p e = absurd (cc)
@@ -163,8 +164,8 @@ what_new s r what.Line t given p c = absurd (cc)
 what_new s r (what.Timer side timer) t given p c = absurd (cc)
 
 -- where the cable is pulled out, the port is as at the start
-pub record_after-detached : (s : SettingsData) (r : PortRecord) (d : Due) (given : Option Answer) → is_detach d.what
-    ≡ true → is_some r.cable ≡ true →
+pub record_after-detached : (s : SettingsData) (r : PortRecord) (d : Due) (given : Option Answer) →
+    is_detach d.what ≡ true → is_some r.cable ≡ true →
     record_after s r d given ≡ detached s
 unfolding record_after portstep
 record_after-detached s r d given p c = what_new s r d.what d.time given p c

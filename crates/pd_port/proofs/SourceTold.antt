@@ -1,5 +1,5 @@
 -- What the line tells a port's source in a step, and that nothing else of the step reaches it.
-use Rattle.std.proofs.Common.{◌≡◌, ℕ, Bool, true, false, is_some, if◌then◌else◌, nat_lt, ◌++◌, [], ◌∷◌, length, Option, Some}
+use Rattle.std.proofs.Common.{◌≡◌, ℕ, Bool, true, false, if◌then◌else◌, Option, Some}
 use Rattle.std.proofs.Common.{None, option_and_then, refl, ◌∙◌, sym, ap, subst}
 use Rattle.pd_symbols.specs.declared.channel.Channel.{Channel}
 use Rattle.pd_symbols.specs.declared.channel.Channel.TheVariants.{Sop, SopPrime}
@@ -7,62 +7,39 @@ use Rattle.pd_header.specs.declared.side.Side.{Side}
 use Rattle.pd_header.specs.declared.side.Side.TheVariants.{Source, Sink, Plug}
 use Rattle.pd_header.specs.Header.{id_of}
 use Rattle.pd_header.specs.Kinds.{kind_of_header}
-use Rattle.pd_identity.specs.declared.Cable.{Cable}
 use Rattle.pd_packet.specs.Contents.{Contents}
 use Rattle.pd_packet.specs.Hearing.{heard}
 use Rattle.pd_packet.specs.declared.fate.Fate.{Fate}
-use Rattle.pd_timers.specs.declared.Timer.{Timer}
 use Rattle.pd_objects.specs.declared.query.Answer.{Answer}
-use Rattle.pd_objects.specs.declared.query.Answer.TheVariants as answers
 use Rattle.pd_protocol.specs.Layer as layer
 use Rattle.pd_protocol.specs.LayerRecord.{LayerRecord}
 use Rattle.pd_protocol.specs.declared.layer.LayerAct.{LayerAct}
 use Rattle.pd_protocol.specs.declared.layer.LayerAct.TheVariants as answer
-use Rattle.pd_source.specs.Record.{SourceRecord, SourceData, off}
+use Rattle.pd_source.specs.Record.{SourceRecord, SourceData}
 use Rattle.pd_source.specs.Step as source
 use Rattle.pd_source.specs.declared.kinds.Sent.TheVariants as sent
 use Rattle.pd_source.specs.declared.kinds.Stimulus.{Stimulus}
 use Rattle.pd_source.specs.declared.kinds.Stimulus.TheVariants as told
-use Rattle.pd_setup.specs.Sinks.{SinkData}
-use Rattle.pd_sink.specs.Step as sink
-use Rattle.pd_sink.specs.declared.kinds.Stimulus.TheVariants as sink_told
-use Rattle.pd_setup.specs.declared.event.EventKind.{EventKind}
-use Rattle.pd_setup.specs.declared.event.EventKind.TheVariants.{Attach, Detach, Demand, Lose, Damage, GetSource, GetSink}
-use Rattle.pd_setup.specs.declared.event.Happening.{Happening}
-use Rattle.pd_setup.specs.declared.event.Happening.TheVariants.{Port, Budget}
-use Rattle.pd_setup.specs.Settings.{SettingsData}
-use Rattle.pd_line.specs.declared.notes.Fault.TheVariants.{NoGoodCrc, Ignored}
-use Rattle.pd_line.specs.declared.port_parts.Disturbance.{Disturbance}
-use Rattle.pd_line.specs.declared.port_parts.Disturbance.TheVariants.{Lost, Damaged}
+use Rattle.pd_line.specs.declared.notes.Fault.TheVariants.{NoGoodCrc}
 use Rattle.pd_line.specs.declared.port_parts.PortParts.{PortParts}
 use Rattle.pd_line.specs.declared.port_parts.Line.{Line}
 use Rattle.pd_line.specs.declared.port_parts.Line.TheVariants.{Idle, Message, Pause, GoodCrc, NoAnswer, HardReset}
 use Rattle.pd_line.specs.declared.port_step.PortStep.{PortStep}
-use Rattle.pd_line.specs.Record.{without_settings, nothing_attached}
 use Rattle.pd_line.specs.Told.{sent_as, source_hears_as}
-use Rattle.pd_line.specs.PortStep.{with_port, noted, layer_on, on_layer, good_crc_on, timed_out_on, received_on, sink_steps}
-use Rattle.pd_line.specs.PortStep.{plug_steps, source_steps, tells_sent, tells_failed, tells_message, tells_reset, tells_timer}
-use Rattle.pd_line.specs.PortStep.{tells_attach}
+use Rattle.pd_line.specs.PortStep.{noted, layer_on, on_layer, good_crc_on, timed_out_on, received_on}
+use Rattle.pd_line.specs.PortStep.{source_steps, tells_sent, tells_failed, tells_message, tells_reset}
 use Rattle.pd_line.specs.Lines.{with_line, receiver, hears, told_sent, acknowledged, told_message, goes_up, good_crc_ends}
 use Rattle.pd_line.specs.Lines.{after_time_out, times_out, waiting_dropped, layers_reset, hears_reset, all_hear_reset}
-use Rattle.pd_line.specs.Lines.{hard_reset_ends, line_ends_at, line_ends, line_starts}
-use Rattle.pd_line.proofs.Kept.{choice, noted_kept, sink_steps_kept, plug_steps_kept, tells_sent_kept, packet_starts_kept}
+use Rattle.pd_line.specs.Lines.{hard_reset_ends, line_ends_at, line_ends}
+use Rattle.pd_line.proofs.Kept.{noted_kept, tells_sent_kept, packet_starts_kept}
 use Rattle.pd_line.proofs.Kept.{good_crc_starts_kept, message_ends_kept, acknowledged_kept, goes_up_kept, times_out_kept}
-use Rattle.pd_line.proofs.Kept.{waiting_dropped_kept, layers_reset_kept, hears_reset_kept, attached_kept, line_starts_kept}
+use Rattle.pd_line.proofs.Kept.{waiting_dropped_kept, layers_reset_kept, hears_reset_kept}
 use Rattle.pd_line.proofs.Parts.{OfSource, unanswered}
-use Rattle.pd_line.proofs.Source.{acknowledged_layer, line_layer, tells_timer_spares, Spares, SparesWith, spares, none, joins}
+use Rattle.pd_line.proofs.Source.{acknowledged_layer, line_layer, Spares, SparesWith, none, joins}
 use Rattle.pd_line.proofs.Source.{on_layer_spares, source_steps_step, line_spares, sparing}
-use Rattle.pd_port.specs.declared.due.Due.{Due}
-use Rattle.pd_port.specs.declared.due.What.{What}
-use Rattle.pd_port.specs.declared.due.What.TheVariants as what
-use Rattle.pd_port.specs.declared.entry.Entry.{Entry}
-use Rattle.pd_port.specs.Laws.{source_after_told, source_after}
-use Rattle.pd_port.specs.Happens.{detaches, disturbs, gets_source, gets_sink, happens_attached, happens_detached, shed, budget_changes}
+use Rattle.pd_port.specs.Laws.{source_after_told}
 use Rattle.pd_port.specs.SourceTold.{source_layer, told_if_sent, told_if_up, told_if_failed, told_of_good_crc, told_at_good_crc}
-use Rattle.pd_port.specs.SourceTold.{told_at_time_out, told_of_reset, told_by_line, told_attached, told_detached, source_told}
-use Rattle.pd_port.specs.SourceTold.{told_if_shed}
-use Rattle.pd_port.specs.Changes.{contract_change}
-use Rattle.pd_port.specs.Port.{PortRecord, happens, begun, portstep, whole, source_settings, record_after, entry_of, ask, asks}
+use Rattle.pd_port.specs.SourceTold.{told_at_time_out, told_of_reset, told_by_line}
 
 -- What was done to w makes the source this, and is v now. Where nothing is asked, the answer doesn't matter: done to w
 -- without its answer it is u, which is v without its answer.

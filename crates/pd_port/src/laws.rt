@@ -4,6 +4,7 @@ ghost use Rattle.pd_port.specs.Laws.{StepsSetLater, DuesAreEarliest, SourceSteps
 ghost use Rattle.pd_port.specs.Laws.{AnswersMatterOnlyWhereAsked, WaitsWhileBusy, StartsNoTwo, BusyLinesAreLeft};
 ghost use Rattle.pd_port.specs.Budget.{ContractsAreTold, HoldsCoverContracts, RestsAreEmpty, ChangesKeepOrShed, HoldsStayAllowed};
 ghost use Rattle.pd_port.specs.Budget.{EventsComeFirst};
+ghost use Rattle.pd_port.specs.Packets.{DisturbedReachNobody, StartsAreOnTheLine};
 ghost use Rattle.pd_port.specs.Sheds.{ShedsLast};
 ghost use Rattle.pd_port.specs.Sound.{PortsStaySound, PortsAgree};
 ghost use Rattle.pd_port.specs.Cables.{PortsKnowTheirCables};
@@ -41,6 +42,17 @@ pub fn busy()
     ensures waits { WaitsWhileBusy }
     ensures no_two { StartsNoTwo }
     ensures left { BusyLinesAreLeft }
+{}
+
+/// A lost or a damaged packet reaches nobody: not a message its receiver, and not a GoodCRC the sender of its message.
+pub fn disturbed()
+    ensures { DisturbedReachNobody }
+{}
+
+/// A packet that starts in a step is on the line after it, and a side that hears gets the packet of the codes that are shown
+/// for it, or nothing.
+pub fn started()
+    ensures { StartsAreOnTheLine }
 {}
 
 /// What a port holds of the shared budget is at least its contract's power, and comes to no more than is free, or than it
