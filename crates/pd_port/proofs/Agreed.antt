@@ -16,7 +16,7 @@ use Rattle.pd_port.specs.Laws.{source_after_told}
 use Rattle.pd_port.specs.SourceTold.{source_told, told_if_shed}
 use Rattle.pd_port.specs.Port.{source_settings, whole, record_after}
 use Rattle.pd_port.specs.Sound.{Agrees}
-use Rattle.pd_port.proofs.Asked.{record_after-source}
+use Rattle.pd_port.proofs.Asked.{source_when, record_after-source}
 
 same : (s : SourceSettings) (a : Option Answer) (r : SourceRecord) → Agrees s a r r
 same s a r = record { contract = inl refl; accepted = inl refl; delivered = inl refl; kept = inl refl; made = inr (still r) }
@@ -67,10 +67,7 @@ by_detach true s a r new h = nothing s a r
 by_detach false s a r new h = h
 
 by_budget : (b : Bool) (s : SettingsData) (r : PortRecord) (d : Due) (a : Option Answer) →
-    Agrees (source_settings s) a r.source
-    (if b then source_after_told (source_settings s) d.time (told_if_shed a) None r.source
-    else (if is_detach d.what && is_some r.cable then off (source_settings s)
-    else source_after_told (source_settings s) d.time (source_told d.what (whole s r)) a r.source))
+    Agrees (source_settings s) a r.source (source_when b s r d a)
 by_budget true s r d a = unanswered (source_settings s) a r.source _ (after_told (source_settings s) d.time (told_if_shed a) None r.source)
 by_budget false s r d a =
     by_detach (is_detach d.what && is_some r.cable) (source_settings s) a r.source _

@@ -1,13 +1,15 @@
 -- What a port asks is what its source's engine asks: the step steps it once, with what `source_told` says.
 use Rattle.std.proofs.Common.{◌≡◌, ℕ, Bool, true, false, is_some, if◌then◌else◌, nat_lt, ◌++◌, [], ◌∷◌, length, Option, Some}
-use Rattle.std.proofs.Common.{None, refl, ◌∙◌, sym, ap}
+use Rattle.std.proofs.Common.{None, ◌&&◌, refl, ◌∙◌, sym, ap}
 use Rattle.pd_header.specs.declared.side.Side.{Side}
 use Rattle.pd_header.specs.declared.side.Side.TheVariants.{Source, Sink, Plug}
 use Rattle.pd_identity.specs.declared.Cable.{Cable}
 use Rattle.pd_timers.specs.declared.Timer.{Timer}
 use Rattle.pd_objects.specs.declared.query.Answer.{Answer}
 use Rattle.pd_objects.specs.declared.query.Answer.TheVariants as answers
-use Rattle.pd_source.specs.Record.{off}
+use Rattle.pd_objects.specs.declared.query.Query.{Query}
+use Rattle.pd_objects.specs.declared.query.Query.TheVariants as query
+use Rattle.pd_source.specs.Record.{SourceRecord, off}
 use Rattle.pd_source.specs.Step as source
 use Rattle.pd_source.specs.declared.kinds.Stimulus.{Stimulus}
 use Rattle.pd_source.specs.declared.kinds.Stimulus.TheVariants as told
@@ -24,9 +26,7 @@ use Rattle.pd_line.specs.declared.port_parts.Disturbance.{Disturbance}
 use Rattle.pd_line.specs.declared.port_parts.Disturbance.TheVariants.{Lost, Damaged}
 use Rattle.pd_line.specs.declared.port_step.PortStep.{PortStep}
 use Rattle.pd_line.specs.Record.{without_settings, nothing_attached}
-use Rattle.pd_line.specs.PortStep.{with_port, noted, sink_steps}
-use Rattle.pd_line.specs.PortStep.{plug_steps, source_steps, tells_timer}
-use Rattle.pd_line.specs.PortStep.{tells_attach}
+use Rattle.pd_line.specs.PortStep.{with_port, noted, sink_steps, plug_steps, source_steps, tells_timer, tells_attach}
 use Rattle.pd_line.specs.Lines.{line_starts}
 use Rattle.pd_line.proofs.Kept.{choice, noted_kept, sink_steps_kept, plug_steps_kept}
 use Rattle.pd_line.proofs.Kept.{attached_kept, line_starts_kept}
@@ -38,14 +38,14 @@ use Rattle.pd_port.specs.declared.due.What.{What}
 use Rattle.pd_port.specs.declared.due.What.TheVariants as what
 use Rattle.pd_port.specs.declared.entry.Entry.{Entry}
 use Rattle.pd_port.specs.Laws.{source_after_told, source_after}
-use Rattle.pd_port.specs.Happens.{detaches, disturbs, gets_source, gets_sink, happens_attached, happens_detached, shed, budget_changes}
-use Rattle.pd_port.specs.SourceTold.{told_attached, told_detached, source_told}
-use Rattle.pd_port.specs.SourceTold.{told_if_shed}
+use Rattle.pd_port.specs.Happens.{detaches, disturbs, gets_source, gets_sink, happens_attached, happens_detached, shed}
+use Rattle.pd_port.specs.Happens.{budget_changes, is_detach}
+use Rattle.pd_port.specs.SourceTold.{told_attached, told_detached, source_told, told_if_shed}
 use Rattle.pd_port.specs.Changes.{contract_change}
 use Rattle.pd_port.specs.Port.{PortRecord, happens, begun, portstep, whole, source_settings, record_after, entry_of, ask, asks}
+use Rattle.pd_port.specs.Port.{hold}
 use Rattle.pd_port.proofs.SourceTold.{Becomes, Tells, spares_tell, source_steps_tell, becomes_first, told_first}
-use Rattle.pd_port.proofs.SourceTold.{told_then}
-use Rattle.pd_port.proofs.SourceTold.{line_ends_tells}
+use Rattle.pd_port.proofs.SourceTold.{told_then, line_ends_tells}
 
 timer_tells : (side : Side) (timer : Timer) (t : ℕ) (w : PortStep) →
     Tells t (source_told (what.Timer side timer) w.port) w (tells_timer side timer t w) (tells_timer side timer t (unanswered w))
@@ -97,6 +97,18 @@ detached_tells : (id : ℕ) (k : EventKind) (t : ℕ) (w : PortStep) →
     Tells t (told_detached k) w (happens_detached id k t w) (happens_detached id k t (unanswered w))
 detached_tells id (Attach cable device) t w = attach_tells cable device t w
 detached_tells id k t w = spares_tell t w _ _ (noted_kept t (sparing t) (Ignored id) w)
+
+-- the source after a step, where it is known whether the budget changes
+abbrev pub source_when : Bool → SettingsData → PortRecord → Due → Option Answer → SourceRecord
+source_when changes s r d given =
+    if changes then source_after_told (source_settings s) d.time (told_if_shed given) None r.source
+    else (if is_detach d.what && is_some r.cable then off (source_settings s)
+    else source_after_told (source_settings s) d.time (source_told d.what (whole s r)) given r.source)
+
+-- what a port asks before it, where that is known
+abbrev pub ask_when : Bool → SettingsData → PortRecord → Due → Option Query
+ask_when changes s r d =
+    if changes then Some (query.Keep (hold s r)) else asks (whole s r) (source_told d.what (whole s r))
 
 -- how a step of the port begins
 abbrev first_work : SettingsData → PortRecord → Option Answer → PortStep

@@ -11,7 +11,6 @@ use Rattle.pd_timers.specs.Deadlines.{deadline, first_of, IsFirst}
 use Rattle.pd_timers.proofs.FirstLemmas.{first_of-IsFirst}
 use Rattle.pd_timers.proofs.LaterLemmas.{SetsLater-same}
 use Rattle.pd_objects.specs.declared.query.Answer.TheVariants as answers
-use Rattle.pd_objects.specs.declared.query.Query.TheVariants as query
 use Rattle.pd_source.specs.Record.{SourceSettings, SourceRecord, off}
 use Rattle.pd_source.specs.Step.{query_of, hold_of, contracted, requested, powers}
 use Rattle.pd_source.specs.declared.kinds.Stimulus.{Stimulus}
@@ -30,10 +29,10 @@ use Rattle.pd_port.specs.Budget.{contract_power}
 use Rattle.pd_port.specs.Laws.{NotBefore, pending_at, pending, without, IsOneOf, IsEarliest, source_after_told}
 use Rattle.pd_port.specs.Happens.{is_budget, is_detach}
 use Rattle.pd_port.specs.SourceTold.{source_told, told_if_shed}
-use Rattle.pd_port.specs.Port.{is_event, event_due, line_due, timer_due, dues, due, detached, source_settings, whole, ask, asks}
+use Rattle.pd_port.specs.Port.{is_event, event_due, line_due, timer_due, dues, due, detached, source_settings, whole, ask}
 use Rattle.pd_port.specs.Port.{record_after, hold}
 use Rattle.pd_port.proofs.Earliest.{is_before-time, due-IsEarliest}
-use Rattle.pd_port.proofs.Asked.{record_after-source}
+use Rattle.pd_port.proofs.Asked.{source_when, ask_when, record_after-source}
 use Rattle.pd_port.proofs.Later.{record_after-later}
 use Rattle.pd_port.proofs.Pending.{stopped-later, pending_at-few, pending_at-falls, pending_at-line, pending_at-source}
 use Rattle.pd_port.proofs.Pending.{pending_at-sink, pending_at-plug}
@@ -344,8 +343,8 @@ hold_contract s r =
 
 -- a hold comes to no more than is free, or than it was, where an answer is allowed
 fits_told : (s : SourceSettings) (r : SourceRecord) (floor free t : ℕ) (x : Option Stimulus) (a : Option Answer) →
-    IsAllowed free (option_and_then (λ y. query_of s y r) x) a → hold_of s floor (source_after_told s t x a r)
-    ≤ max free (hold_of s floor r)
+    IsAllowed free (option_and_then (λ y. query_of s y r) x) a →
+    hold_of s floor (source_after_told s t x a r) ≤ max free (hold_of s floor r)
 fits_told s r floor free t None a i = omega arith
 fits_told s r floor free t (Some x) a i = hold_of-allowed s floor free t x a r i
 
@@ -369,12 +368,8 @@ fits_off true s r new f k =
 fits_off false s r new f k = k
 
 by_budget : (b : Bool) (s : SettingsData) (r : PortRecord) (d : Due) (x : Option Answer) (f : ℕ) →
-    IsAllowed f (if b then Some (query.Keep (hold s r)) else asks (whole s r) (source_told d.what (whole s r))) x →
-    hold_of (source_settings s) (floor_of s)
-    (if b then source_after_told (source_settings s) d.time (told_if_shed x) None r.source
-    else (if is_detach d.what && is_some r.cable then off (source_settings s)
-    else source_after_told (source_settings s) d.time (source_told d.what (whole s r)) x r.source))
-    ≤ max f (hold_of (source_settings s) (floor_of s) r.source)
+    IsAllowed f (ask_when b s r d) x →
+    hold_of (source_settings s) (floor_of s) (source_when b s r d x) ≤ max f (hold_of (source_settings s) (floor_of s) r.source)
 by_budget true s r d x f i = fits_shed (source_settings s) r.source (floor_of s) f d.time x
 by_budget false s r d x f i =
     fits_off (is_detach d.what && is_some r.cable) s r.source _ f
@@ -385,6 +380,6 @@ pub hold_fits : (s : SettingsData) (r : PortRecord) (d : Due) (x : Option Answer
     hold s (record_after s r d x) ≤ max f (hold s r)
 unfolding hold ask
 hold_fits s r d x f i =
-    subst (λ (n : SourceRecord). hold_of (source_settings s) (floor_of s) n
-    ≤ max f (hold_of (source_settings s) (floor_of s) r.source)) (sym (record_after-source s r d x))
+    let most = max f (hold_of (source_settings s) (floor_of s) r.source) in
+    subst (λ (n : SourceRecord). hold_of (source_settings s) (floor_of s) n ≤ most) (sym (record_after-source s r d x))
     (by_budget (is_budget d.what) s r d x f i)

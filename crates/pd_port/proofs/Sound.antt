@@ -22,9 +22,9 @@ use Rattle.pd_port.specs.declared.due.Due.{Due}
 use Rattle.pd_port.specs.Happens.{is_budget, is_detach}
 use Rattle.pd_port.specs.Laws.{source_after_told}
 use Rattle.pd_port.specs.SourceTold.{source_told, told_if_shed}
-use Rattle.pd_port.specs.Port.{detached, source_settings, whole, ask, asks, record_after, hold}
+use Rattle.pd_port.specs.Port.{detached, source_settings, whole, ask, record_after}
 use Rattle.pd_port.specs.Sound.{IsSoundPort, IsAnswerTo, PortsStaySound}
-use Rattle.pd_port.proofs.Asked.{record_after-source}
+use Rattle.pd_port.proofs.Asked.{source_when, ask_when, record_after-source}
 
 sound_start : (s : SettingsData) → IsSoundPort s (detached s)
 unfolding detached nothing_attached
@@ -60,11 +60,7 @@ either_sound true s r h = sound-off s
 either_sound false s r h = h
 
 by_budget : (b : Bool) (s : SettingsData) (r : PortRecord) (d : Due) (a : Option Answer) → IsSoundPort s r →
-    IsAnswer (source_settings s) (if b then Some (query.Keep (hold s r)) else asks (whole s r) (source_told d.what (whole s r))) a →
-    IsSound (source_settings s)
-    (if b then source_after_told (source_settings s) d.time (told_if_shed a) None r.source
-    else (if is_detach d.what && is_some r.cable then off (source_settings s)
-    else source_after_told (source_settings s) d.time (source_told d.what (whole s r)) a r.source))
+    IsAnswer (source_settings s) (ask_when b s r d) a → IsSound (source_settings s) (source_when b s r d a)
 by_budget true s r d a h q = shed_sound (source_settings s) d.time a r.source h
 by_budget false s r d a h q =
     either_sound (is_detach d.what && is_some r.cable) (source_settings s) _
@@ -84,8 +80,8 @@ if_offer true s l supplies limit e =
     ap (λ (x : ArrayVec SupplyData). x.items) (sym same)
 if_offer false s l supplies limit e = absurd (cc)
 
-if_fits : (b : Bool) (n : ℕ) (supplies : ArrayVec SupplyData) (limit : ℕ) → (if b then Some (query.Fits n) else None)
-    ≡ Some (query.Offer supplies limit) → ⊥
+if_fits : (b : Bool) (n : ℕ) (supplies : ArrayVec SupplyData) (limit : ℕ) →
+    (if b then Some (query.Fits n) else None) ≡ Some (query.Offer supplies limit) → ⊥
 if_fits true n supplies limit e = cc
 if_fits false n supplies limit e = cc
 
@@ -109,8 +105,7 @@ of_told s None r supplies limit e = absurd (cc)
 of_told s (Some x) r supplies limit e = of_query s x r supplies limit e
 
 of_ask : (b : Bool) (s : SettingsData) (r : PortRecord) (d : Due) (supplies : ArrayVec SupplyData) (limit : ℕ) →
-    (if b then Some (query.Keep (hold s r)) else asks (whole s r) (source_told d.what (whole s r)))
-    ≡ Some (query.Offer supplies limit) → supplies.items ≡ s.supplies
+    ask_when b s r d ≡ Some (query.Offer supplies limit) → supplies.items ≡ s.supplies
 of_ask true s r d supplies limit e = absurd (cc)
 of_ask false s r d supplies limit e = of_told (source_settings s) (source_told d.what (whole s r)) r.source supplies limit e
 

@@ -45,13 +45,19 @@ portstep_is old d given w v u same answered faults start first second =
 abbrev port_data : SettingsData → PortRecord → PortData
 port_data s r = record { settings = s; port_record = r }
 
--- the work of a step, from what a port was before it
-pub worked : (p : PortData) (settings : SettingsData) (w v u : PortStep) (d : Due) (given : Option Answer) →
-    ◌≡◌ {A = PortData} (record { settings = settings; port_record = without_settings w.port }) p →
+-- a port of these settings, with this step at rest, is seen as p
+abbrev pub SeenAs : PortData → SettingsData → PortStep → Type 0
+SeenAs p settings w = port_data settings (without_settings w.port) ≡ p
+
+-- the step for this due, with this answer, has led from p to u
+abbrev pub LedTo : PortData → Due → Option Answer → PortStep → Type 0
+LedTo p d given u = u ≡ portstep (whole p.settings p.port_record) d given
+
+-- what a step has led to, from what a port was before it
+pub led : (p : PortData) (settings : SettingsData) (w v u : PortStep) (d : Due) (given : Option Answer) → SeenAs p settings w →
     w.faults.items ≡ [] → w.start ≡ None → w.port.source.settings ≡ source_settings settings →
-    v ≡ happens d.what d.time (record w { answer = given }) → u ≡ line_starts d.time v →
-    u ≡ portstep (whole p.settings p.port_record) d given
-worked p settings w v u d given view faults start set first second =
+    v ≡ happens d.what d.time (record w { answer = given }) → u ≡ line_starts d.time v → LedTo p d given u
+led p settings w v u d given view faults start set first second =
     let a = portstep_is w.port d given (record w { answer = given }) v u refl refl faults start first second in
     let b : with_settings (source_settings settings) (without_settings w.port) ≡ w.port =
     with_settings-without (source_settings settings) w.port set in
@@ -60,11 +66,8 @@ worked p settings w v u d given view faults start set first second =
     subst (λ (q : PortData). u ≡ portstep (whole q.settings q.port_record) d given) view c
 
 -- what a port is after it
-pub after_is : (p : PortData) (settings : SettingsData) (w u : PortStep) (d : Due) (given : Option Answer) →
-    ◌≡◌ {A = PortData} (record { settings = settings; port_record = without_settings w.port }) p →
-    u ≡ portstep (whole p.settings p.port_record) d given →
-    ◌≡◌ {A = PortData} (record { settings = settings; port_record = without_settings u.port })
-    (record { settings = p.settings; port_record = record_after p.settings p.port_record d given })
+pub after_is : (p : PortData) (settings : SettingsData) (w u : PortStep) (d : Due) (given : Option Answer) → SeenAs p settings w →
+    LedTo p d given u → SeenAs (port_data p.settings (record_after p.settings p.port_record d given)) settings u
 unfolding record_after
 after_is p settings w u d given view e =
     let same : settings ≡ p.settings = ap (λ (q : PortData). q.settings) view in
@@ -74,25 +77,22 @@ after_is p settings w u d given view e =
 
 -- what its source is set to
 pub settings_are : (p : PortData) (settings : SettingsData) (w u : PortStep) (d : Due) (given : Option Answer) →
-    ◌≡◌ {A = PortData} (record { settings = settings; port_record = without_settings w.port }) p →
-    u ≡ portstep (whole p.settings p.port_record) d given → u.port.source.settings ≡ source_settings settings
+    SeenAs p settings w → LedTo p d given u → u.port.source.settings ≡ source_settings settings
 settings_are p settings w u d given view e =
     let same : p.settings ≡ settings = ap (λ (q : PortData). q.settings) (sym view) in
     ap (λ (x : PortStep). x.port.source.settings) e ∙ portstep-settings (whole p.settings p.port_record) d given ∙ ap source_settings same
 
+-- what a step leaves to be read, from its parts
+abbrev pub entry_with : Due → Option Query → ArrayVec Fault → Option ContractChange → Option Start → Entry
+entry_with d query faults change start =
+    record { at = d.time; due = d; query = query; faults = faults; contract = change; start = start }
+
 -- what is left to be read
 pub entry_is : (p : PortData) (u : PortStep) (d : Due) (given : Option Answer) (query : Option Query)
     (faults : ArrayVec Fault) (change : Option ContractChange) (start : Option Start) →
-    u ≡ portstep (whole p.settings p.port_record) d given → query ≡ ask p.settings p.port_record d → faults ≡ u.faults →
+    LedTo p d given u → query ≡ ask p.settings p.port_record d → faults ≡ u.faults →
     change ≡ contract_change p.port_record.source.contract u.port.source.record.contract → start ≡ u.start →
-    ◌≡◌ {A = Entry} (record {
-      at = d.time;
-      due = d;
-      query = query;
-      faults = faults;
-      contract = change;
-      start = start;
-    }) (entry_of p.settings p.port_record d given)
+    entry_with d query faults change start ≡ entry_of p.settings p.port_record d given
 unfolding entry_of
 entry_is p u d given query faults change start e q f h g = rw (q, f, h, g, e) refl
 

@@ -1,12 +1,9 @@
-use Rattle.std.proofs.Common.{◌≡◌}
-use Rattle.pd_port.specs.Port.{portstep, whole}
-use Rattle.pd_port.proofs.Steps.{worked, after_is, settings_are, entry_is, change_is}
+use Rattle.pd_port.proofs.Steps.{LedTo, led, after_is, settings_are, entry_is, change_is}
 use Rattle.pd_port.proofs.port.Port.step.Goals as goal
 
-done : (c : goal.After-take) → c.line_starts.new.self
-    ≡ portstep (whole c.args.self.now.settings c.args.self.now.port_record) c.args.due.now c.args.answer
+done : (c : goal.After-take) → LedTo c.args.self.now c.args.due.now c.args.answer c.line_starts.new.self
 done c =
-    worked c.args.self.now c.self.inside.settings c.self.inside.under_way c.happens.new.step c.line_starts.new.self
+    led c.args.self.now c.self.inside.settings c.self.inside.under_way c.happens.new.step c.line_starts.new.self
     c.args.due.now c.args.answer
     c.self.view_is c.self.invariant.0 c.self.invariant.1 c.self.invariant.2 c.happens.ensures c.line_starts.ensures.after
 
