@@ -10,8 +10,7 @@ use Rattle.pd_port.specs.Meter.{raised}
 use Rattle.pd_port.specs.Port.{PortData, PortRecord}
 use Rattle.pd_scenario.specs.Plan.{Plan, settings_of}
 use Rattle.pd_run.specs.Run.{Move}
-use Rattle.pd_keep.specs.declared.kept_move.KeptMove.{KeptMove}
-use Rattle.pd_keep.specs.Kept.{kept_of, move_of, IsOwn, Keeps}
+use Rattle.pd_keep.specs.Kept.{KeptData, kept_of, move_of, IsOwn, Keeps}
 use Rattle.pd_keep.specs.Charge.{Charges}
 use Rattle.pd_keep.specs.Fresh.{IsSame, IsRepeated, AreFresh, FreshBeside}
 
@@ -46,13 +45,13 @@ fresh-push_fresh old_plan old plan (x ∷ xs) m n h r =
     h
 
 -- what is kept has a move only where the run that it stands for has it
-pub repeated_from : (old_plan plan : Plan) (old : List KeptMove) (p : ℕ) (x : PortData) (d : Due) (a : Option Answer)
+pub repeated_from : (old_plan plan : Plan) (old : List KeptData) (p : ℕ) (x : PortData) (d : Due) (a : Option Answer)
     → All (IsOwn old_plan) old → x.settings ≡ settings_of plan (p - 1) → Contains old (kept_of p x d a)
     → IsRepeated old_plan (map move_of old) plan (move_of (kept_of p x d a))
 repeated_from old_plan plan old p x d a own settings has =
     let k = has.0 in
-    let kept : KeptMove = kept_of p x d a in
-    let is_own : IsOwn old_plan kept = subst (λ (y : KeptMove). IsOwn old_plan y) has.2 (own k kept has.1) in (
+    let kept : KeptData = kept_of p x d a in
+    let is_own : IsOwn old_plan kept = subst (λ (y : KeptData). IsOwn old_plan y) has.2 (own k kept has.1) in (
       move_of kept,
       (k, omega (arith, length-map old move_of, has.1), list_map.get_or-map move_of old k kept ∙ ap move_of has.2),
       record { port = refl; before = refl; settings = sym is_own.settings ∙ settings; due = refl; answer = refl },
@@ -62,7 +61,7 @@ make_port : SettingsData → PortRecord → PortData
 make_port s r = record { settings = s; port_record = r }
 
 -- and wherever it has it
-pub repeated_to : (old_plan plan : Plan) (old : List KeptMove) (p : ℕ) (x : PortData) (d : Due) (a : Option Answer) → 1 ≤ p
+pub repeated_to : (old_plan plan : Plan) (old : List KeptData) (p : ℕ) (x : PortData) (d : Due) (a : Option Answer) → 1 ≤ p
     → All (IsOwn old_plan) old → x.settings ≡ settings_of plan (p - 1)
     → IsRepeated old_plan (map move_of old) plan (move_of (kept_of p x d a)) → Contains old (kept_of p x d a)
 unfolding make_port
@@ -70,9 +69,9 @@ repeated_to old_plan plan old p x d a one own settings has =
     let o : Move = has.0 in
     let k = has.1.0 in
     let is_same : IsSame old_plan o plan (move_of (kept_of p x d a)) = has.2 in
-    let kept : KeptMove = kept_of p x d a in
+    let kept : KeptData = kept_of p x d a in
     let lt : k < length old = omega (arith, length-map old move_of, has.1.1) in
-    let y : KeptMove = get_or old k kept in
+    let y : KeptData = get_or old k kept in
     let there : move_of y ≡ o = sym (list_map.get_or-map move_of old k kept)
     ∙ get_or_default (map move_of old) k (move_of kept) o has.1.1 ∙ has.1.2 in
     let is_own : IsOwn old_plan y = own k kept lt in
@@ -90,7 +89,7 @@ repeated_to old_plan plan old p x d a one own settings has =
     (k, lt, here)
 
 -- the count after one more move
-pub fresh_step : (old_plan plan : Plan) (old : List KeptMove) (ms : List Move) (p : ℕ) (x : PortData) (d : Due) (a : Option Answer)
+pub fresh_step : (old_plan plan : Plan) (old : List KeptData) (ms : List Move) (p : ℕ) (x : PortData) (d : Due) (a : Option Answer)
     (first before after : ℕ) → 1 ≤ p → All (IsOwn old_plan) old → x.settings ≡ settings_of plan (p - 1)
     → Charges old (kept_of p x d a) before after
     → (n : ℕ) × AreFresh old_plan (map move_of old) plan ms n × (before ≡ raised first n)
@@ -122,13 +121,13 @@ all_fresh a b (m ∷ ms) n h =
     h
 
 -- the count beside what is kept
-pub charged : (ports : ℕ) (o : Option Plan) (kept : List KeptMove) (plan : Plan) (moves : List Move) (before after : ℕ) → Keeps ports o kept
+pub charged : (ports : ℕ) (o : Option Plan) (kept : List KeptData) (plan : Plan) (moves : List Move) (before after : ℕ) → Keeps ports o kept
     → ((old_plan : Plan) → All (IsOwn old_plan) kept → (n : ℕ) × AreFresh old_plan (map move_of kept) plan moves n
     × (after ≡ raised before n))
     → (n : ℕ) × FreshBeside o (map move_of kept) plan moves n × (after ≡ raised before n)
 charged ports None kept plan moves before after none cost =
     let counted = cost plan (λ k d lt. absurd (omega (arith, ap length none))) in
     let fresh : AreFresh plan [] plan moves counted.0 =
-    subst (λ (l : List KeptMove). AreFresh plan (map move_of l) plan moves counted.0) none counted.1 in
+    subst (λ (l : List KeptData). AreFresh plan (map move_of l) plan moves counted.0) none counted.1 in
     (counted.0, all_fresh plan plan moves counted.0 fresh, counted.2)
 charged ports (Some old_plan) kept plan moves before after keeps cost = cost old_plan keeps.own

@@ -2,3 +2,4 @@ pub mod Counts
 pub mod Fresh
 pub mod InTime
 pub mod Made
+pub mod Places

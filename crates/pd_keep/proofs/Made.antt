@@ -6,8 +6,7 @@ use Rattle.pd_port.specs.Port.{PortData}
 use Rattle.pd_scenario.specs.Plan.{Plan}
 use Rattle.pd_run.specs.Run.{Move}
 use Rattle.pd_run.specs.Live.{LiveData, next_move, port_at, port_after, reply_at, moved_port}
-use Rattle.pd_keep.specs.declared.kept_move.KeptMove.{KeptMove}
-use Rattle.pd_keep.specs.Kept.{kept_of, move_of, IsOwn, IsMade}
+use Rattle.pd_keep.specs.Kept.{KeptData, kept_of, move_of, IsOwn, IsMade}
 
 -- what is kept is the next move
 pub kept_is_next : (plan : Plan) (past : List Move) (p : ℕ) (x : PortData) (d : Due) (a : Option Answer) → x ≡ port_after plan past (p - 1)
@@ -28,7 +27,7 @@ kept_is_moved live p q x d a x_is a_is =
     ap (λ (z : PortData). (kept_of q z d a).after) x_is ∙ ap (λ (b : Option Answer). (kept_of q (port_at live p) d b).after) a_is
 
 -- a move that was made of the same is the same
-pub kept_same : (k : KeptMove) (p : ℕ) (x : PortData) (d : Due) (a : Option Answer) → IsMade k → k.port ≡ p → k.due ≡ d → k.answer ≡ a
+pub kept_same : (k : KeptData) (p : ℕ) (x : PortData) (d : Due) (a : Option Answer) → IsMade k → k.port ≡ p → k.due ≡ d → k.answer ≡ a
     → k.before.settings ≡ x.settings → k.before.port_record ≡ x.port_record → k ≡ kept_of p x d a
 kept_same k p x d a made port due answer settings state =
     let before : k.before ≡ x = λ i. record { settings = settings i; port_record = state i } in

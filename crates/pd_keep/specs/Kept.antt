@@ -6,10 +6,20 @@ use Rattle.pd_port.specs.Port.{PortData, record_after, entry_of}
 use Rattle.pd_scenario.specs.Plan.{Plan, IsPlan, settings_of}
 use Rattle.pd_run.specs.Run.{Move}
 use Rattle.pd_run.specs.Shown.{SafeRun}
-use Rattle.pd_keep.specs.declared.kept_move.KeptMove.{KeptMove}
+use Rattle.pd_port.specs.declared.entry.Entry.{Entry}
+
+-- What is kept of a move: its port, numbered from 1, as it was before it; what fell due; the answer to what the port asked; the
+-- port after it; and what the move left to be read.
+pub record KeptData : Type 0 where
+  pub port : ℕ
+  pub before : PortData
+  pub due : Due
+  pub answer : Option Answer
+  pub after : PortData
+  pub entry : Entry
 
 -- what is kept of a port's move for a due, with an answer
-abbrev pub kept_of : ℕ → PortData → Due → Option Answer → KeptMove
+abbrev pub kept_of : ℕ → PortData → Due → Option Answer → KeptData
 kept_of p x d a = record {
   port = p;
   before = x;
@@ -20,34 +30,34 @@ kept_of p x d a = record {
 }
 
 -- it is what its port made of its due
-abbrev pub IsMade : KeptMove → Type 0
+abbrev pub IsMade : KeptData → Type 0
 IsMade k = k ≡ kept_of k.port k.before k.due k.answer
 
 -- the move that it stands for; ports are numbered from 0 there
-abbrev pub move_of : KeptMove → Move
+abbrev pub move_of : KeptData → Move
 move_of k = record { port = k.port - 1; before = k.before.port_record; due = k.due; answer = k.answer; entry = k.entry }
 
 -- it is a move of a port of the plan
-pub record IsOwn (plan : Plan) (k : KeptMove) : Type 0 where
+pub record IsOwn (plan : Plan) (k : KeptData) : Type 0 where
   pub made : IsMade k
   pub from_one : 1 ≤ k.port
   pub settings : k.before.settings ≡ settings_of plan (k.port - 1)
 
 -- what is kept stands in the order of times
-abbrev pub AreInTime : List KeptMove → Type 0
-AreInTime old = (i j : ℕ) (e : KeptMove) → i ≤ j → j < length old → (slice_index_or old i e).due.time ≤ (slice_index_or old j e).due.time
+abbrev pub AreInTime : List KeptData → Type 0
+AreInTime old = (i j : ℕ) (e : KeptData) → i ≤ j → j < length old → (slice_index_or old i e).due.time ≤ (slice_index_or old j e).due.time
 
 -- the first n of them are before this time
-abbrev pub AreBefore : List KeptMove → ℕ → ℕ → Type 0
-AreBefore old n time = (k : ℕ) (e : KeptMove) → k < n → (slice_index_or old k e).due.time < time
+abbrev pub AreBefore : List KeptData → ℕ → ℕ → Type 0
+AreBefore old n time = (k : ℕ) (e : KeptData) → k < n → (slice_index_or old k e).due.time < time
 
 -- what is kept is the run of a plan of n ports
-pub record AreMovesOf (n : ℕ) (plan : Plan) (kept : List KeptMove) : Type 0 where
+pub record AreMovesOf (n : ℕ) (plan : Plan) (kept : List KeptData) : Type 0 where
   pub is_plan : IsPlan n plan
   pub safe : SafeRun plan (map move_of kept)
   pub own : All (IsOwn plan) kept
 
 -- the same of a plan that may not be there; then nothing is kept
-abbrev pub Keeps : ℕ → Option Plan → List KeptMove → Type 0
+abbrev pub Keeps : ℕ → Option Plan → List KeptData → Type 0
 Keeps n None kept = kept ≡ []
 Keeps n (Some plan) kept = AreMovesOf n plan kept

@@ -1,3 +1,4 @@
 pub mod Charge
 pub mod Fresh
 pub mod Kept
+pub mod Places

@@ -6,7 +6,7 @@ ghost use Rattle.pd_run.specs.Shown.{Shows, SafeRun, IsShown};
 ghost use Rattle.pd_run.specs.Run.{shown};
 ghost use Rattle.pd_keep.specs.Fresh.{IsCharged};
 
-use crate::kept_move::KeptMove;
+use crate::kept_move::KeptMoves;
 use crate::rerun::rerun;
 use pd_port::{Entry, Meter};
 use pd_run::{Plan, Runner};
@@ -14,12 +14,12 @@ use pd_scenario::Scenario;
 use std::alloc::{AllocError, Global};
 use std::marker::Model;
 
-/// A runner that keeps the ports before and after each move of its run. Where a scenario is replaced by another, the moves
-/// that the old run has too are copied, and the meter rises by the others alone.
+/// A runner that keeps each move of its run, and its port as it was before and after it. Where a scenario is replaced by another,
+/// the moves that the old run has too are copied, and the meter rises by the others alone.
 #[derive(Drop)]
 pub struct Kept<const N: usize> {
     plan: Option<Plan<N>>,
-    moves: Vec<KeptMove>,
+    run: KeptMoves,
 }
 
 impl<const N: usize> Model for Kept<N> {
@@ -29,9 +29,9 @@ impl<const N: usize> Model for Kept<N> {
 
     ghost Value = { Running };
 
-    ghost view = { λ k. record { plan = k.plan; moves = map move_of k.moves.items } };
+    ghost view = { λ k. record { plan = k.plan; moves = map move_of k.run.moves } };
 
-    ghost invariant = { λ k. Keeps N k.plan k.moves.items };
+    ghost invariant = { λ k. Keeps N k.plan k.run.moves };
 }
 
 impl<const N: usize> Runner<N> for Kept<N> {
@@ -42,7 +42,7 @@ impl<const N: usize> Runner<N> for Kept<N> {
     fn empty(alloc: Global) -> Kept<N> {
         Kept {
             plan: None,
-            moves: Vec::new(alloc),
+            run: KeptMoves::new(alloc),
         }
     }
 
@@ -62,20 +62,20 @@ impl<const N: usize> Runner<N> for Kept<N> {
         ensures rises { meter.old ≤ meter.new }
     {
         let plan = Plan::of_scenario(alloc, scenario)?;
-        let moves = rerun(alloc, self.moves.as_slice(), &plan, meter)?;
+        let run = rerun(alloc, &self.run, &plan, meter)?;
         let _end = plan.end();
-        self.moves = moves;
+        self.run = run;
         self.plan = Some(plan);
         Ok(())
     }
 
     fn len(&self) -> usize {
         let _plan = &self.plan;
-        self.moves.len()
+        self.run.len()
     }
 
     fn entry(&self, i: usize) -> Option<(usize, &Entry)> {
-        let kept = self.moves.get(i)?;
-        Some((kept.port, &kept.entry))
+        let _plan = &self.plan;
+        self.run.entry(i)
     }
 }

@@ -1,48 +1,140 @@
-//! Moves that are kept.
+//! Moves that are kept, each with the places of its port's records.
 
-ghost use Rattle.std.specs.Prelude.{◌≡◌, ◌↔◌, ◌≤◌, IsTrue};
-ghost use Rattle.pd_keep.specs.Kept.{kept_of, IsMade};
+ghost use Rattle.std.specs.Prelude.{◌≡◌, ◌↔◌, ◌<◌, ◌++◌, ◌∷◌, ℕ, [], List, IsTrue, IfOk, OnOk, All, length, map, slice_get, slice_index_or};
+ghost use Rattle.std.specs.Prelude.{option_map};
+ghost use Rattle.pd_run.specs.Start.{no_port};
+ghost use Rattle.pd_keep.specs.Kept.{KeptData, kept_of, IsMade};
+ghost use Rattle.pd_keep.specs.Places.{RunData, kept_in, shown_of, IsPlaced};
 
 use pd_objects::Answer;
 use pd_port::{Due, Entry, Port};
+use std::alloc::{AllocError, Global};
+use std::marker::Model;
 
-/// A move of a run: its port, numbered from 1, as it was before it; what fell due; the answer to what the port asked; the
-/// port after it; and what the move left to be read.
+/// A move of a run: its port, numbered from 1; the place of the port's record before it; what fell due; the answer to what the
+/// port asked; the place of the record after it; and what the move left to be read.
 #[derive(Drop)]
 pub struct KeptMove {
     pub port: usize,
-    pub before: Port,
+    pub before: usize,
     pub due: Due,
     pub answer: Option<Answer>,
-    pub after: Port,
+    pub after: usize,
     pub entry: Entry,
 }
 
-impl KeptMove {
-    /// The same move.
-    pub fn copy(&self) -> KeptMove
-        ensures { result ≡ self.now }
+/// Moves of a run, and the ports as they were before and after them: each port stands once for all moves that it is between.
+#[derive(Drop)]
+pub struct KeptMoves {
+    records: Vec<Port>,
+    moves: Vec<KeptMove>,
+}
+
+impl Model for KeptMoves {
+    ghost use Rattle.std.specs.Prelude.{All, map};
+    ghost use Rattle.pd_keep.specs.Places.{RunData, kept_in, IsPlaced};
+
+    ghost Value = { RunData };
+
+    ghost view = { λ r. record { records = r.records.items; moves = map (kept_in r.records.items) r.moves.items } };
+
+    ghost invariant = { λ r. All (IsPlaced r.records.items) r.moves.items };
+}
+
+impl KeptMoves {
+    /// No moves.
+    pub fn new(alloc: Global) -> KeptMoves
+        ensures { result ≡ record { records = []; moves = [] } }
     {
-        KeptMove {
-            port: self.port,
-            before: self.before.copy(),
-            due: self.due,
-            answer: copy_answer(&self.answer),
-            after: self.after.copy(),
-            entry: self.entry.copy(),
+        KeptMoves {
+            records: Vec::new(alloc),
+            moves: Vec::new(alloc),
         }
     }
 
-    /// Whether this is the move of such a port for such a due, with such an answer.
-    pub fn repeats(&self, port: usize, before: &Port, due: &Due, answer: &Option<Answer>) -> bool
-        requires { IsMade self.now }
-        ensures { IsTrue result ↔ (self.now ≡ kept_of port before.now due.now answer.now) }
+    /// The number of moves.
+    pub fn len(&self) -> usize
+        ensures { result ≡ length self.now.moves }
     {
-        self.port == port
-            && self.due.same(due)
-            && same_answer(&self.answer, answer)
-            && self.before.settings().same(before.settings())
-            && self.before.same(before)
+        self.moves.len()
+    }
+
+    /// A move's port and entry, by its place in the run.
+    pub fn entry(&self, i: usize) -> Option<(usize, &Entry)>
+        ensures { option_map (λ r. (r.0, r.1.now)) result ≡ option_map shown_of (slice_get self.now.moves i) }
+    {
+        let kept = self.moves.get(i)?;
+        Some((kept.port, &kept.entry))
+    }
+
+    /// When a move was, in microseconds.
+    pub fn time(&self, i: usize) -> u64
+        requires { i < length self.now.moves }
+        ensures { (k : KeptData) → result ≡ (slice_index_or self.now.moves i k).due.time }
+    {
+        self.moves[i].due.time
+    }
+
+    /// The port after a move.
+    pub fn after(&self, i: usize) -> &Port
+        requires { i < length self.now.moves }
+        ensures { (k : KeptData) → result.now ≡ (slice_index_or self.now.moves i k).after }
+    {
+        &self.records[self.moves[i].after]
+    }
+
+    /// What a move left to be read.
+    pub fn left(&self, i: usize) -> &Entry
+        requires { i < length self.now.moves }
+        ensures { (k : KeptData) → result.now ≡ (slice_index_or self.now.moves i k).entry }
+    {
+        &self.moves[i].entry
+    }
+
+    /// Whether a move is the one of such a port for such a due, with such an answer.
+    pub fn repeats(
+        &self,
+        i: usize,
+        port: usize,
+        before: &Port,
+        due: &Due,
+        answer: &Option<Answer>,
+    ) -> bool
+        requires inside { i < length self.now.moves }
+        requires made { All IsMade self.now.moves }
+        ensures { IsTrue result ↔ (slice_index_or self.now.moves i (kept_of port before.now due.now answer.now)
+            ≡ kept_of port before.now due.now answer.now) }
+    {
+        let kept = &self.moves[i];
+        kept.port == port
+            && kept.due.same(due)
+            && same_answer(&kept.answer, answer)
+            && same_port(&self.records[kept.before], before)
+    }
+
+    /// Keeps a port's record, and answers its place.
+    ///
+    /// # Errors
+    /// There is no memory.
+    pub fn add(&mut self, port: Port) -> Result<usize, AllocError>
+        ensures place { IfOk result (λ place. place ≡ length self.old.records) }
+        ensures added { OnOk result (self.new ≡ record self.old { records = self.old.records ++ port ∷ [] }) }
+    {
+        let place = self.records.len();
+        self.records.push(port)?;
+        Ok(place)
+    }
+
+    /// Keeps one more move, of which both records are kept.
+    ///
+    /// # Errors
+    /// There is no memory.
+    pub fn push(&mut self, kept: KeptMove) -> Result<(), AllocError>
+        requires { IsPlaced self.old.records kept }
+        ensures { OnOk result (self.new ≡ record self.old { moves = self.old.moves ++ kept_in self.old.records kept ∷ [] }) }
+    {
+        self.moves.push(kept)?;
+        Ok(())
     }
 }
 
@@ -63,4 +155,11 @@ fn same_answer(answer: &Option<Answer>, other: &Option<Answer>) -> bool
         (Some(answer), Some(other)) => answer.same(other),
         _ => false,
     }
+}
+
+// Whether both ports are set to the same and have the same record.
+fn same_port(port: &Port, other: &Port) -> bool
+    ensures { IsTrue result ↔ (port.now ≡ other.now) }
+{
+    port.settings().same(other.settings()) && port.same(other)
 }

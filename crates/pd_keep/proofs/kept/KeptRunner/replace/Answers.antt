@@ -2,25 +2,24 @@ use Rattle.std.proofs.Common.{arith, ◌≡◌, ℕ, subst, List, map}
 use Rattle.pd_port.specs.Meter.{raised}
 use Rattle.pd_scenario.specs.Plan.{Plan}
 use Rattle.pd_run.specs.Run.{Move}
-use Rattle.pd_keep.specs.declared.kept_move.KeptMove.{KeptMove}
 use Rattle.pd_keep.specs.Fresh.{FreshBeside}
-use Rattle.pd_keep.specs.Kept.{move_of}
+use Rattle.pd_keep.specs.Kept.{KeptData, move_of}
 use Rattle.pd_keep.proofs.Fresh.{charged}
 use Rattle.pd_keep.proofs.InTime.{keeps_made, keeps_in_time}
 use Rattle.pd_keep.proofs.kept.KeptRunner.replace.Goals as goal
 
 pub returns-clause-cost : goal.returns-clause-cost
 returns-clause-cost g c =
-    let moves : List Move = map move_of c.in_ok-moves.moves.items in
-    let kept : List KeptMove = c.self.inside.moves.items in
+    let moves : List Move = map move_of c.in_ok-run.run'.moves in
+    let kept : List KeptData = c.self.inside.run.moves in
     let charge = charged g.row.N c.self.inside.plan kept c.in_ok-plan.plan moves c.args.meter.now c.rerun.new.meter c.self.invariant
-    (rw c.as_slice.ensures.value at c.in_ok-moves.ensures.cost) in
+    c.in_ok-run.ensures.cost in
     rw (← c.self.view_is)
     (subst (λ (p : Plan). (n : ℕ) × FreshBeside c.self.inside.plan (map move_of kept) p moves n
     × (c.rerun.new.meter ≡ raised c.args.meter.now n)) c.in_ok-plan.ensures charge)
 
 pub rerun-requires : goal.rerun-requires
 rerun-requires g c =
-    let made = keeps_made g.row.N c.self.inside.plan c.self.inside.moves.items c.self.invariant in
-    let in_time = keeps_in_time g.row.N c.self.inside.plan c.self.inside.moves.items c.self.invariant in
-    (omega arith, rw c.as_slice.ensures.value (made, in_time))
+    let made = keeps_made g.row.N c.self.inside.plan c.self.inside.run.moves c.self.invariant in
+    let in_time = keeps_in_time g.row.N c.self.inside.plan c.self.inside.run.moves c.self.invariant in
+    (omega arith, (made, in_time))
