@@ -33,9 +33,9 @@ use Rattle.pd_line.specs.PortStep.{tells_timer, wait, submit_on}
 use Rattle.pd_line.specs.Lines.{with_line, started, packet_starts, good_crc_starts, after_time_out, times_out, line_ends_at}
 use Rattle.pd_line.specs.Lines.{line_ends, is_idle, is_waiting, line_starts, start_on, channel_for, revision_on, waiting_on}
 use Rattle.pd_line.specs.Lines.{submitted, message_starts, hard_reset_starts, waiting_starts, side_starts}
-use Rattle.pd_line.proofs.Kept.{sink_acts_kept, plug_acts_kept, source_acts_kept, noted_kept, tells_failed_kept}
-use Rattle.pd_line.proofs.Kept.{wait_kept, message_ends_kept, good_crc_ends_kept, hard_reset_ends_kept}
-use Rattle.pd_line.proofs.Parts.{Kept, of_any, Watched, sink_after, plug_after}
+use Rattle.pd_line.proofs.RulesKeep.{sink_acts_kept, plug_acts_kept, source_acts_kept, noted_kept, tells_failed_kept}
+use Rattle.pd_line.proofs.RulesKeep.{wait_kept, message_ends_kept, good_crc_ends_kept, hard_reset_ends_kept}
+use Rattle.pd_line.proofs.StepRelation.{StepRelation, of_any, Watched, sink_after, plug_after}
 
 -- while the line is busy, nothing starts
 pub line_starts-busy : (t : ℕ) (w : PortStep) → is_idle w.port.line ≡ false → line_starts t w ≡ w
@@ -52,7 +52,8 @@ layer_line Sop l w = record { line = refl; start = refl }
 layer_line SopPrime l w = record { line = refl; start = refl }
 
 -- what leaves the line, where the steps of the source do
-abbrev leaving : (t : ℕ) (steps : Type 0) → (steps → (x : SourceStimulus) (w : PortStep) → LeavesLine w (source_steps t x w)) → Kept t
+abbrev leaving : (t : ℕ) (steps : Type 0) → (steps → (x : SourceStimulus) (w : PortStep) → LeavesLine w (source_steps t x w)) →
+    StepRelation t
 leaving t steps source =
     record {
       holds = λ w f. LeavesLine w (f w);
@@ -72,7 +73,7 @@ leaving t steps source =
       start = λ s. absurd s;
     }
 
-abbrev leaving_besides : (t : ℕ) → Kept t
+abbrev leaving_besides : (t : ℕ) → StepRelation t
 leaving_besides t = leaving t ⊥ (λ s. absurd s)
 
 pub source_steps_line : (t : ℕ) (x : SourceStimulus) (w : PortStep) → LeavesLine w (source_steps t x w)
@@ -83,7 +84,7 @@ source_steps_line t x w =
     record { line = h.line; start = h.start }
 
 -- each rule that starts nothing leaves the line
-abbrev pub leaves_line : (t : ℕ) → Kept t
+abbrev pub leaves_line : (t : ℕ) → StepRelation t
 leaves_line t = leaving t (Unit {0}) (λ s x w. source_steps_line t x w)
 
 pub sink_steps_line : (t : ℕ) (x : SinkStimulus) (w : PortStep) → LeavesLine w (sink_steps t x w)
@@ -111,7 +112,7 @@ unfolding with_line
 line_start line w = refl
 
 -- what starts nothing, though it may change the line
-abbrev starts_none : (t : ℕ) → Kept t
+abbrev starts_none : (t : ℕ) → StepRelation t
 starts_none t =
     record {
       holds = λ w f. (f w).start ≡ w.start;

@@ -144,6 +144,6 @@ pub source_sent : (cable : Option Cable) (o : Option OutstandingData) → IsOfSe
 source_sent cable None = tt
 source_sent cable (Some o) = tt
 
--- so it is on the port of a work
+-- so it is on the port of a step under way
 abbrev pub On : Option Cable → PortStep → Type 0
 On cable w = TellsOfCable cable (wire (without_settings w.port))

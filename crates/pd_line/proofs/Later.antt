@@ -29,15 +29,16 @@ use Rattle.pd_line.specs.Later.{Times, line_end, KeptOrLater, Later}
 use Rattle.pd_line.specs.PortStep.{with_layer, sink_acts, sink_steps, plug_acts, plug_steps, source_acts, source_after}
 use Rattle.pd_line.specs.PortStep.{source_steps, tells_timer}
 use Rattle.pd_line.specs.Lines.{with_line, started, line_ends}
-use Rattle.pd_line.proofs.Kept.{sink_acts_kept, plug_acts_kept, source_acts_kept, line_ends_at_kept}
-use Rattle.pd_line.proofs.Parts.{Kept, EndsNoneOfSource, EndsNoneOfSink, EndsNoneOfPlug, Watched, watched, times, sink_after, plug_after}
+use Rattle.pd_line.proofs.RulesKeep.{sink_acts_kept, plug_acts_kept, source_acts_kept, line_ends_at_kept}
+use Rattle.pd_line.proofs.StepRelation.{StepRelation, EndsNoneOfSource, EndsNoneOfSink, EndsNoneOfPlug, Watched, watched}
+use Rattle.pd_line.proofs.StepRelation.{times, sink_after, plug_after}
 
--- a step at t has led to this work
+-- a step at t has led to this
 pub record Leads (t : ℕ) (settings : SourceSettings) (old : Times) (new : PortStep) : Type 0 where
   pub settings_are : new.port.source.settings ≡ settings
   pub later : Later t old (times new.port)
 
--- from one work to another
+-- from one point of a step to another
 abbrev pub LeadsOn : ℕ → PortStep → PortStep → Type 0
 LeadsOn t w v = Leads t w.port.source.settings (times w.port) v
 
@@ -131,7 +132,7 @@ start_leads t s w = record { settings_are = refl; later = later_kept t (times w.
 
 -- what the steps of the source keep, so do all rules
 abbrev leading : (t : ℕ) (steps : Type 0) → (steps → (x : SourceStimulus) (w : PortStep) →
-    EndsNoneOfSource x w.port.source.record → LeadsOn t w (source_steps t x w)) → Kept t
+    EndsNoneOfSource x w.port.source.record → LeadsOn t w (source_steps t x w)) → StepRelation t
 leading t steps source =
     record {
       holds = λ w f. LeadsOn t w (f w);
@@ -151,7 +152,7 @@ leading t steps source =
       start = λ m s w. start_leads t s w;
     }
 
-abbrev leading_besides : (t : ℕ) → Kept t
+abbrev leading_besides : (t : ℕ) → StepRelation t
 leading_besides t = leading t ⊥ (λ s. absurd s)
 
 -- the times before the source's row is taken
@@ -183,7 +184,7 @@ source_now t x w e =
     (source_steps t x w)) e (source_steps_lead t x w)
 
 -- each rule leads on
-abbrev pub leads : (t : ℕ) → Kept t
+abbrev pub leads : (t : ℕ) → StepRelation t
 leads t = leading t (Unit {0}) (λ s x w e. source_now t x w e)
 
 pub sink_steps_lead : (t : ℕ) (x : SinkStimulus) (w : PortStep) → Leads t w.port.source.settings (sink_before x w.port) (sink_steps t x w)

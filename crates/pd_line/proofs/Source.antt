@@ -23,8 +23,8 @@ use Rattle.pd_line.specs.declared.port_step.PortStep.{PortStep}
 use Rattle.pd_line.specs.PortStep.{tells_timer, with_layer, layer_on, on_layer, sink_acts, sink_steps, plug_acts, plug_steps}
 use Rattle.pd_line.specs.PortStep.{source_acts, source_after, source_steps}
 use Rattle.pd_line.specs.Lines.{with_line, started, acknowledged}
-use Rattle.pd_line.proofs.Kept.{sink_acts_kept, plug_acts_kept, source_acts_kept, acknowledged_kept}
-use Rattle.pd_line.proofs.Parts.{Kept, OfSource, Watched, unanswered, sink_after, plug_after}
+use Rattle.pd_line.proofs.RulesKeep.{sink_acts_kept, plug_acts_kept, source_acts_kept, acknowledged_kept}
+use Rattle.pd_line.proofs.StepRelation.{StepRelation, OfSource, Watched, unanswered, sink_after, plug_after}
 
 -- What was done to w leaves the source and the answer: it is v now. It doesn't read the answer: done to w without its
 -- answer it is u, which is v without its answer.
@@ -72,7 +72,7 @@ unfolding started
 start_spares s w = spares w _ refl refl
 
 -- each rule that doesn't step the source spares it
-abbrev pub sparing : (t : ℕ) → Kept t
+abbrev pub sparing : (t : ℕ) → StepRelation t
 sparing t =
     record {
       holds = λ w f. Spares w (f w) (f (unanswered w));
@@ -113,7 +113,7 @@ pub record Steps (t : ℕ) (x : SourceStimulus) (w v u : PortStep) : Type 0 wher
   pub stepped : v.port.source.record ≡ source.stepped w.port.source.settings t x w.answer w.port.source.record
   pub blind : source.query_of w.port.source.settings x w.port.source.record ≡ None → u ≡ unanswered v
 
--- the work where the source is this, and the answer is used up
+-- the step where the source is this, and the answer is used up
 abbrev source_is : PortStep → SourceRecord → PortStep
 source_is w r = record w { port = record w.port { source = record w.port.source { «record» = r } }; answer = None }
 
@@ -145,7 +145,7 @@ unfolding started
 start_layers s w = (refl, refl)
 
 -- each rule that doesn't step the source, nor touch its layers, leaves them
-abbrev leaves_layers : (t : ℕ) → Kept t
+abbrev leaves_layers : (t : ℕ) → StepRelation t
 leaves_layers t =
     record {
       holds = λ w f. LeavesLayers w (f w);

@@ -28,9 +28,9 @@ use Rattle.pd_line.specs.declared.port_step.PortStep.{PortStep}
 use Rattle.pd_line.specs.Record.{without_settings, nothing_attached}
 use Rattle.pd_line.specs.PortStep.{with_port, noted, sink_steps, plug_steps, source_steps, tells_timer, tells_attach}
 use Rattle.pd_line.specs.Lines.{line_starts}
-use Rattle.pd_line.proofs.Kept.{choice, noted_kept, sink_steps_kept, plug_steps_kept}
-use Rattle.pd_line.proofs.Kept.{attached_kept, line_starts_kept}
-use Rattle.pd_line.proofs.Parts.{unanswered}
+use Rattle.pd_line.proofs.RulesKeep.{choice, noted_kept, sink_steps_kept, plug_steps_kept}
+use Rattle.pd_line.proofs.RulesKeep.{attached_kept, line_starts_kept}
+use Rattle.pd_line.proofs.StepRelation.{unanswered}
 use Rattle.pd_line.proofs.Source.{tells_timer_spares, Spares, spares}
 use Rattle.pd_line.proofs.Source.{source_steps_step, sparing}
 use Rattle.pd_port.specs.declared.due.Due.{Due}
@@ -111,19 +111,19 @@ ask_when changes s r d =
     if changes then Some (query.Keep (hold s r)) else asks (whole s r) (source_told d.what (whole s r))
 
 -- how a step of the port begins
-abbrev first_work : SettingsData → PortRecord → Option Answer → PortStep
-first_work s r given = begun (whole s r) given
+abbrev first_step : SettingsData → PortRecord → Option Answer → PortStep
+first_step s r given = begun (whole s r) given
 
 -- what happens makes the source what the law says
 abbrev Happens : SettingsData → PortRecord → What → ℕ → Option Answer → Type 0
 Happens s r x t given =
     let d : Due = record { time = t; what = x } in
-    Becomes (source_after s r d given) (ask s r d ≡ None) (first_work s r given) (happens x t (first_work s r given))
-    (happens x t (first_work s r None))
+    Becomes (source_after s r d given) (ask s r d ≡ None) (first_step s r given) (happens x t (first_step s r given))
+    (happens x t (first_step s r None))
 
 -- what is told at the beginning of a step
 abbrev TellsFirst : SettingsData → PortRecord → Option Stimulus → ℕ → Option Answer → (PortStep → PortStep) → Type 0
-TellsFirst s r x t given f = Tells t x (first_work s r given) (f (first_work s r given)) (f (first_work s r None))
+TellsFirst s r x t given f = Tells t x (first_step s r given) (f (first_step s r given)) (f (first_step s r None))
 
 -- one thing while a sink is attached, and else another
 by_cable : (b : Bool) (s : SettingsData) (r : PortRecord) (t : ℕ) (given : Option Answer) (x y : Option Stimulus)
@@ -140,14 +140,14 @@ told_event : (s : SettingsData) (r : PortRecord) (id : ℕ) (k : EventKind) (t :
 told_event s r id k t given h =
     by_cable (is_some r.cable) s r t given (told_attached k (whole s r)) (told_detached k) (happens_attached id k t)
     (happens_detached id k t) h
-    (detached_tells id k t (first_work s r given))
+    (detached_tells id k t (first_step s r given))
 
 -- the cable is pulled out, where a sink is attached
 pulled_out : (b : Bool) (s : SettingsData) (r : PortRecord) (id t : ℕ) (given : Option Answer) →
     Becomes (if b then off (source_settings s) else source_after_told (source_settings s) t (if b then None else None) given r.source)
-    (asks (whole s r) (if b then None else None) ≡ None) (first_work s r given)
-    (if b then detaches (first_work s r given) else noted (Ignored id) (first_work s r given))
-    (if b then detaches (first_work s r None) else noted (Ignored id) (first_work s r None))
+    (asks (whole s r) (if b then None else None) ≡ None) (first_step s r given)
+    (if b then detaches (first_step s r given) else noted (Ignored id) (first_step s r given))
+    (if b then detaches (first_step s r None) else noted (Ignored id) (first_step s r None))
 unfolding detaches noted nothing_attached
 pulled_out true s r id t given = record { becomes = refl; blind = λ q. refl }
 pulled_out false s r id t given = record { becomes = refl; blind = λ q. refl }
@@ -156,18 +156,18 @@ kind_happens : (s : SettingsData) (r : PortRecord) (at id t : ℕ) (given : Opti
     Happens s r (what.Event (record { at = at; happening = Port id k })) t given
 unfolding ask
 kind_happens s r at id t given (Attach cable device) =
-    told_event s r id (Attach cable device) t given (spares_tell t _ _ _ (noted_kept t (sparing t) (Ignored id) (first_work s r given)))
+    told_event s r id (Attach cable device) t given (spares_tell t _ _ _ (noted_kept t (sparing t) (Ignored id) (first_step s r given)))
 kind_happens s r at id t given Detach = pulled_out (is_some r.cable) s r id t given
 kind_happens s r at id t given (Demand mw) =
     told_event s r id (Demand mw) t given (spares_tell t _ _ _ (sink_steps_kept t (sparing t) (sink_told.Demand mw)
-    (first_work s r given) refl))
+    (first_step s r given) refl))
 kind_happens s r at id t given Lose =
-    told_event s r id Lose t given (spares_tell t _ _ _ (disturbs_spares id Lost t (first_work s r given)))
+    told_event s r id Lose t given (spares_tell t _ _ _ (disturbs_spares id Lost t (first_step s r given)))
 kind_happens s r at id t given (Damage d) =
-    told_event s r id (Damage d) t given (spares_tell t _ _ _ (disturbs_spares id (Damaged d) t (first_work s r given)))
+    told_event s r id (Damage d) t given (spares_tell t _ _ _ (disturbs_spares id (Damaged d) t (first_step s r given)))
 kind_happens s r at id t given GetSource =
-    told_event s r id GetSource t given (spares_tell t _ _ _ (gets_source_spares id t (first_work s r given)))
-kind_happens s r at id t given GetSink = told_event s r id GetSink t given (gets_sink_tells id t (first_work s r given))
+    told_event s r id GetSource t given (spares_tell t _ _ _ (gets_source_spares id t (first_step s r given)))
+kind_happens s r at id t given GetSink = told_event s r id GetSink t given (gets_sink_tells id t (first_step s r given))
 
 -- where the hold may not stay, the source sheds it
 shed_becomes : (a : Option Answer) (t : ℕ) (w : PortStep) →
@@ -180,21 +180,21 @@ event_becomes : (s : SettingsData) (r : PortRecord) (at : ℕ) (h : Happening) (
 unfolding ask budget_changes
 event_becomes s r at (Port id k) t given = kind_happens s r at id t given k
 event_becomes s r at Budget t given =
-    record { becomes = shed_becomes given t (first_work s r given); blind = λ q. absurd (cc) }
+    record { becomes = shed_becomes given t (first_step s r given); blind = λ q. absurd (cc) }
 
 what_becomes : (s : SettingsData) (r : PortRecord) (x : What) (t : ℕ) (given : Option Answer) → Happens s r x t given
 unfolding ask
 what_becomes s r (what.Event e) t given = event_becomes s r e.at e.happening t given
-what_becomes s r what.Line t given = line_ends_tells t (first_work s r given)
-what_becomes s r (what.Timer side timer) t given = timer_tells side timer t (first_work s r given)
+what_becomes s r what.Line t given = line_ends_tells t (first_step s r given)
+what_becomes s r (what.Timer side timer) t given = timer_tells side timer t (first_step s r given)
 
 portstep_becomes : (s : SettingsData) (r : PortRecord) (d : Due) (given : Option Answer) →
-    Becomes (source_after s r d given) (ask s r d ≡ None) (first_work s r given) (portstep (whole s r) d given)
+    Becomes (source_after s r d given) (ask s r d ≡ None) (first_step s r given) (portstep (whole s r) d given)
     (portstep (whole s r) d None)
 unfolding portstep
 portstep_becomes s r d given =
-    let v = happens d.what d.time (first_work s r given) in
-    becomes_first (source_after s r d given) (ask s r d ≡ None) (line_starts d.time) (first_work s r given) v _
+    let v = happens d.what d.time (first_step s r given) in
+    becomes_first (source_after s r d given) (ask s r d ≡ None) (line_starts d.time) (first_step s r given) v _
     (what_becomes s r d.what d.time given) (line_starts_kept d.time (sparing d.time) tt tt tt v)
 
 -- the source is stepped once, with what it is told and with the answer

@@ -20,7 +20,7 @@ use Rattle.pd_line.specs.declared.port_step.PortStep.{PortStep}
 use Rattle.pd_line.specs.Record.{without_settings, nothing_attached}
 use Rattle.pd_line.specs.PortStep.{with_port, noted, sink_steps, source_steps}
 use Rattle.pd_line.specs.Lines.{is_idle, line_starts}
-use Rattle.pd_line.proofs.Kept.{choice, noted_kept, sink_steps_kept, tells_attach_kept}
+use Rattle.pd_line.proofs.RulesKeep.{choice, noted_kept, sink_steps_kept, tells_attach_kept}
 use Rattle.pd_line.proofs.Busy.{LeavesLine, leaves_line, source_steps_line, StartsOne, line_ends_one, line_starts-busy, tells_timer_line}
 use Rattle.pd_port.specs.declared.due.Due.{Due}
 use Rattle.pd_port.specs.declared.due.What.{What}

@@ -24,8 +24,8 @@ use Rattle.pd_line.specs.Record.{PortRecord, nothing_attached}
 use Rattle.pd_line.specs.Later.{times_of, Later}
 use Rattle.pd_line.specs.PortStep.{with_port, noted, sink_steps, source_steps, tells_timer}
 use Rattle.pd_line.specs.Lines.{line_starts}
-use Rattle.pd_line.proofs.Kept.{choice, noted_kept, sink_steps_kept, tells_attach_kept, line_starts_kept}
-use Rattle.pd_line.proofs.Parts.{times}
+use Rattle.pd_line.proofs.RulesKeep.{choice, noted_kept, sink_steps_kept, tells_attach_kept, line_starts_kept}
+use Rattle.pd_line.proofs.StepRelation.{times}
 use Rattle.pd_line.proofs.Later.{Leads, LeadsOn, joins, later_kept, source_now, leads, tells_timer_leads, line_ends_leads}
 use Rattle.pd_port.specs.declared.due.Due.{Due}
 use Rattle.pd_port.specs.declared.due.What.{What}

@@ -14,8 +14,8 @@ use Rattle.pd_line.specs.declared.port_parts.PortParts.{PortParts}
 use Rattle.pd_line.specs.declared.port_step.PortStep.{PortStep}
 use Rattle.pd_line.specs.Lines.{time_out, rest_of_time_out, receiver, hears, with_line, message_ends, good_crc_ends, goes_up}
 use Rattle.pd_line.specs.Lines.{acknowledged, message_heard, line_ends_at, line_ends, line_starts, is_idle, start_on}
-use Rattle.pd_line.proofs.Parts.{of_any}
-use Rattle.pd_line.proofs.Kept.{goes_up_kept}
+use Rattle.pd_line.proofs.StepRelation.{of_any}
+use Rattle.pd_line.proofs.RulesKeep.{goes_up_kept}
 use Rattle.pd_line.proofs.Busy.{leaves_line, line_starts-busy, line_starts_one, StartsOne}
 use Rattle.pd_port.specs.declared.due.Due.{Due}
 use Rattle.pd_port.specs.Packets.{IsDisturbed, end_of_line, DisturbedReachNobody, StartsAreOnTheLine}

@@ -31,10 +31,10 @@ use Rattle.pd_line.specs.PortStep.{source_steps, tells_sent, tells_failed, tells
 use Rattle.pd_line.specs.Lines.{with_line, receiver, hears, told_sent, acknowledged, told_message, goes_up, good_crc_ends}
 use Rattle.pd_line.specs.Lines.{after_time_out, times_out, waiting_dropped, layers_reset, hears_reset, all_hear_reset}
 use Rattle.pd_line.specs.Lines.{hard_reset_ends, line_ends_at, line_ends}
-use Rattle.pd_line.proofs.Kept.{noted_kept, tells_sent_kept, packet_starts_kept}
-use Rattle.pd_line.proofs.Kept.{good_crc_starts_kept, message_ends_kept, acknowledged_kept, goes_up_kept, times_out_kept}
-use Rattle.pd_line.proofs.Kept.{waiting_dropped_kept, layers_reset_kept, hears_reset_kept}
-use Rattle.pd_line.proofs.Parts.{OfSource, unanswered}
+use Rattle.pd_line.proofs.RulesKeep.{noted_kept, tells_sent_kept, packet_starts_kept}
+use Rattle.pd_line.proofs.RulesKeep.{good_crc_starts_kept, message_ends_kept, acknowledged_kept, goes_up_kept, times_out_kept}
+use Rattle.pd_line.proofs.RulesKeep.{waiting_dropped_kept, layers_reset_kept, hears_reset_kept}
+use Rattle.pd_line.proofs.StepRelation.{OfSource, unanswered}
 use Rattle.pd_line.proofs.Source.{acknowledged_layer, line_layer, Spares, SparesWith, none, joins}
 use Rattle.pd_line.proofs.Source.{on_layer_spares, source_steps_step, line_spares, sparing}
 use Rattle.pd_port.specs.Laws.{source_after_told}

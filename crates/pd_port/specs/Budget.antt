@@ -1,4 +1,5 @@
--- What a change of the shared budget does to a port, and what a port may come to hold.
+-- What a change of the shared budget does to a port, and what a port may come to hold. These laws serve the promise that at the
+-- end of every instant all contracts lie together within the charger's budget of that time.
 use Rattle.std.specs.Prelude.{◌≡◌, ℕ, ◌≤◌, max, true, false, Option, Some}
 use Rattle.pd_objects.specs.Answers.{IsAllowed}
 use Rattle.pd_objects.specs.declared.query.Answer.{Answer}

@@ -1,4 +1,5 @@
--- What a port's source knows of the attached cable, from step to step.
+-- What a port's source knows of the attached cable, from step to step. This law serves the promise that each contract lies
+-- within its cable's rating.
 use Rattle.std.specs.Prelude.{◌≡◌, ◌≤◌, ℕ, Option, Some, None}
 use Rattle.pd_identity.specs.Identity.{rated}
 use Rattle.pd_identity.specs.declared.Cable.{Cable}

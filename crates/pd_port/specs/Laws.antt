@@ -1,4 +1,5 @@
--- What the run of a charger relies on of a port's step.
+-- What the run of a charger relies on of a port's step. Each heading is the sentence of the bench's promise that the laws
+-- under it serve; Budget.antt, Sheds.antt, Sound.antt, Cables.antt and Packets.antt have the others.
 use Rattle.std.specs.Prelude.{◌≡◌, ◌⊎◌, ℕ, ◌+◌, ◌≤◌, nat_le, if◌then◌else◌, ◌&&◌, Bool, true, false, is_some, List, [], ◌∷◌}
 use Rattle.std.specs.Prelude.{Option, Some, None}
 use Rattle.pd_header.specs.declared.side.Side.TheVariants.{Source, Sink, Plug}
@@ -21,6 +22,8 @@ use Rattle.pd_port.specs.Happens.{is_budget, is_detach}
 use Rattle.pd_port.specs.SourceTold.{source_told, told_if_shed}
 use Rattle.pd_port.specs.Port.{dues, due, is_before, begun, happens, portstep, whole, detached, source_settings, ask}
 use Rattle.pd_port.specs.Port.{record_after, entry_of}
+
+-- ## A run ends: less falls due after each step up to its time
 
 -- the next event isn't before t
 abbrev pub NotBefore : ℕ → Option EventData → Type 0
@@ -72,6 +75,8 @@ pub record IsEarliest (d : Due) (ds : List (Option Due)) : Type 0 where
 abbrev pub DuesAreEarliest : Type 0
 DuesAreEarliest = (r : PortRecord) (next : Option EventData) (d : Due) → due r next ≡ Some d → IsEarliest d (dues r next)
 
+-- ## All contracts lie within the budget: the source takes one step, for which the port has asked, and reads an answer there alone
+
 -- the source after a step at t, with what it is told and with the answer. Where it is told nothing, it takes no step
 abbrev pub source_after_told : SourceSettings → ℕ → Option Stimulus → Option Answer → SourceRecord → SourceRecord
 source_after_told s t None given r = r
@@ -90,17 +95,19 @@ abbrev pub SourceStepsOnce : Type 0
 SourceStepsOnce =
     (s : SettingsData) (r : PortRecord) (d : Due) (given : Option Answer) → (record_after s r d given).source ≡ source_after s r d given
 
--- where the cable is pulled out, the port is as at the start, whatever was on the line
-abbrev pub DetachedAreNew : Type 0
-DetachedAreNew =
-    (s : SettingsData) (r : PortRecord) (d : Due) (given : Option Answer) → is_detach d.what ≡ true → is_some r.cable ≡ true →
-    record_after s r d given ≡ detached s
-
 -- where the port asks nothing, no answer matters: not to what it becomes, and not to what is read of its step
 abbrev pub AnswersMatterOnlyWhereAsked : Type 0
 AnswersMatterOnlyWhereAsked =
     (s : SettingsData) (r : PortRecord) (d : Due) (a b : Option Answer) → ask s r d ≡ None →
     (record_after s r d a ≡ record_after s r d b) × (entry_of s r d a ≡ entry_of s r d b)
+
+-- ## Each text is what the written tables give: of a cable that is pulled out, and of a busy line
+
+-- where the cable is pulled out, the port is as at the start, whatever was on the line
+abbrev pub DetachedAreNew : Type 0
+DetachedAreNew =
+    (s : SettingsData) (r : PortRecord) (d : Due) (given : Option Answer) → is_detach d.what ≡ true → is_some r.cable ≡ true →
+    record_after s r d given ≡ detached s
 
 -- where what falls due leaves the line busy, the step does no more: nothing that waits starts
 abbrev pub WaitsWhileBusy : Type 0

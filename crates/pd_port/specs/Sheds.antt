@@ -1,4 +1,5 @@
--- A port that sheds at a change of the budget, to the end of that instant.
+-- A port that sheds at a change of the budget, to the end of that instant: the promise that all contracts lie within the budget
+-- of the time holds where it falls, too.
 use Rattle.std.specs.Prelude.{◌≡◌, ℕ, true, false, Option, Some, None}
 use Rattle.pd_objects.specs.declared.query.Answer.{Answer}
 use Rattle.pd_objects.specs.declared.query.Answer.TheVariants as answer

@@ -1,5 +1,5 @@
 -- What holds of a port's source from step to step: its limit, its offers, its accepted request and its contract are sound,
--- and what becomes of them.
+-- and what becomes of them. These laws serve the promise that each contract lies within its offer.
 use Rattle.std.specs.Prelude.{◌≡◌, ◌⊎◌, ℕ, Option, Some, None}
 use Rattle.arrayvec.specs.ArrayVec.{ArrayVec}
 use Rattle.pd_objects.specs.Supply.{SupplyData}

@@ -1,4 +1,8 @@
-//! Laws of a port's step. They run nothing.
+//! Laws of a port's step. They run nothing. The promise of the bench rests on them: that each run ends on `later` and
+//! `earliest_first`; that all contracts lie within the budget of the time on `steps_once`, `answered`, `budget` and `sheds`; that
+//! each contract lies within its offer on `sound` and `agreed`, and within its cable's rating on `cables`; that margins tell the
+//! truth on `contracts`. `detached`, `busy`, `disturbed` and `started` say of the written tables what a reader expects of a cable
+//! that is pulled out, of the line and of packets.
 
 ghost use Rattle.pd_port.specs.Laws.{StepsSetLater, DuesAreEarliest, SourceStepsOnce, DetachedAreNew};
 ghost use Rattle.pd_port.specs.Laws.{AnswersMatterOnlyWhereAsked, WaitsWhileBusy, StartsNoTwo, BusyLinesAreLeft};

@@ -56,11 +56,11 @@ use Rattle.pd_line.specs.Lines.{told_sent, acknowledged, told_message, goes_up, 
 use Rattle.pd_line.specs.Lines.{is_side, waiting_dropped, layers_reset, hears_reset, all_hear_reset, hard_reset_ends}
 use Rattle.pd_line.specs.Lines.{line_ends_at, submitted, message_starts, hard_reset_starts, waiting_starts, waiting_on}
 use Rattle.pd_line.specs.Lines.{side_starts, is_idle, is_waiting, line_starts, channel_for}
-use Rattle.pd_line.proofs.Parts.{sink_after, plug_after, EndsNoneOfSink, EndsNoneOfPlug, Kept, OfSource, of_any, is_later}
-use Rattle.pd_line.proofs.Parts.{layer_blind, hears_blind, revision_blind, waiting_blind, source_hears_now, sink_hears_now}
-use Rattle.pd_line.proofs.Parts.{plug_hears_now, lasts_positive, some_rest}
+use Rattle.pd_line.proofs.StepRelation.{sink_after, plug_after, EndsNoneOfSink, EndsNoneOfPlug, StepRelation, OfSource, of_any, is_later}
+use Rattle.pd_line.proofs.StepRelation.{layer_blind, hears_blind, revision_blind, waiting_blind, source_hears_now, sink_hears_now}
+use Rattle.pd_line.proofs.StepRelation.{plug_hears_now, lasts_positive, some_rest}
 
-module _ (t : ℕ) (k : Kept t) where
+module _ (t : ℕ) (k : StepRelation t) where
   -- a choice keeps what both ways keep
   pub choice : (b : Bool) (f g : PortStep → PortStep) (w : PortStep) → k.holds w f → k.holds w g → k.holds w (λ z. if b then f z else g z)
   choice true f g w p q = p

@@ -1,4 +1,4 @@
--- A relation between the work before a part of a step and after it: what it has to be for all parts to keep it.
+-- A relation between a step under way before a part of it and after: what it has to be for all parts to keep it.
 use Rattle.std.proofs.Common.{◌≡◌, ℕ, ◌+◌, ◌<◌, ◌==◌, Bool, true, false, if◌then◌else◌, inr, Option, Some, None, refl, List, []}
 use Rattle.std.proofs.Common.{◌∷◌, arith, lit<}
 use Rattle.pd_symbols.specs.declared.channel.Channel.{Channel}
@@ -35,11 +35,11 @@ use Rattle.pd_line.specs.Lines.{rest_of_time_out, with_line, started, hears, rev
 abbrev pub times : PortParts → Times
 times r = times_of (without_settings r)
 
--- the work without its answer
+-- the step without its answer
 abbrev pub unanswered : PortStep → PortStep
 unanswered w = record w { answer = None }
 
--- what is told apart of a work; its faults and what waits are not
+-- what is told apart of a step under way; its faults and what waits are not
 pub record Watched : Type 0 where
   pub source : SourceData
   pub answer : Option Answer
@@ -79,10 +79,10 @@ EndsNoneOfSink x r = (sink.before_row x r).deadlines ≡ r.deadlines
 abbrev pub EndsNoneOfPlug : PlugStimulus → PlugRecord → Type 0
 EndsNoneOfPlug x r = (plug.before_row x r).deadlines ≡ r.deadlines
 
--- What holds of functions of the work, at a work, in a step at t. It holds of those that leave what is watched, of one
+-- What holds of parts of a step at t, as functions of the step under way. It holds of those that leave what is watched, of one
 -- after the other, and of those that read something besides the answer and go by it; and of the engines' steps. Of steps
 -- of the source, of what touches its layers, changes the line or starts something it holds where it is said to.
-pub record Kept (t : ℕ) : Type 1 where
+pub record StepRelation (t : ℕ) : Type 1 where
   pub holds : PortStep → (PortStep → PortStep) → Type 0
   pub steps : Type 0
   pub touches : Type 0
@@ -111,7 +111,7 @@ of_any a Source x = x
 of_any a Sink x = tt
 of_any a Plug x = tt
 
--- what is read of a work besides its answer
+-- what is read of a step under way besides its answer
 pub layer_blind : (side : Side) (c : Channel) (w : PortStep) → layer_on side c (unanswered w) ≡ layer_on side c w
 layer_blind Source Sop w = refl
 layer_blind Source SopPrime w = refl
