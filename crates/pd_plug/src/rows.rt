@@ -23,7 +23,8 @@ macro_rules! deeds {
 /// The first row that fits, tried in order: what it does, and nothing where none fits.
 macro_rules! rows {
     ($state:ident, $stimulus:ident, $facts:ident; each $($any:ident)|+;
-    $($number:ident: $($s:ident $(($($but:ident)|+))?)|+, $c:pat $(if $guard:ident)? => $next:ident $(($to:ident))? [$($deed:expr),*];)*) => {
+    $($number:ident: $($s:ident $(($($but:ident)|+))?)|+, $c:pat $(if $guard:ident)?
+        => $next:ident $(($to:ident))? [$($deed:expr),*];)*) => {
         match ($state, $stimulus) {
             $((states!($($s $(($($but)|+))?)|+), $c) $(if $facts.$guard)? => deeds!($next $(($to))? [$($deed),*]),)*
             $((State::$any, _) => &[],)+
@@ -35,7 +36,8 @@ macro_rules! rows {
 #[cfg(test)]
 macro_rules! names {
     (each $($any:ident)|+;
-    $($number:ident: $($s:ident $(($($but:ident)|+))?)|+, $c:pat $(if $guard:ident)? => $next:ident $(($to:ident))? [$($deed:expr),*];)*) => {
+    $($number:ident: $($s:ident $(($($but:ident)|+))?)|+, $c:pat $(if $guard:ident)?
+        => $next:ident $(($to:ident))? [$($deed:expr),*];)*) => {
         [$(stringify!($number)),*]
     };
 }

@@ -1,5 +1,6 @@
 -- The supplies of an offer that a sink accepts.
-use Rattle.std.proofs.Common.{◌≡◌, ◌↔◌, ℕ, zero, suc, ◌+◌, ◌<◌, Bool, true, false, if◌then◌else◌, List, [], ◌∷◌, length, refl, sym, ap, ◌∙◌, arith}
+use Rattle.std.proofs.Common.{◌≡◌, ◌↔◌, ℕ, zero, suc, ◌+◌, ◌<◌, Bool, true, false, if◌then◌else◌, List, [], ◌∷◌, length, refl, sym, ap, ◌∙◌}
+use Rattle.std.proofs.Common.{arith}
 use Rattle.std.specs.Prelude.{slice_index}
 use Rattle.std.specs.List.{All, Contains}
 use Rattle.std.proofs.lemmas.List.Elements.{All-nil, All-cons, All-weaker, All-contains}
@@ -14,12 +15,14 @@ record IsFrom (sink : SinkData) (position : ℕ) (offer : List ℕ) (o : Offered
   object_accepted : is_accepted sink (slice_index offer place) ≡ true
   supply : o ≡ supply_at (position + place) (slice_index offer place)
 
-from-first : (sink : SinkData) (position w : ℕ) (ws : List ℕ) → is_accepted sink w ≡ true → IsFrom sink position (w ∷ ws) (supply_at position w)
+from-first : (sink : SinkData) (position w : ℕ) (ws : List ℕ) → is_accepted sink w ≡ true →
+    IsFrom sink position (w ∷ ws) (supply_at position w)
 from-first sink position w ws e =
     let p : position ≡ position + 0 = omega arith in
     record { place = 0; within = omega arith; object_accepted = e; supply = ap (λ (n : ℕ). supply_at n w) p }
 
-from-later : (sink : SinkData) (position w : ℕ) (ws : List ℕ) (o : Offered) → IsFrom sink (position + 1) ws o → IsFrom sink position (w ∷ ws) o
+from-later : (sink : SinkData) (position w : ℕ) (ws : List ℕ) (o : Offered) → IsFrom sink (position + 1) ws o →
+    IsFrom sink position (w ∷ ws) o
 from-later sink position w ws o h =
     let l = h.within in
     let p : position + 1 + h.place ≡ position + suc h.place = omega arith in
@@ -30,15 +33,18 @@ from-later sink position w ws o h =
       supply = h.supply ∙ ap (λ (n : ℕ). supply_at n (slice_index ws h.place)) p;
     }
 
-all-more : (sink : SinkData) (position w : ℕ) (ws : List ℕ) (os : List Offered) (t : Bool) → is_accepted sink w ≡ t → All (IsFrom sink position (w ∷ ws)) os → All (IsFrom sink position (w ∷ ws)) (if t then supply_at position w ∷ os else os)
-all-more sink position w ws os true e all = All-cons (IsFrom sink position (w ∷ ws)) (supply_at position w) os (from-first sink position w ws e) all
+all-more : (sink : SinkData) (position w : ℕ) (ws : List ℕ) (os : List Offered) (t : Bool) → is_accepted sink w ≡ t →
+    All (IsFrom sink position (w ∷ ws)) os → All (IsFrom sink position (w ∷ ws)) (if t then supply_at position w ∷ os else os)
+all-more sink position w ws os true e all =
+    All-cons (IsFrom sink position (w ∷ ws)) (supply_at position w) os (from-first sink position w ws e) all
 all-more sink position w ws os false e all = all
 
 all-from : (sink : SinkData) (position : ℕ) (offer : List ℕ) → All (IsFrom sink position offer) (accepted_from sink position offer)
 all-from sink position [] = All-nil (IsFrom sink position [])
 all-from sink position (w ∷ ws) =
     all-more sink position w ws (accepted_from sink (position + 1) ws) (is_accepted sink w) refl
-    (All-weaker (IsFrom sink (position + 1) ws) (IsFrom sink position (w ∷ ws)) (from-later sink position w ws) (accepted_from sink (position + 1) ws) (all-from sink (position + 1) ws))
+    (All-weaker (IsFrom sink (position + 1) ws) (IsFrom sink position (w ∷ ws)) (from-later sink position w ws)
+    (accepted_from sink (position + 1) ws) (all-from sink (position + 1) ws))
 
 contains-first : (t : Bool) (x o : Offered) (os : List Offered) → t ≡ true → o ≡ x → Contains (if t then x ∷ os else os) o
 contains-first true x o os e q = (0, omega arith, sym q)
@@ -48,11 +54,14 @@ contains-later : (t : Bool) (x o : Offered) (os : List Offered) → Contains os 
 contains-later true x o os h = let l = h.1 in (suc h.0, omega arith, h.2)
 contains-later false x o os h = h
 
-contains-from : (sink : SinkData) (position : ℕ) (offer : List ℕ) (o : Offered) (place : ℕ) → place < length offer → is_accepted sink (slice_index offer place) ≡ true → o ≡ supply_at (position + place) (slice_index offer place) → Contains (accepted_from sink position offer) o
+contains-from : (sink : SinkData) (position : ℕ) (offer : List ℕ) (o : Offered) (place : ℕ) → place < length offer →
+    is_accepted sink (slice_index offer place) ≡ true → o ≡ supply_at (position + place) (slice_index offer place) →
+    Contains (accepted_from sink position offer) o
 contains-from sink position [] o place l e q = absurd (omega arith)
 contains-from sink position (w ∷ ws) o zero l e q =
     let p : position + 0 ≡ position = omega arith in
-    contains-first (is_accepted sink w) (supply_at position w) o (accepted_from sink (position + 1) ws) e (q ∙ ap (λ (n : ℕ). supply_at n w) p)
+    contains-first (is_accepted sink w) (supply_at position w) o (accepted_from sink (position + 1) ws) e (q
+    ∙ ap (λ (n : ℕ). supply_at n w) p)
 contains-from sink position (w ∷ ws) o (suc place) l e q =
     let p : position + suc place ≡ position + 1 + place = omega arith in
     contains-later (is_accepted sink w) (supply_at position w) o (accepted_from sink (position + 1) ws)
@@ -75,6 +84,7 @@ contains-of sink offer o h =
 
 pub Contains-accepted : (sink : SinkData) (offer : List ℕ) (o : Offered) → Contains (accepted sink offer) o ↔ IsAcceptedOf sink offer o
 Contains-accepted sink offer o = (
-  λ (h : Contains (accepted sink offer) o). accepted-of sink offer o (All-contains (IsFrom sink 1 offer) (accepted sink offer) o (all-from sink 1 offer) h),
+  λ (h : Contains (accepted sink offer) o). accepted-of sink offer o
+      (All-contains (IsFrom sink 1 offer) (accepted sink offer) o (all-from sink 1 offer) h),
   contains-of sink offer o,
 )

@@ -1,5 +1,6 @@
 -- What a sink asks of an offer.
-use Rattle.std.proofs.Common.{◌≡◌, inl, inr, ℕ, ◌+◌, ◌*◌, ◌%◌, ◌<◌, ◌≤◌, nat_lt, nat_le, ◌==◌, Bool, true, false, ◌&&◌, if◌then◌else◌, List, [], ◌∷◌, length, Option, Some, None, refl, arith}
+use Rattle.std.proofs.Common.{◌≡◌, inl, inr, ℕ, ◌+◌, ◌*◌, ◌%◌, ◌<◌, ◌≤◌, nat_lt, nat_le, ◌==◌, Bool, true, false, ◌&&◌, if◌then◌else◌, List}
+use Rattle.std.proofs.Common.{[], ◌∷◌, length, Option, Some, None, refl, arith}
 use Rattle.std.specs.Option.{MatchOption, IfSome}
 use Rattle.std.specs.List.{All}
 use Rattle.std.proofs.lemmas.List.Elements.{All-nil, All-cons, All-contains}
@@ -34,20 +35,30 @@ stands-at sink n position w h e =
       steps = omega arith;
     }
 
-stands-more : (sink : SinkData) (n position w : ℕ) (t : Bool) (os : List Offered) → position < n → is_accepted sink w ≡ t → All (Stands n) os → All (Stands n) (if t then supply_at position w ∷ os else os)
+stands-more : (sink : SinkData) (n position w : ℕ) (t : Bool) (os : List Offered) → position < n → is_accepted sink w ≡ t →
+    All (Stands n) os → All (Stands n) (if t then supply_at position w ∷ os else os)
 stands-more sink n position w true os h e all = All-cons (Stands n) (supply_at position w) os (stands-at sink n position w h e) all
 stands-more sink n position w false os h e all = all
 
-stands-accepted : (sink : SinkData) (n position : ℕ) (offer : List ℕ) → position + length offer ≤ n → All (Stands n) (accepted_from sink position offer)
+stands-accepted : (sink : SinkData) (n position : ℕ) (offer : List ℕ) → position + length offer ≤ n →
+    All (Stands n) (accepted_from sink position offer)
 stands-accepted sink n position [] h = All-nil (Stands n)
 stands-accepted sink n position (w ∷ ws) h =
     stands-more sink n position w (is_accepted sink w) (accepted_from sink (position + 1) ws) (omega arith) refl
     (stands-accepted sink n (position + 1) ws (omega arith))
 
-asks-chosen : (sink : SinkData) (supplies : List Offered) (n : ℕ) (f g : Option Offered) → All (Stands n) supplies → MatchOption f (All (Falls sink.demand_mw) supplies) (IsFitting sink.demand_mw supplies) → MatchOption g (supplies ≡ []) (IsGreatest supplies) → Asks sink supplies (chosen sink f g)
+asks-chosen : (sink : SinkData) (supplies : List Offered) (n : ℕ) (f g : Option Offered) → All (Stands n) supplies →
+    MatchOption f (All (Falls sink.demand_mw) supplies) (IsFitting sink.demand_mw supplies) →
+    MatchOption g (supplies ≡ []) (IsGreatest supplies) → Asks sink supplies (chosen sink f g)
 asks-chosen sink supplies n (Some o) g all h k =
     let v = All-contains (Stands n) supplies o all h.offered in
-    inl (record { supply = o; fitting = h; position = refl; current = IsNeed-need_of o.mv sink.demand_mw v.has_voltage; no_mismatch = refl })
+    inl (record {
+      supply = o;
+      fitting = h;
+      position = refl;
+      current = IsNeed-need_of o.mv sink.demand_mw v.has_voltage;
+      no_mismatch = refl;
+    })
 asks-chosen sink supplies n None (Some o) all h k =
     inr (record { supply = o; none_fits = h; greatest = k; position = refl; current = refl; mismatch = refl })
 asks-chosen sink supplies n None None all h k = k
@@ -58,7 +69,8 @@ Asks-asked_of sink offer =
     asks-chosen sink (accepted sink offer) (1 + length offer) _ _ (stands-accepted sink (1 + length offer) 1 offer (omega arith))
     (found-fitting sink.demand_mw (accepted sink offer)) (topped-greatest (accepted sink offer))
 
-requests-of : (p m : ℕ) (b : Bool) → p < 8 → m ≤ 10230 → m % 10 ≡ 0 → Requests (request_object (record { position = p; ma = m; mismatch = b })) (record { position = p; ma = m; mismatch = b })
+requests-of : (p m : ℕ) (b : Bool) → p < 8 → m ≤ 10230 → m % 10 ≡ 0 →
+    Requests (request_object (record { position = p; ma = m; mismatch = b })) (record { position = p; ma = m; mismatch = b })
 unfolding request_word_of
 requests-of p m true h k l =
     record {
@@ -91,7 +103,9 @@ short-steps mode.Greedy needed offered h k = omega arith
 short-steps mode.Plain needed offered h k = k
 short-steps mode.PowerDelivery needed offered h k = k
 
-requests-chosen : (sink : SinkData) (supplies : List Offered) (f g : Option Offered) → All (Stands 8) supplies → MatchOption f (All (Falls sink.demand_mw) supplies) (IsFitting sink.demand_mw supplies) → MatchOption g (supplies ≡ []) (IsGreatest supplies) → IfSome (chosen sink f g) (λ a. Requests (request_object a) a)
+requests-chosen : (sink : SinkData) (supplies : List Offered) (f g : Option Offered) → All (Stands 8) supplies →
+    MatchOption f (All (Falls sink.demand_mw) supplies) (IsFitting sink.demand_mw supplies) →
+    MatchOption g (supplies ≡ []) (IsGreatest supplies) → IfSome (chosen sink f g) (λ a. Requests (request_object a) a)
 requests-chosen sink supplies (Some o) g all h k =
     let v = All-contains (Stands 8) supplies o all h.offered in
     let a = v.current_fits in
@@ -106,7 +120,8 @@ requests-chosen sink supplies None (Some o) all h k =
     (short-fits sink.mode needed o.ma v.current_fits) (short-steps sink.mode needed o.ma need.steps v.steps)
 requests-chosen sink supplies None None all h k = tt
 
-pub Requests-asked_of : (sink : SinkData) (offer : List ℕ) → length offer ≤ 7 → IfSome (asked_of sink offer) (λ a. Requests (request_object a) a)
+pub Requests-asked_of : (sink : SinkData) (offer : List ℕ) → length offer ≤ 7 →
+    IfSome (asked_of sink offer) (λ a. Requests (request_object a) a)
 unfolding asked_of
 Requests-asked_of sink offer h =
     requests-chosen sink (accepted sink offer) _ _ (stands-accepted sink 8 1 offer (omega arith))

@@ -8,7 +8,8 @@ use Rattle.pd_sink.specs.Objects.{sink_object}
 use Rattle.pd_sink.specs.Laws.{Tells}
 
 -- the object of a voltage v and a current c, in the object's units
-tells-of : (higher : Bool) (v c : ℕ) → v < 1024 → c < 1024 → Tells (sink_word_of (record { higher_capability = higher; voltage = v; current = c })) higher (v * 50) (c * 10)
+tells-of : (higher : Bool) (v c : ℕ) → v < 1024 → c < 1024 →
+    Tells (sink_word_of (record { higher_capability = higher; voltage = v; current = c })) higher (v * 50) (c * 10)
 unfolding sink_word_of
 tells-of true v c h k =
     record {
@@ -45,10 +46,12 @@ retold w higher mv ma v c p q h =
 lesser : (n m : ℕ) → m ≤ 5000 → m % 10 ≡ 0 → (min (n * 10) m / 10 * 10 ≡ min (n * 10) m) × (min (n * 10) m / 10 < 1024)
 lesser n m h k = (omega arith, omega arith)
 
-pub Tells-sink_object : (higher : Bool) (sink : SinkData) (mv most_ma : ℕ) → mv ≤ 20000 → mv % 50 ≡ 0 → most_ma ≤ 5000 → most_ma % 10 ≡ 0 → Tells (sink_object higher sink mv most_ma) higher mv (min (need_of mv sink.demand_mw) most_ma)
+pub Tells-sink_object : (higher : Bool) (sink : SinkData) (mv most_ma : ℕ) → mv ≤ 20000 → mv % 50 ≡ 0 → most_ma ≤ 5000 → most_ma % 10 ≡ 0 →
+    Tells (sink_object higher sink mv most_ma) higher mv (min (need_of mv sink.demand_mw) most_ma)
 Tells-sink_object higher sink mv most_ma h k l m =
     let s = lesser (div_ceil (sink.demand_mw * 1000) (mv * 10)) most_ma l m in
     let v : mv / 50 * 50 ≡ mv = omega arith in
     let w : mv / 50 < 1024 = omega arith in
-    retold (sink_object higher sink mv most_ma) higher mv (min (need_of mv sink.demand_mw) most_ma) (mv / 50 * 50) (min (need_of mv sink.demand_mw) most_ma / 10 * 10) v s.0
+    retold (sink_object higher sink mv most_ma) higher mv (min (need_of mv sink.demand_mw) most_ma) (mv / 50 * 50)
+    (min (need_of mv sink.demand_mw) most_ma / 10 * 10) v s.0
     (tells-of higher (mv / 50) (min (need_of mv sink.demand_mw) most_ma / 10) w s.1)

@@ -21,7 +21,8 @@ SetsLater-after (deed.StartWhereAgain t) now x r = SetsLater-started_where r.aga
 SetsLater-after (deed.StartWhereFresh t) now x r = SetsLater-started_where r.fresh now r.deadlines t
 SetsLater-after _ now x r = SetsLater-same now r.deadlines
 
-SetsLater-all_after : (ds : List Deed) (now : ℕ) (x : Stimulus) (r : SinkRecord) → SetsLater now r.deadlines (all_after ds now x r).deadlines
+SetsLater-all_after : (ds : List Deed) (now : ℕ) (x : Stimulus) (r : SinkRecord) →
+    SetsLater now r.deadlines (all_after ds now x r).deadlines
 SetsLater-all_after [] now x r = SetsLater-same now r.deadlines
 SetsLater-all_after (d ∷ ds) now x r =
     SetsLater-then now r.deadlines (after d now x r).deadlines (all_after ds now x (after d now x r)).deadlines

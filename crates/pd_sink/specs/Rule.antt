@@ -1,5 +1,6 @@
 -- What a sink asks of an offer: this product's own rule.
-use Rattle.std.specs.Prelude.{◌≡◌, ◌⊎◌, ℕ, ◌+◌, ◌*◌, ◌%◌, ◌<◌, ◌≤◌, min, Bool, true, false, ◌==◌, ◌&&◌, nat_lt, nat_le, if◌then◌else◌, List, [], ◌∷◌, Contains, All, length, slice_index, Option, Some, None}
+use Rattle.std.specs.Prelude.{◌≡◌, ◌⊎◌, ℕ, ◌+◌, ◌*◌, ◌%◌, ◌<◌, ◌≤◌, min, Bool, true, false, ◌==◌, ◌&&◌, nat_lt, nat_le, if◌then◌else◌, List}
+use Rattle.std.specs.Prelude.{[], ◌∷◌, Contains, All, length, slice_index, Option, Some, None}
 use Rattle.std.specs.Int.{div_ceil}
 use Rattle.pd_symbols.specs.Words.{field}
 use Rattle.pd_setup.specs.declared.sink.SinkMode.{SinkMode}

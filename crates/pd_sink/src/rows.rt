@@ -50,7 +50,8 @@ macro_rules! deeds {
     ($facts:ident, stay [$($deed:expr),*]) => { &[$($deed),*] };
     ($facts:ident, to ($to:ident) [$($deed:expr),*]) => { &[Deed::Enter(State::$to), $($deed),*] };
     ($facts:ident, rq [$($deed:expr),*]) => {
-        &[$($deed,)* Deed::Enter(State::SelectCapability), Deed::Fresh(false), Deed::Again(false), Deed::NoteMismatch, Deed::Send(Message::Request)]
+        &[$($deed,)* Deed::Enter(State::SelectCapability), Deed::Fresh(false), Deed::Again(false), Deed::NoteMismatch,
+            Deed::Send(Message::Request)]
     };
     ($facts:ident, rd [$($deed:expr),*]) => {
         &[$($deed,)* Deed::Enter(State::Ready), Deed::StartWhereAgain(Timer::SinkRequest), Deed::StartWhereFresh(Timer::Delay)]
@@ -60,7 +61,8 @@ macro_rules! deeds {
     };
     ($facts:ident, hr [$($deed:expr),*]) => {
         if $facts.hard_resets_left {
-            &[$($deed,)* Deed::Enter(State::HardReset), Deed::HardResetCounterUp, Deed::Contract(false), Deed::Note(Note::HardReset), Deed::SendHardReset]
+            &[$($deed,)* Deed::Enter(State::HardReset), Deed::HardResetCounterUp, Deed::Contract(false),
+                Deed::Note(Note::HardReset), Deed::SendHardReset]
         } else {
             &[$($deed,)* Deed::Enter(State::Disabled), Deed::Contract(false), Deed::Note(Note::Disabled)]
         }
@@ -70,7 +72,8 @@ macro_rules! deeds {
 /// The first row that fits, tried in order: what it does, and nothing where none fits.
 macro_rules! rows {
     ($state:ident, $stimulus:ident, $facts:ident; each $($any:ident)|+;
-    $($number:ident: $($s:ident $(($($but:ident)|+))?)|+, $c:pat $(if $guard:ident)? => $next:ident $(($to:ident))? [$($deed:expr),*];)*) => {
+    $($number:ident: $($s:ident $(($($but:ident)|+))?)|+, $c:pat $(if $guard:ident)?
+        => $next:ident $(($to:ident))? [$($deed:expr),*];)*) => {
         match ($state, $stimulus) {
             $((states!($($s $(($($but)|+))?)|+), $c) $(if $facts.$guard)? => deeds!($facts, $next $(($to))? [$($deed),*]),)*
             $((State::$any, _) => &[],)+
@@ -82,7 +85,8 @@ macro_rules! rows {
 #[cfg(test)]
 macro_rules! names {
     (each $($any:ident)|+;
-    $($number:ident: $($s:ident $(($($but:ident)|+))?)|+, $c:pat $(if $guard:ident)? => $next:ident $(($to:ident))? [$($deed:expr),*];)*) => {
+    $($number:ident: $($s:ident $(($($but:ident)|+))?)|+, $c:pat $(if $guard:ident)?
+        => $next:ident $(($to:ident))? [$($deed:expr),*];)*) => {
         [$(stringify!($number)),*]
     };
 }
@@ -92,7 +96,9 @@ macro_rules! table {
     ($read:ident $($before:tt)*) => {
         $read! {
             $($before)*
-            each Off | Disabled | Discovery | WaitForCapabilities | EvaluateCapability | SelectCapability | TransitionSink | Ready | GiveSinkCap | GetSourceCap | SendSoftReset | SoftReset | HardReset | TransitionToDefault;
+            each Off | Disabled | Discovery | WaitForCapabilities | EvaluateCapability | SelectCapability |
+                TransitionSink | Ready | GiveSinkCap | GetSourceCap | SendSoftReset | SoftReset | HardReset |
+                TransitionToDefault;
             // Off
             K1: Off, Stimulus::Attach(_) if plain => to(Disabled) [];
             K2: Off, Stimulus::Attach(_) => to(Discovery) [];

@@ -28,7 +28,8 @@ does_one r = none_of_row is_settle r || none_of_row is_take r
 unfoldable pub IsLeft : Option ℕ → Option ℕ → Type 0
 IsLeft old new = (new ≡ old) ⊎ (new ≡ None)
 
-left-after : (s : SourceSettings) (d : Deed) (now : ℕ) (x : Stimulus) (a : Option Answer) (r : SourceRecord) (old : Option ℕ) → not (is_take d) ≡ true → IsLeft old r.accepted_request → IsLeft old (after s d now x a r).accepted_request
+left-after : (s : SourceSettings) (d : Deed) (now : ℕ) (x : Stimulus) (a : Option Answer) (r : SourceRecord) (old : Option ℕ) →
+    not (is_take d) ≡ true → IsLeft old r.accepted_request → IsLeft old (after s d now x a r).accepted_request
 unfolding IsLeft
 left-after s deed.Take now x a r old n h = absurd (cc)
 left-after s deed.Close now x a r old n h = inr refl
@@ -36,18 +37,21 @@ left-after s deed.Commit now x a r old n h = inr refl
 left-after s deed.Void now x a r old n h = inr refl
 left-after s _ now x a r old n h = h
 
-pub left-all : (s : SourceSettings) (ds : List Deed) (now : ℕ) (x : Stimulus) (a : Option Answer) (r : SourceRecord) (old : Option ℕ) → none_of is_take ds ≡ true → IsLeft old r.accepted_request → IsLeft old (all_after s ds now x a r).accepted_request
+pub left-all : (s : SourceSettings) (ds : List Deed) (now : ℕ) (x : Stimulus) (a : Option Answer) (r : SourceRecord) (old : Option ℕ) →
+    none_of is_take ds ≡ true → IsLeft old r.accepted_request → IsLeft old (all_after s ds now x a r).accepted_request
 left-all s [] now x a r old n h = h
 left-all s (d ∷ ds) now x a r old n h =
     left-all s ds now x a (after s d now x a r) old (and-right (not (is_take d)) (none_of is_take ds) n)
     (left-after s d now x a r old (and-left (not (is_take d)) (none_of is_take ds) n) h)
 
-offer-after : (s : SourceSettings) (d : Deed) (now : ℕ) (x : Stimulus) (a : Option Answer) (r : SourceRecord) → not (is_settle d) ≡ true → (after s d now x a r).delivered_offer ≡ r.delivered_offer
+offer-after : (s : SourceSettings) (d : Deed) (now : ℕ) (x : Stimulus) (a : Option Answer) (r : SourceRecord) → not (is_settle d) ≡ true →
+    (after s d now x a r).delivered_offer ≡ r.delivered_offer
 offer-after s deed.Settle now x a r n = absurd (cc)
 offer-after s deed.Void now x a r n = absurd (cc)
 offer-after s _ now x a r n = refl
 
-offer-all : (s : SourceSettings) (ds : List Deed) (now : ℕ) (x : Stimulus) (a : Option Answer) (r : SourceRecord) → none_of is_settle ds ≡ true → (all_after s ds now x a r).delivered_offer ≡ r.delivered_offer
+offer-all : (s : SourceSettings) (ds : List Deed) (now : ℕ) (x : Stimulus) (a : Option Answer) (r : SourceRecord) →
+    none_of is_settle ds ≡ true → (all_after s ds now x a r).delivered_offer ≡ r.delivered_offer
 offer-all s [] now x a r n = refl
 offer-all s (d ∷ ds) now x a r n =
     offer-all s ds now x a (after s d now x a r) (and-right (not (is_settle d)) (none_of is_settle ds) n)
@@ -55,7 +59,8 @@ offer-all s (d ∷ ds) now x a r n =
 
 by_row : (s : SourceSettings) (now : ℕ) (x : Stimulus) (a : Option Answer) (r : SourceRecord) (b c : Bool) →
     (b ≡ true → none_of is_settle (deeds_at s x a r) ≡ true) → (c ≡ true → none_of is_take (deeds_at s x a r) ≡ true) → b || c ≡ true →
-    ((all_after s (deeds_at s x a r) now x a r).delivered_offer ≡ r.delivered_offer) ⊎ IsLeft r.accepted_request (all_after s (deeds_at s x a r) now x a r).accepted_request
+    ((all_after s (deeds_at s x a r) now x a r).delivered_offer ≡ r.delivered_offer) ⊎ IsLeft r.accepted_request
+    (all_after s (deeds_at s x a r) now x a r).accepted_request
 unfolding IsLeft
 by_row s now x a r true c h k e = inl (offer-all s (deeds_at s x a r) now x a r (h refl))
 by_row s now x a r false true h k e = inr (left-all s (deeds_at s x a r) now x a r r.accepted_request (k refl) (inl refl))

@@ -31,15 +31,18 @@ heard-attach stimulus.Attach e = absurd (cc)
 heard-attach (stimulus.Identity objects) e = replies (reply_of objects.items)
 heard-attach x e = refl
 
-row-off : (s : SourceSettings) (a : Option Answer) (r : SourceRecord) (h : Heard) → is_attach_heard h ≡ false → row_of (holds s a r) state.Off h ≡ anything_else
+row-off : (s : SourceSettings) (a : Option Answer) (r : SourceRecord) (h : Heard) → is_attach_heard h ≡ false →
+    row_of (holds s a r) state.Off h ≡ anything_else
 unfolding row_of
 row-off s a r heard.Attach e = absurd (cc)
 row-off s a r h e = refl
 
-pub off-stepped : (s : SourceSettings) (now : ℕ) (x : Stimulus) (a : Option Answer) (r : SourceRecord) → is_attach x ≡ false → r.state ≡ state.Off → (stepped s now x a r).state ≡ state.Off
+pub off-stepped : (s : SourceSettings) (now : ℕ) (x : Stimulus) (a : Option Answer) (r : SourceRecord) → is_attach x ≡ false →
+    r.state ≡ state.Off → (stepped s now x a r).state ≡ state.Off
 unfolding stepped
 off-stepped s now x a r n e =
     let z = before_row x r in
     let off : z.state ≡ state.Off = state-before x r ∙ e in
-    let w : row_at s x a z ≡ anything_else = ap (λ (t : State). row_of (holds s a z) t (heard_of x)) off ∙ row-off s a z (heard_of x) (heard-attach x n) in
+    let w : row_at s x a z ≡ anything_else = ap (λ (t : State). row_of (holds s a z) t (heard_of x)) off
+    ∙ row-off s a z (heard_of x) (heard-attach x n) in
     ap (λ (w : Row). (all_after s (deeds_of_row (holds s a z) w) now x a z).state) w ∙ off

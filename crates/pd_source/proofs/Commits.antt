@@ -1,5 +1,6 @@
 -- A contract is made where a step leads from Transition_Supply to Ready, and nowhere else.
-use Rattle.std.proofs.Common.{◌≡◌, ◌≢◌, ◌⊎◌, ℕ, Bool, true, false, not, ◌&&◌, ◌||◌, if◌then◌else◌, List, [], ◌∷◌, Option, None, option_map, refl, sym, ap, ◌∙◌, inl, inr}
+use Rattle.std.proofs.Common.{◌≡◌, ◌≢◌, ◌⊎◌, ℕ, Bool, true, false, not, ◌&&◌, ◌||◌, if◌then◌else◌, List, [], ◌∷◌, Option, None, option_map}
+use Rattle.std.proofs.Common.{refl, sym, ap, ◌∙◌, inl, inr}
 use Rattle.std.specs.List.{list_all}
 use Rattle.pd_objects.specs.declared.contract.Contract.{Contract}
 use Rattle.pd_objects.specs.declared.query.Answer.{Answer}
@@ -47,12 +48,15 @@ is_making _ = false
 abbrev StaysOrFalls : Option Contract → Option Contract → Type 0
 StaysOrFalls old new = (new ≡ old) ⊎ (new ≡ None)
 
-contract-after : (s : SourceSettings) (d : Deed) (now : ℕ) (x : Stimulus) (a : Option Answer) (r : SourceRecord) (old : Option Contract) → not (is_commit d) ≡ true → StaysOrFalls old r.contract → StaysOrFalls old (after s d now x a r).contract
+contract-after : (s : SourceSettings) (d : Deed) (now : ℕ) (x : Stimulus) (a : Option Answer) (r : SourceRecord) (old : Option Contract) →
+    not (is_commit d) ≡ true → StaysOrFalls old r.contract → StaysOrFalls old (after s d now x a r).contract
 contract-after s deed.Commit now x a r old n h = absurd (cc)
 contract-after s deed.Void now x a r old n h = inr refl
 contract-after s _ now x a r old n h = h
 
-contract-all : (s : SourceSettings) (ds : List Deed) (now : ℕ) (x : Stimulus) (a : Option Answer) (r : SourceRecord) (old : Option Contract) → none_of is_commit ds ≡ true → StaysOrFalls old r.contract → StaysOrFalls old (all_after s ds now x a r).contract
+contract-all : (s : SourceSettings) (ds : List Deed) (now : ℕ) (x : Stimulus) (a : Option Answer) (r : SourceRecord)
+    (old : Option Contract) → none_of is_commit ds ≡ true → StaysOrFalls old r.contract →
+    StaysOrFalls old (all_after s ds now x a r).contract
 contract-all s [] now x a r old n h = h
 contract-all s (d ∷ ds) now x a r old n h =
     contract-all s ds now x a (after s d now x a r) old (and-right (not (is_commit d)) (none_of is_commit ds) n)
@@ -62,11 +66,13 @@ is-false : (b : Bool) → not b ≡ true → b ≡ false
 is-false true h = absurd (cc)
 is-false false h = refl
 
-state-after : (s : SourceSettings) (d : Deed) (now : ℕ) (x : Stimulus) (a : Option Answer) (r : SourceRecord) → not (enters_ready d) ≡ true → is_in_ready r.state ≡ false → is_in_ready (after s d now x a r).state ≡ false
+state-after : (s : SourceSettings) (d : Deed) (now : ℕ) (x : Stimulus) (a : Option Answer) (r : SourceRecord) →
+    not (enters_ready d) ≡ true → is_in_ready r.state ≡ false → is_in_ready (after s d now x a r).state ≡ false
 state-after s (deed.Enter t) now x a r n h = is-false (is_in_ready t) n
 state-after s _ now x a r n h = h
 
-state-all : (s : SourceSettings) (ds : List Deed) (now : ℕ) (x : Stimulus) (a : Option Answer) (r : SourceRecord) → none_of enters_ready ds ≡ true → is_in_ready r.state ≡ false → is_in_ready (all_after s ds now x a r).state ≡ false
+state-all : (s : SourceSettings) (ds : List Deed) (now : ℕ) (x : Stimulus) (a : Option Answer) (r : SourceRecord) →
+    none_of enters_ready ds ≡ true → is_in_ready r.state ≡ false → is_in_ready (all_after s ds now x a r).state ≡ false
 state-all s [] now x a r n h = h
 state-all s (d ∷ ds) now x a r n h =
     state-all s ds now x a (after s d now x a r) (and-right (not (enters_ready d)) (none_of enters_ready ds) n)
@@ -82,8 +88,10 @@ record Made (s : SourceSettings) (old new : SourceRecord) : Type 0 where
   contract : new.contract ≡ option_map (contract_of s.supplies old.delivered_offer) old.accepted_request
   used : new.accepted_request ≡ None
 
-made-all : (s : SourceSettings) (ds : List Deed) (now : ℕ) (x : Stimulus) (a : Option Answer) (r : SourceRecord) → is_making ds ≡ true → Made s r (all_after s ds now x a r)
-made-all s (deed.Enter t ∷ deed.Commit ∷ deed.HardResetCounterZero ∷ deed.Start timer ∷ []) now x a r h = record { to_ready = is_ready t h; contract = refl; used = refl }
+made-all : (s : SourceSettings) (ds : List Deed) (now : ℕ) (x : Stimulus) (a : Option Answer) (r : SourceRecord) → is_making ds ≡ true →
+    Made s r (all_after s ds now x a r)
+made-all s (deed.Enter t ∷ deed.Commit ∷ deed.HardResetCounterZero ∷ deed.Start timer ∷ []) now x a r h =
+    record { to_ready = is_ready t h; contract = refl; used = refl }
 made-all s _ now x a r h = absurd (cc)
 
 -- ---- rows
@@ -109,8 +117,11 @@ else-fair _ = refl
 not-both : (b : Bool) → b ≡ false → b ≡ true → ⊥
 not-both b h k = let e : false ≡ true = sym h ∙ k in cc
 
-by_fair : (s : SourceSettings) (r new : SourceRecord) (transition no_commit making no_take no_ready : Bool) → is_transition r.state ≡ transition → fair transition no_commit making no_take no_ready ≡ true
-    → (no_commit ≡ true → StaysOrFalls r.contract new.contract) → (making ≡ true → Made s r new) → (no_take ≡ true → IsLeft r.accepted_request new.accepted_request) → (no_ready ≡ true → is_transition r.state ≡ true → new.state ≢ state.Ready)
+by_fair : (s : SourceSettings) (r new : SourceRecord) (transition no_commit making no_take no_ready : Bool) →
+    is_transition r.state ≡ transition → fair transition no_commit making no_take no_ready ≡ true
+    → (no_commit ≡ true → StaysOrFalls r.contract new.contract) → (making ≡ true → Made s r new) →
+    (no_take ≡ true → IsLeft r.accepted_request new.accepted_request) →
+    (no_ready ≡ true → is_transition r.state ≡ true → new.state ≢ state.Ready)
     → MakesOrNot s r new
 unfolding IsLeft
 by_fair s r new true false making no_take no_ready from h stays made left away =
@@ -141,9 +152,11 @@ switched_off s r = record { contract = inr refl; not_ready = λ e. not_ready sta
 
 -- what comes before the row changes nothing of this
 before : (s : SourceSettings) (x : Stimulus) (r new : SourceRecord) → MakesOrNot s (before_row x r) new → MakesOrNot s r new
-before s (stimulus.Sent m) r new (inl h) = inl (record { from_transition = h.from_transition; to_ready = h.to_ready; contract = h.contract; used = h.used })
+before s (stimulus.Sent m) r new (inl h) =
+    inl (record { from_transition = h.from_transition; to_ready = h.to_ready; contract = h.contract; used = h.used })
 before s (stimulus.Sent m) r new (inr h) = inr (record { contract = h.contract; not_ready = h.not_ready; none_anew = h.none_anew })
-before s (stimulus.Ended t) r new (inl h) = inl (record { from_transition = h.from_transition; to_ready = h.to_ready; contract = h.contract; used = h.used })
+before s (stimulus.Ended t) r new (inl h) =
+    inl (record { from_transition = h.from_transition; to_ready = h.to_ready; contract = h.contract; used = h.used })
 before s (stimulus.Ended t) r new (inr h) = inr (record { contract = h.contract; not_ready = h.not_ready; none_anew = h.none_anew })
 before s _ r new h = h
 
@@ -153,9 +166,11 @@ commits-stepped s now x a r =
     let z = before_row x r in
     let w = row_at s x a z in
     let ds = deeds_at s x a z in
-    let k = chosen (are_fair z.state) (holds s a z) w (row_of-fit (is_fair z.state) (holds s a z) z.state (heard_of x) (else-fair z.state) (table-fair z.state (heard_of x))) in
+    let k = chosen (are_fair z.state) (holds s a z) w
+    (row_of-fit (is_fair z.state) (holds s a z) z.state (heard_of x) (else-fair z.state) (table-fair z.state (heard_of x))) in
     before s x r (all_after s ds now x a z)
-    (by_fair s z (all_after s ds now x a z) (is_transition z.state) (none_of is_commit ds) (is_making ds) (none_of is_take ds) (none_of enters_ready ds) refl k
+    (by_fair s z (all_after s ds now x a z) (is_transition z.state) (none_of is_commit ds) (is_making ds) (none_of is_take ds)
+    (none_of enters_ready ds) refl k
     (λ n. contract-all s ds now x a z z.contract n (inl refl))
     (λ n. made-all s ds now x a z n)
     (λ n. left-all s ds now x a z z.accepted_request n (inl refl))

@@ -7,7 +7,8 @@ use Rattle.pd_source.specs.declared.kinds.Act.{Act}
 use Rattle.pd_source.specs.declared.kinds.Deed.{Deed}
 use Rattle.pd_source.specs.declared.kinds.Deed.TheVariants as deed
 use Rattle.pd_source.specs.Record.{SourceSettings, SourceRecord}
-use Rattle.pd_source.specs.Table.{Row, Guard, HardResetsLeft, Next, Stay, Same, To, SC, NC, SR, HR, holds, heard_of, sc, nc, sr, hr, deeds_of_row}
+use Rattle.pd_source.specs.Table.{Row, Guard, HardResetsLeft, Next, Stay, Same, To, SC, NC, SR, HR, holds, heard_of, sc, nc, sr, hr}
+use Rattle.pd_source.specs.Table.{deeds_of_row}
 use Rattle.pd_source.specs.Acts.{after, wants, all_wants, fault_count}
 use Rattle.pd_source.specs.Step.{before_row, row_at, deeds_at, acts_of}
 use Rattle.pd_source.proofs.Walk.{row_of-all}
@@ -35,7 +36,8 @@ fault_count-wants s deed.On r = refl
 fault_count-wants s (deed.Note n) r = refl
 fault_count-wants s _ r = refl
 
-fault_count-all_wants : (s : SourceSettings) (ds : List Deed) (now : ℕ) (x : Stimulus) (a : Option Answer) (r : SourceRecord) → fault_count (all_wants s ds now x a r) ≡ faults_of_deeds ds
+fault_count-all_wants : (s : SourceSettings) (ds : List Deed) (now : ℕ) (x : Stimulus) (a : Option Answer) (r : SourceRecord) →
+    fault_count (all_wants s ds now x a r) ≡ faults_of_deeds ds
 fault_count-all_wants s [] now x a r = refl
 fault_count-all_wants s (d ∷ ds) now x a r =
     let h = fault_count-append (wants s d r) (all_wants s ds now x a (after s d now x a r)) in
@@ -54,7 +56,8 @@ hr-fault_count : (b : Bool) → faults_of_deeds (hr b) ≡ 1
 hr-fault_count true = refl
 hr-fault_count false = refl
 
-with-next : (g : Guard → Bool) (n : Next) (r : Row) → faults_of_deeds (deeds_of_row g (record r { next = n })) ≡ faults_of_deeds r.deeds + faults_of_next n
+with-next : (g : Guard → Bool) (n : Next) (r : Row) →
+    faults_of_deeds (deeds_of_row g (record r { next = n })) ≡ faults_of_deeds r.deeds + faults_of_next n
 with-next g Stay r = omega arith
 with-next g Same r = omega arith
 with-next g (To t) r = omega arith
@@ -73,7 +76,8 @@ few n h = grind (arith, nat_tests)
 row-fault_count : (g : Guard → Bool) (r : Row) → has_few_faults r ≡ true → faults_of_deeds (deeds_of_row g r) ≤ 2
 row-fault_count g r h = let k = with-next g r.next r in let l = few (faults_of_deeds r.deeds + faults_of_next r.next) h in omega arith
 
-pub fault_count-acts_of : (s : SourceSettings) (now : ℕ) (x : Stimulus) (a : Option Answer) (r : SourceRecord) → fault_count (acts_of s now x a r) ≤ 2
+pub fault_count-acts_of : (s : SourceSettings) (now : ℕ) (x : Stimulus) (a : Option Answer) (r : SourceRecord) →
+    fault_count (acts_of s now x a r) ≤ 2
 unfolding acts_of
 fault_count-acts_of s now x a r =
     let z = before_row x r in

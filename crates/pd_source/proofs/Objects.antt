@@ -5,7 +5,8 @@ use Rattle.pd_objects.specs.FixedSupply.{word_of}
 use Rattle.pd_source.specs.Acts.{object_of}
 use Rattle.pd_source.specs.Laws.{Offers}
 
-pub Offers-object_of : (unconstrained : Bool) (supply : SupplyData) (ma : ℕ) → IsSupply supply → ma ≤ supply.ma → ma % 10 ≡ 0 → Offers (object_of unconstrained supply ma) unconstrained supply ma
+pub Offers-object_of : (unconstrained : Bool) (supply : SupplyData) (ma : ℕ) → IsSupply supply → ma ≤ supply.ma → ma % 10 ≡ 0 →
+    Offers (object_of unconstrained supply ma) unconstrained supply ma
 unfolding word_of
 Offers-object_of true supply ma h most steps =
     let a = h.most_mv in

@@ -6,13 +6,15 @@ use Rattle.pd_source.specs.Acts.{capabilities}
 use Rattle.pd_source.specs.Step.{powers}
 
 -- with no supply or no current left there is no power and no object
-pub powers-ended : (supplies : List SupplyData) (currents : List ℕ) → (length supplies ≡ 0) ⊎ (length currents ≡ 0) → powers supplies currents ≡ []
+pub powers-ended : (supplies : List SupplyData) (currents : List ℕ) → (length supplies ≡ 0) ⊎ (length currents ≡ 0) →
+    powers supplies currents ≡ []
 powers-ended [] currents h = refl
 powers-ended (s ∷ ss) [] h = refl
 powers-ended (s ∷ ss) (m ∷ ms) (inl e) = absurd (omega arith)
 powers-ended (s ∷ ss) (m ∷ ms) (inr e) = absurd (omega arith)
 
-pub capabilities-ended : (u : Bool) (supplies : List SupplyData) (currents : List ℕ) → (length supplies ≡ 0) ⊎ (length currents ≡ 0) → capabilities u supplies currents ≡ []
+pub capabilities-ended : (u : Bool) (supplies : List SupplyData) (currents : List ℕ) → (length supplies ≡ 0) ⊎ (length currents ≡ 0) →
+    capabilities u supplies currents ≡ []
 capabilities-ended u [] currents h = refl
 capabilities-ended u (s ∷ ss) [] h = refl
 capabilities-ended u (s ∷ ss) (m ∷ ms) (inl e) = absurd (omega arith)
@@ -23,7 +25,8 @@ least-fold_max n [] = omega arith
 least-fold_max n (x ∷ xs) = let h = least-fold_max (max n x) xs in omega arith
 
 -- powers within a bound, and a number within it
-pub fold_max-powers : (f n : ℕ) (supplies : List SupplyData) (currents : List ℕ) → AreWithin f supplies currents → n ≤ f → fold max n (powers supplies currents) ≤ f
+pub fold_max-powers : (f n : ℕ) (supplies : List SupplyData) (currents : List ℕ) → AreWithin f supplies currents → n ≤ f →
+    fold max n (powers supplies currents) ≤ f
 fold_max-powers f n [] [] w h = h
 fold_max-powers f n (s ∷ ss) (m ∷ ms) w h = let p = w.0 in fold_max-powers f (max n (s.mv * m)) ss ms w.1 (omega arith)
 fold_max-powers f n [] (m ∷ ms) w h = absurd w

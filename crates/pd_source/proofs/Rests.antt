@@ -1,5 +1,6 @@
 -- A source at rest holds nothing, and one that sheds holds the floor alone.
-use Rattle.std.proofs.Common.{◌≡◌, ℕ, Bool, true, false, not, ◌&&◌, ◌||◌, max, fold, is_some, if◌then◌else◌, List, [], ◌∷◌, ◌++◌, take, drop, Option, Some, None, refl, sym, ap, ◌∙◌, subst}
+use Rattle.std.proofs.Common.{◌≡◌, ℕ, Bool, true, false, not, ◌&&◌, ◌||◌, max, fold, is_some, if◌then◌else◌, List, [], ◌∷◌, ◌++◌, take}
+use Rattle.std.proofs.Common.{drop, Option, Some, None, refl, sym, ap, ◌∙◌, subst}
 use Rattle.std.specs.List.{list_all}
 use Rattle.pd_objects.specs.declared.contract.Contract.{Contract}
 use Rattle.pd_objects.specs.declared.query.Answer.{Answer}
@@ -13,7 +14,8 @@ use Rattle.pd_source.specs.declared.kinds.Heard.TheVariants as heard
 use Rattle.pd_source.specs.declared.kinds.Deed.{Deed}
 use Rattle.pd_source.specs.declared.kinds.Deed.TheVariants as deed
 use Rattle.pd_source.specs.Record.{SourceSettings, SourceRecord, off}
-use Rattle.pd_source.specs.Table.{Row, row, Guard, Always, HasContract, HardResetsLeft, To, SR, Failed, among, match_one, first, table, anything_else, row_of, hr, deeds_of_row, holds, heard_of}
+use Rattle.pd_source.specs.Table.{Row, row, Guard, Always, HasContract, HardResetsLeft, To, SR, Failed, among, match_one, first, table}
+use Rattle.pd_source.specs.Table.{anything_else, row_of, hr, deeds_of_row, holds, heard_of}
 use Rattle.pd_source.specs.Acts.{after, all_after}
 use Rattle.pd_source.specs.Step.{before_row, deeds_at, stepped, hold_of, powers, contracted, requested}
 use Rattle.pd_source.proofs.Walk.{and-left, and-right}
@@ -111,21 +113,25 @@ pick p true true r q h k = or-false (p r) h where
 pick p true false r q h k = k
 pick p false c r q h k = k
 
-or-later : (t : State) (none : Bool) (g : Guard → Bool) (h : Heard) (rows more : List Row) → all_fair t none h rows ≡ true → is_fair t none (first g t h more) ≡ true → is_fair t none (first g t h (rows ++ more)) ≡ true
+or-later : (t : State) (none : Bool) (g : Guard → Bool) (h : Heard) (rows more : List Row) → all_fair t none h rows ≡ true →
+    is_fair t none (first g t h more) ≡ true → is_fair t none (first g t h (rows ++ more)) ≡ true
 or-later t none g h [] more all k = k
 or-later t none g h (r ∷ rs) more all k =
     let u = is_fair t none r || not (among t r.states && match_one h r.cues) in
-    pick (is_fair t none) (among t r.states && match_one h r.cues) (g r.guard) r (first g t h (rs ++ more)) (and-left u (all_fair t none h rs) all)
+    pick (is_fair t none) (among t r.states && match_one h r.cues) (g r.guard) r (first g t h (rs ++ more))
+    (and-left u (all_fair t none h rs) all)
     (or-later t none g h rs more (and-right u (all_fair t none h rs) all) k)
 
 abbrev row_12 : Row
 row_12 = row 12 (state.SendCapabilities ∷ []) (Failed ∷ []) HasContract SR []
 
 abbrev row_13 : Row
-row_13 = row 13 (state.SendCapabilities ∷ []) (Failed ∷ []) Always (To state.Discovery) (deed.Close ∷ deed.Start timer.SourceCapability ∷ [])
+row_13 = row 13 (state.SendCapabilities ∷ []) (Failed ∷ []) Always (To state.Discovery)
+    (deed.Close ∷ deed.Start timer.SourceCapability ∷ [])
 
 -- where there is a contract, row 12 is taken in place of row 13
-one-of-two : (p : Row → Bool) (m c d : Bool) (q : Row) → c ≡ true → p row_12 ≡ true → p q ≡ true → p (if (m && c) then row_12 else (if (m && d) then row_13 else q)) ≡ true
+one-of-two : (p : Row → Bool) (m c d : Bool) (q : Row) → c ≡ true → p row_12 ≡ true → p q ≡ true →
+    p (if (m && c) then row_12 else (if (m && d) then row_13 else q)) ≡ true
 one-of-two p true true d q e h k = h
 one-of-two p true false d q e h k = no e
 one-of-two p false c d q e h k = k
@@ -134,19 +140,22 @@ with-contract : (t : State) (g : Guard → Bool) (h : Heard) → g HasContract �
 unfolding row_of
 with-contract t g h e =
     or-later t false g h (take 11 table) (row_12 ∷ row_13 ∷ drop 13 table) (before-12 t h)
-    (one-of-two (is_fair t false) (among t (state.SendCapabilities ∷ []) && match_one h (Failed ∷ [])) (g HasContract) (g Always) (first g t h (drop 13 table)) e refl
+    (one-of-two (is_fair t false) (among t (state.SendCapabilities ∷ []) && match_one h (Failed ∷ [])) (g HasContract) (g Always)
+    (first g t h (drop 13 table)) e refl
     (or-later t false g h (drop 13 table) [] (after-13 t h) (else-fair t false)))
 
 row-fair : (b : Bool) (t : State) (g : Guard → Bool) (h : Heard) → g HasContract ≡ b → is_fair t (not b) (row_of g t h) ≡ true
 row-fair true t g h e = with-contract t g h e
 row-fair false t g h e = row_of-fit (is_fair t true) g t h (else-fair t true) (without-contract t h)
 
-by-left : (rest c b : Bool) (w : Row) → ends rest rest rest c (deeds_of_row (λ g. true) w) && ends rest rest rest c (deeds_of_row (λ g. false) w) ≡ true →
+by-left : (rest c b : Bool) (w : Row) →
+    ends rest rest rest c (deeds_of_row (λ g. true) w) && ends rest rest rest c (deeds_of_row (λ g. false) w) ≡ true →
     ends rest rest rest c (deeds_of_row (λ g. b) w) ≡ true
 by-left rest c true w h = and-left _ (ends rest rest rest c (deeds_of_row (λ g. false) w)) h
 by-left rest c false w h = and-right (ends rest rest rest c (deeds_of_row (λ g. true) w)) _ h
 
-row-ends : (t : State) (g : Guard → Bool) (h : Heard) → ends (is_at_rest t) (is_at_rest t) (is_at_rest t) (is_at_rest t || not (g HasContract)) (deeds_of_row g (row_of g t h)) ≡ true
+row-ends : (t : State) (g : Guard → Bool) (h : Heard) →
+    ends (is_at_rest t) (is_at_rest t) (is_at_rest t) (is_at_rest t || not (g HasContract)) (deeds_of_row g (row_of g t h)) ≡ true
 row-ends t g h =
     let rest = is_at_rest t in
     let w = row_of g t h in
@@ -164,7 +173,8 @@ no_contract false None h e = refl
 no_contract false (Some c) h e = no e
 
 -- a step leaves a source empty at rest
-pub empty-stepped : (s : SourceSettings) (now : ℕ) (x : Stimulus) (a : Option Answer) (r : SourceRecord) → IsEmptyAtRest r → IsEmptyAtRest (stepped s now x a r)
+pub empty-stepped : (s : SourceSettings) (now : ℕ) (x : Stimulus) (a : Option Answer) (r : SourceRecord) → IsEmptyAtRest r →
+    IsEmptyAtRest (stepped s now x a r)
 unfolding stepped
 empty-stepped s now x a r h =
     let z = before_row x r in
@@ -182,7 +192,9 @@ pub empty-off : (s : SourceSettings) → IsEmptyAtRest (off s)
 empty-off s e = record { draft = refl; accepted = refl; contract = refl }
 
 -- what sheds: a hard reset in all states but Off and Disabled
-pub shed-deeds : (s : SourceSettings) (r : SourceRecord) (t : State) → deeds_of_row (holds s None r) (row_of (holds s None r) t heard.Shed) ≡ (if among t (state.Off ∷ state.Disabled ∷ []) then [] else hr (holds s None r HardResetsLeft))
+pub shed-deeds : (s : SourceSettings) (r : SourceRecord) (t : State) →
+    deeds_of_row (holds s None r) (row_of (holds s None r) t heard.Shed) ≡ (if among t (state.Off ∷ state.Disabled ∷ []) then [] else hr
+    (holds s None r HardResetsLeft))
 unfolding row_of
 shed-deeds s r state.Off = refl
 shed-deeds s r _ = refl
@@ -192,7 +204,8 @@ off-rests state.Off e = refl
 off-rests state.Disabled e = refl
 off-rests _ e = no e
 
-shed-after : (s : SourceSettings) (now : ℕ) (r : SourceRecord) (b c : Bool) → (b ≡ true → HoldsNothing r) → HoldsNothing (all_after s (if b then [] else hr c) now stimulus.Shed None r)
+shed-after : (s : SourceSettings) (now : ℕ) (r : SourceRecord) (b c : Bool) → (b ≡ true → HoldsNothing r) →
+    HoldsNothing (all_after s (if b then [] else hr c) now stimulus.Shed None r)
 shed-after s now r true c h = h refl
 shed-after s now r false true h = record { draft = refl; accepted = refl; contract = refl }
 shed-after s now r false false h = record { draft = refl; accepted = refl; contract = refl }
@@ -218,5 +231,6 @@ unfolding hold_of
 hold_of-nothing s floor r h = hold_of-parts s floor r.contract r.accepted_request r.draft_offer h.contract h.accepted h.draft
 
 -- what is shed falls to the floor
-pub hold_of-shed : (s : SourceSettings) (floor now : ℕ) (r : SourceRecord) → IsEmptyAtRest r → hold_of s floor (stepped s now stimulus.Shed None r) ≡ floor
+pub hold_of-shed : (s : SourceSettings) (floor now : ℕ) (r : SourceRecord) → IsEmptyAtRest r →
+    hold_of s floor (stepped s now stimulus.Shed None r) ≡ floor
 hold_of-shed s floor now r h = hold_of-nothing s floor (stepped s now stimulus.Shed None r) (shed-empty s now r h)

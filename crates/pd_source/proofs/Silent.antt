@@ -1,5 +1,6 @@
 -- A source that sheds holds nothing, to the end of that instant.
-use Rattle.std.proofs.Common.{◌≡◌, ℕ, ◌<◌, inl, inr, Bool, true, false, not, ◌&&◌, ◌||◌, if◌then◌else◌, List, [], ◌∷◌, Option, Some, None, refl, sym, ap, ◌∙◌, subst, arith}
+use Rattle.std.proofs.Common.{◌≡◌, ℕ, ◌<◌, inl, inr, Bool, true, false, not, ◌&&◌, ◌||◌, if◌then◌else◌, List, [], ◌∷◌, Option, Some, None}
+use Rattle.std.proofs.Common.{refl, sym, ap, ◌∙◌, subst, arith}
 use Rattle.std.specs.List.{list_all}
 use Rattle.pd_timers.specs.declared.Timer.{Timer}
 use Rattle.pd_timers.specs.Deadlines.{deadline, started, stopped, idle}
@@ -51,7 +52,8 @@ twice : (b : Bool) → not (not b) ≡ true → b ≡ true
 twice true h = refl
 twice false h = no h
 
-silent-after : (s : SourceSettings) (d : Deed) (now : ℕ) (x : Stimulus) (a : Option Answer) (r : SourceRecord) → not (speaks d) ≡ true → IsSilentAt now r → IsSilentAt now (after s d now x a r)
+silent-after : (s : SourceSettings) (d : Deed) (now : ℕ) (x : Stimulus) (a : Option Answer) (r : SourceRecord) → not (speaks d) ≡ true →
+    IsSilentAt now r → IsSilentAt now (after s d now x a r)
 silent-after s (deed.Enter t) now x a r k h = record {
   silent = twice (is_silent t) k;
   empty = record { draft = h.empty.draft; accepted = h.empty.accepted; contract = h.empty.contract };
@@ -86,7 +88,8 @@ silent-after s _ now x a r k h = record {
   waits = h.waits;
 }
 
-silent-all : (s : SourceSettings) (ds : List Deed) (now : ℕ) (x : Stimulus) (a : Option Answer) (r : SourceRecord) → none_of speaks ds ≡ true → IsSilentAt now r → IsSilentAt now (all_after s ds now x a r)
+silent-all : (s : SourceSettings) (ds : List Deed) (now : ℕ) (x : Stimulus) (a : Option Answer) (r : SourceRecord) →
+    none_of speaks ds ≡ true → IsSilentAt now r → IsSilentAt now (all_after s ds now x a r)
 silent-all s [] now x a r k h = h
 silent-all s (d ∷ ds) now x a r k h =
     silent-all s ds now x a (after s d now x a r) (and-right (not (speaks d)) (none_of speaks ds) k)
@@ -100,7 +103,8 @@ is_timer h = false
 abbrev turns_on : State → Heard → Bool
 turns_on t h = is_timer h && among t (state.Startup ∷ [])
 
-table-silent : (t : State) (h : Heard) → is_silent t ≡ true → turns_on t h ≡ false → list_all (λ r. none_of_row speaks r || not (among t r.states && match_one h r.cues)) table ≡ true
+table-silent : (t : State) (h : Heard) → is_silent t ≡ true → turns_on t h ≡ false →
+    list_all (λ r. none_of_row speaks r || not (among t r.states && match_one h r.cues)) table ≡ true
 table-silent state.Startup (heard.Ended u) k e = no (sym e)
 table-silent state.Startup h k e = refl
 table-silent state.Off h k e = refl
@@ -110,7 +114,8 @@ table-silent state.TransitionToDefault h k e = refl
 table-silent state.Disabled h k e = refl
 table-silent _ h k e = no k
 
-row-silent : (g : Guard → Bool) (t : State) (h : Heard) → is_silent t ≡ true → turns_on t h ≡ false → none_of speaks (deeds_of_row g (row_of g t h)) ≡ true
+row-silent : (g : Guard → Bool) (t : State) (h : Heard) → is_silent t ≡ true → turns_on t h ≡ false →
+    none_of speaks (deeds_of_row g (row_of g t h)) ≡ true
 row-silent g t h k e = none_of-deeds speaks g (row_of g t h) (row_of-fit (none_of_row speaks) g t h refl (table-silent t h k e))
 
 replies : (r : Reply) → is_timer (heard_reply r) ≡ false
@@ -119,7 +124,8 @@ replies reply.Nak = refl
 replies reply.Busy = refl
 
 -- no timer ends at this time while the source waits for its power
-not-ended : (now : ℕ) (u : Timer) (r : SourceRecord) → deadline r.deadlines u ≡ Some now → IsSilentAt now r → among r.state (state.Startup ∷ []) ≡ false
+not-ended : (now : ℕ) (u : Timer) (r : SourceRecord) → deadline r.deadlines u ≡ Some now → IsSilentAt now r →
+    among r.state (state.Startup ∷ []) ≡ false
 not-ended now u r due h = by_state r.state refl where
   by_state : (t : State) → r.state ≡ t → among t (state.Startup ∷ []) ≡ false
   by_state state.Startup e = let l : now < now = h.waits e u now due in absurd (omega arith)
@@ -145,12 +151,14 @@ silent-before now (stimulus.Ended t) r h = record {
 silent-before now _ r h = h
 
 -- a silent source stays silent at its time
-pub silent-stepped : (s : SourceSettings) (now : ℕ) (x : Stimulus) (a : Option Answer) (r : SourceRecord) → EndsNow now x r → IsSilentAt now r → IsSilentAt now (stepped s now x a r)
+pub silent-stepped : (s : SourceSettings) (now : ℕ) (x : Stimulus) (a : Option Answer) (r : SourceRecord) → EndsNow now x r →
+    IsSilentAt now r → IsSilentAt now (stepped s now x a r)
 unfolding stepped
 silent-stepped s now x a r due h =
     let z = before_row x r in
     let i = silent-before now x r h in
-    let e : turns_on z.state (heard_of x) ≡ false = ap (λ (t : State). turns_on t (heard_of x)) (state-before x r) ∙ not-turning now x r due h in
+    let e : turns_on z.state (heard_of x) ≡ false = ap (λ (t : State). turns_on t (heard_of x)) (state-before x r)
+    ∙ not-turning now x r due h in
     silent-all s (deeds_at s x a z) now x a z (row-silent (holds s a z) z.state (heard_of x) i.silent e) i
 
 pub silent-off : (s : SourceSettings) (now : ℕ) → IsSilentAt now (off s)
@@ -169,10 +177,13 @@ silent-resting now r h k = record {
   waits = λ e. no (ap (λ (t : State). among t (state.Off ∷ state.Disabled ∷ [])) (sym e) ∙ k);
 }
 
-shed-silent : (s : SourceSettings) (now : ℕ) (r : SourceRecord) (b c : Bool) → (b ≡ true → IsSilentAt now r) → IsSilentAt now (all_after s (if b then [] else hr c) now stimulus.Shed None r)
+shed-silent : (s : SourceSettings) (now : ℕ) (r : SourceRecord) (b c : Bool) → (b ≡ true → IsSilentAt now r) →
+    IsSilentAt now (all_after s (if b then [] else hr c) now stimulus.Shed None r)
 shed-silent s now r true c h = h refl
-shed-silent s now r false true h = record { silent = refl; empty = record { draft = refl; accepted = refl; contract = refl }; waits = λ e. later-idle now }
-shed-silent s now r false false h = record { silent = refl; empty = record { draft = refl; accepted = refl; contract = refl }; waits = λ e. later-idle now }
+shed-silent s now r false true h =
+    record { silent = refl; empty = record { draft = refl; accepted = refl; contract = refl }; waits = λ e. later-idle now }
+shed-silent s now r false false h =
+    record { silent = refl; empty = record { draft = refl; accepted = refl; contract = refl }; waits = λ e. later-idle now }
 
 -- a source that sheds is silent
 pub silent-shed : (s : SourceSettings) (now : ℕ) (r : SourceRecord) → IsEmptyAtRest r → IsSilentAt now (stepped s now stimulus.Shed None r)

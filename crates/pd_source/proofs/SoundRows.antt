@@ -5,7 +5,8 @@ use Rattle.pd_source.specs.declared.kinds.State.{State}
 use Rattle.pd_source.specs.declared.kinds.State.TheVariants as state
 use Rattle.pd_source.specs.declared.kinds.Heard.{Heard}
 use Rattle.pd_source.specs.declared.kinds.Deed.{Deed}
-use Rattle.pd_source.specs.Table.{Row, Guard, RequestInvalid, Fits, HardResetsLeft, Next, Stay, table, anything_else, all_states, first, among, match_one, row_of, deeds_of_row}
+use Rattle.pd_source.specs.Table.{Row, Guard, RequestInvalid, Fits, HardResetsLeft, Next, Stay, table, anything_else, all_states, first}
+use Rattle.pd_source.specs.Table.{among, match_one, row_of, deeds_of_row}
 use Rattle.pd_source.specs.Step.{decides}
 use Rattle.pd_source.specs.Sound.{is_early, is_transition}
 use Rattle.pd_source.proofs.Walk.{and-left, and-right, row_of-all}
@@ -35,7 +36,8 @@ among-all : (t : State) → among t all_states ≡ true
 among-all state.Off = refl
 among-all _ = refl
 
-among-if : (t : State) (m c : Bool) (r q : Row) → (m ≡ true → among t r.states ≡ true) → among t q.states ≡ true → among t (if (m && c) then r else q).states ≡ true
+among-if : (t : State) (m c : Bool) (r q : Row) → (m ≡ true → among t r.states ≡ true) → among t q.states ≡ true →
+    among t (if (m && c) then r else q).states ≡ true
 among-if t true true r q h k = h refl
 among-if t true false r q h k = k
 among-if t false c r q h k = k
@@ -43,14 +45,16 @@ among-if t false c r q h k = k
 first-among : (g : Guard → Bool) (t : State) (h : Heard) (rows : List Row) → among t (first g t h rows).states ≡ true
 first-among g t h [] = among-all t
 first-among g t h (r ∷ rs) =
-    among-if t (among t r.states && match_one h r.cues) (g r.guard) r (first g t h rs) (λ e. and-left (among t r.states) (match_one h r.cues) e) (first-among g t h rs)
+    among-if t (among t r.states && match_one h r.cues) (g r.guard) r (first g t h rs)
+    (λ e. and-left (among t r.states) (match_one h r.cues) e) (first-among g t h rs)
 
 row_of-among : (g : Guard → Bool) (t : State) (h : Heard) → among t (row_of g t h).states ≡ true
 unfolding row_of
 row_of-among g t h = first-among g t h table
 
 -- HR asks one guard alone
-pub fixed : (g : Guard → Bool) (n : Next) (r : Row) → deeds_of_row g (record r { next = n }) ≡ deeds_of_row (λ w. g HardResetsLeft) (record r { next = n })
+pub fixed : (g : Guard → Bool) (n : Next) (r : Row) →
+    deeds_of_row g (record r { next = n }) ≡ deeds_of_row (λ w. g HardResetsLeft) (record r { next = n })
 fixed g Stay r = refl
 fixed g _ r = refl
 
@@ -58,11 +62,14 @@ by-left : (t : State) (r : Row) (b : Bool) → row_keeps t r true && row_keeps t
 by-left t r true h = and-left (row_keeps t r true) (row_keeps t r false) h
 by-left t r false h = and-right (row_keeps t r true) (row_keeps t r false) h
 
-pub row-kept : (g : Guard → Bool) (t : State) (h : Heard) → keeps t (is_transition t) (is_early t) (is_fits (row_of g t h).guard) (deeds_of_row g (row_of g t h)) ≡ true
+pub row-kept : (g : Guard → Bool) (t : State) (h : Heard) →
+    keeps t (is_transition t) (is_early t) (is_fits (row_of g t h).guard) (deeds_of_row g (row_of g t h)) ≡ true
 row-kept g t h =
     let w = row_of g t h in
-    let f = implied (among t w.states) (row_keeps t w true && row_keeps t w false) (row_of-all (is_fair t) g t h (else-fair t) (table-fair t)) (row_of-among g t h) in
-    ap (λ (ds : List Deed). keeps t (is_transition t) (is_early t) (is_fits w.guard) ds) (fixed g w.next w) ∙ by-left t w (g HardResetsLeft) f
+    let f = implied (among t w.states) (row_keeps t w true && row_keeps t w false)
+    (row_of-all (is_fair t) g t h (else-fair t) (table-fair t)) (row_of-among g t h) in
+    ap (λ (ds : List Deed). keeps t (is_transition t) (is_early t) (is_fits w.guard) ds) (fixed g w.next w)
+    ∙ by-left t w (g HardResetsLeft) f
 
 -- where a request is accepted it is valid
 pick : (p : Row → Bool) (m c : Bool) (r q : Row) → p r || not m ≡ true → p q ≡ true → p (if (m && c) then r else q) ≡ true
@@ -73,14 +80,17 @@ pick p true true r q h k = or-false (p r) h where
 pick p true false r q h k = k
 pick p false c r q h k = k
 
-first-fit : (p : Row → Bool) (g : Guard → Bool) (t : State) (h : Heard) (rows : List Row) → p anything_else ≡ true → list_all (λ r. p r || not (among t r.states && match_one h r.cues)) rows ≡ true → p (first g t h rows) ≡ true
+first-fit : (p : Row → Bool) (g : Guard → Bool) (t : State) (h : Heard) (rows : List Row) → p anything_else ≡ true →
+    list_all (λ r. p r || not (among t r.states && match_one h r.cues)) rows ≡ true → p (first g t h rows) ≡ true
 first-fit p g t h [] e all = e
 first-fit p g t h (r ∷ rs) e all =
     let u = p r || not (among t r.states && match_one h r.cues) in
     let v = list_all (λ r. p r || not (among t r.states && match_one h r.cues)) rs in
-    pick p (among t r.states && match_one h r.cues) (g r.guard) r (first g t h rs) (and-left u v all) (first-fit p g t h rs e (and-right u v all))
+    pick p (among t r.states && match_one h r.cues) (g r.guard) r (first g t h rs) (and-left u v all)
+    (first-fit p g t h rs e (and-right u v all))
 
-pub row_of-fit : (p : Row → Bool) (g : Guard → Bool) (t : State) (h : Heard) → p anything_else ≡ true → list_all (λ r. p r || not (among t r.states && match_one h r.cues)) table ≡ true → p (row_of g t h) ≡ true
+pub row_of-fit : (p : Row → Bool) (g : Guard → Bool) (t : State) (h : Heard) → p anything_else ≡ true →
+    list_all (λ r. p r || not (among t r.states && match_one h r.cues)) table ≡ true → p (row_of g t h) ≡ true
 unfolding row_of
 row_of-fit p g t h e all = first-fit p g t h table e all
 
@@ -92,7 +102,8 @@ fits-decides : (g : Guard → Bool) (t : State) (h : Heard) → not (is_fits (ro
 fits-decides g t h =
     row_of-fit (λ r. not (is_fits r.guard) || decides t h) g t h refl (decided (decides t h))
 
-pub valid-fits : (g : Guard → Bool) (t : State) (h : Heard) (v : Bool) → g RequestInvalid ≡ not v → is_fits (row_of g t h).guard ≡ true → v ≡ true
+pub valid-fits : (g : Guard → Bool) (t : State) (h : Heard) (v : Bool) → g RequestInvalid ≡ not v → is_fits (row_of g t h).guard ≡ true →
+    v ≡ true
 valid-fits g t h true i f = refl
 valid-fits g t h false i f =
     let d = implied (is_fits (row_of g t h).guard) (decides t h) (fits-decides g t h) f in

@@ -20,7 +20,8 @@ sound-before s (stimulus.Sent m) r h = record {
   accepted = h.accepted;
   contract = h.contract;
   accepted_in_transition = h.accepted_in_transition;
-  nothing_early = λ q. let n = h.nothing_early q in record { draft = n.draft; delivered = n.delivered; accepted = n.accepted; contract = n.contract };
+  nothing_early = λ q. let n = h.nothing_early q in
+      record { draft = n.draft; delivered = n.delivered; accepted = n.accepted; contract = n.contract };
 }
 sound-before s (stimulus.Ended t) r h = record {
   limit = h.limit;
@@ -29,7 +30,8 @@ sound-before s (stimulus.Ended t) r h = record {
   accepted = h.accepted;
   contract = h.contract;
   accepted_in_transition = h.accepted_in_transition;
-  nothing_early = λ q. let n = h.nothing_early q in record { draft = n.draft; delivered = n.delivered; accepted = n.accepted; contract = n.contract };
+  nothing_early = λ q. let n = h.nothing_early q in
+      record { draft = n.draft; delivered = n.delivered; accepted = n.accepted; contract = n.contract };
 }
 sound-before s _ r h = h
 
@@ -50,7 +52,8 @@ sound-off s = record {
   known : (n : ℕ) → IsLimit (if n == 0 then Some cable_current else None)
   known n = by_test (n == 0)
 
-pub sound-stepped : (s : SourceSettings) (now : ℕ) (x : Stimulus) (a : Option Answer) (r : SourceRecord) → IsSound s r → IsAnswer s (query_of s x r) a → IsSound s (stepped s now x a r)
+pub sound-stepped : (s : SourceSettings) (now : ℕ) (x : Stimulus) (a : Option Answer) (r : SourceRecord) → IsSound s r →
+    IsAnswer s (query_of s x r) a → IsSound s (stepped s now x a r)
 unfolding stepped
 sound-stepped s now x a r h q =
     let z = before_row x r in

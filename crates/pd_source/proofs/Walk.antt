@@ -7,13 +7,15 @@ use Rattle.pd_source.specs.declared.kinds.State.{State}
 use Rattle.pd_source.specs.declared.kinds.Heard.{Heard}
 use Rattle.pd_source.specs.declared.kinds.Deed.{Deed}
 use Rattle.pd_source.specs.declared.kinds.Deed.TheVariants as deed
-use Rattle.pd_source.specs.Table.{Row, Guard, Always, HardResetsLeft, Next, Stay, Same, To, SC, NC, SR, HR, anything_else, table, first, fits, row_of, sc, nc, sr, hr, deeds_of_row}
+use Rattle.pd_source.specs.Table.{Row, Guard, Always, HardResetsLeft, Next, Stay, Same, To, SC, NC, SR, HR, anything_else, table, first}
+use Rattle.pd_source.specs.Table.{fits, row_of, sc, nc, sr, hr, deeds_of_row}
 
 pub both : (b c : Bool) → b ≡ true → c ≡ true → b && c ≡ true
 both true c h k = k
 both false c h k = h
 
-pub row_of-all : (p : Row → Bool) (g : Guard → Bool) (s : State) (h : Heard) → p anything_else ≡ true → list_all p table ≡ true → p (row_of g s h) ≡ true
+pub row_of-all : (p : Row → Bool) (g : Guard → Bool) (s : State) (h : Heard) → p anything_else ≡ true → list_all p table ≡ true →
+    p (row_of g s h) ≡ true
 unfolding row_of
 row_of-all p g s h e all = first_row-all p (fits g s h) anything_else table e all
 
@@ -39,7 +41,8 @@ none_of p (d ∷ ds) = not (p d) && none_of p ds
 none_of-append : (p : Deed → Bool) (xs ys : List Deed) → none_of p xs ≡ true → none_of p ys ≡ true → none_of p (xs ++ ys) ≡ true
 none_of-append p [] ys h k = k
 none_of-append p (x ∷ xs) ys h k =
-    both (not (p x)) (none_of p (xs ++ ys)) (and-left (not (p x)) (none_of p xs) h) (none_of-append p xs ys (and-right (not (p x)) (none_of p xs) h) k)
+    both (not (p x)) (none_of p (xs ++ ys)) (and-left (not (p x)) (none_of p xs) h)
+    (none_of-append p xs ys (and-right (not (p x)) (none_of p xs) h) k)
 
 -- whether none is among the acts that go with a next state
 abbrev pub none_of_next : (Deed → Bool) → Next → Bool
@@ -58,7 +61,8 @@ none_of-hr p false h = and-right (none_of p (hr true)) (none_of p (hr false)) h
 abbrev pub none_of_row : (Deed → Bool) → Row → Bool
 none_of_row p r = none_of p r.deeds && none_of_next p r.next
 
-with-next : (p : Deed → Bool) (g : Guard → Bool) (n : Next) (r : Row) → none_of p r.deeds ≡ true → none_of_next p n ≡ true → none_of p (deeds_of_row g (record r { next = n })) ≡ true
+with-next : (p : Deed → Bool) (g : Guard → Bool) (n : Next) (r : Row) → none_of p r.deeds ≡ true → none_of_next p n ≡ true →
+    none_of p (deeds_of_row g (record r { next = n })) ≡ true
 with-next p g Stay r h k = h
 with-next p g Same r h k = both (not (p deed.EnterAgain)) (none_of p r.deeds) k h
 with-next p g (To t) r h k = both (not (p (deed.Enter t))) (none_of p r.deeds) k h
@@ -69,4 +73,5 @@ with-next p g HR r h k = none_of-append p r.deeds (hr (g HardResetsLeft)) h (non
 
 pub none_of-deeds : (p : Deed → Bool) (g : Guard → Bool) (r : Row) → none_of_row p r ≡ true → none_of p (deeds_of_row g r) ≡ true
 none_of-deeds p g r h =
-    with-next p g r.next r (and-left (none_of p r.deeds) (none_of_next p r.next) h) (and-right (none_of p r.deeds) (none_of_next p r.next) h)
+    with-next p g r.next r (and-left (none_of p r.deeds) (none_of_next p r.next) h)
+    (and-right (none_of p r.deeds) (none_of_next p r.next) h)

@@ -52,7 +52,12 @@ draft_from _ old = old
 -- Bit 27 tells that the power is unconstrained.
 abbrev pub object_of : Bool → SupplyData → ℕ → ℕ
 object_of unconstrained supply ma =
-    word_of (record { flags = if unconstrained then unconstrained_power else 0; peak_current = 0; voltage = supply.mv / 50; current = min (ma / 10) greatest_current })
+    word_of (record {
+      flags = if unconstrained then unconstrained_power else 0;
+      peak_current = 0;
+      voltage = supply.mv / 50;
+      current = min (ma / 10) greatest_current;
+    })
 
 -- the objects of Source_Capabilities, one for each supply with its current; flags stand in the first alone
 abbrev pub capabilities : Bool → List SupplyData → List ℕ → List ℕ
@@ -72,6 +77,31 @@ sending_of s message.PsRdy r = sending.PsRdy
 sending_of s message.GetSinkCap r = sending.GetSinkCap
 sending_of s message.SoftReset r = sending.SoftReset
 
+-- the request that came is kept, and its revision is spoken
+abbrev pub keeping : Stimulus → SourceRecord → SourceRecord
+keeping x r = record r { kept_request = kept_from x r.kept_request; revision = revision_from x r.revision }
+
+-- no offer is being made, and no request is accepted
+abbrev pub closed : SourceRecord → SourceRecord
+closed r = record r { draft_offer = []; accepted_request = None }
+
+-- the accepted request becomes the contract
+abbrev pub committed : SourceSettings → SourceRecord → SourceRecord
+committed s r = record r {
+  contract = option_map (contract_of s.supplies r.delivered_offer) r.accepted_request;
+  accepted_request = None;
+}
+
+-- contract, accepted request and both offers are dropped, and Revision 3.0 is spoken
+abbrev pub voided : SourceRecord → SourceRecord
+voided r = record r {
+  contract = None;
+  accepted_request = None;
+  draft_offer = [];
+  delivered_offer = [];
+  revision = revision.Revision3;
+}
+
 -- the engine after an act
 abbrev pub after : SourceSettings → Deed → ℕ → Stimulus → Option Answer → SourceRecord → SourceRecord
 after s (deed.Enter t) now x a r = record r { state = t; deadlines = idle; sent = false }
@@ -84,13 +114,13 @@ after s deed.HardResetCounterUp now x a r = record r { hard_reset_counter = rise
 after s deed.HardResetCounterZero now x a r = record r { hard_reset_counter = 0 }
 after s deed.LimitFromAnswer now x a r = record r { limit = limit_from x r.limit }
 after s deed.CableLimit now x a r = record r { limit = Some cable_current }
-after s deed.KeepRequest now x a r = record r { kept_request = kept_from x r.kept_request; revision = revision_from x r.revision }
+after s deed.KeepRequest now x a r = keeping x r
 after s deed.Draft now x a r = record r { draft_offer = draft_from a r.draft_offer }
 after s deed.Settle now x a r = record r { delivered_offer = r.draft_offer }
-after s deed.Close now x a r = record r { draft_offer = []; accepted_request = None }
+after s deed.Close now x a r = closed r
 after s deed.Take now x a r = record r { accepted_request = r.kept_request }
-after s deed.Commit now x a r = record r { contract = option_map (contract_of s.supplies r.delivered_offer) r.accepted_request; accepted_request = None }
-after s deed.Void now x a r = record r { contract = None; accepted_request = None; draft_offer = []; delivered_offer = []; revision = revision.Revision3 }
+after s deed.Commit now x a r = committed s r
+after s deed.Void now x a r = voided r
 after s _ now x a r = r
 
 -- what an act wants of the port

@@ -3,7 +3,8 @@ use Rattle.std.specs.Prelude.{Bool, true, Option}
 use Rattle.pd_objects.specs.declared.query.Answer.{Answer}
 use Rattle.pd_source.specs.declared.kinds.Facts.{Facts}
 use Rattle.pd_source.specs.Record.{SourceSettings, SourceRecord}
-use Rattle.pd_source.specs.Table.{Guard, Always, LimitKnown, TriesLeft, WasSent, HasContract, CapsLeft, RequestInvalid, Fits, OfferDiffers, HardResetsLeft, holds}
+use Rattle.pd_source.specs.Table.{Guard, Always, LimitKnown, TriesLeft, WasSent, HasContract, CapsLeft, RequestInvalid, Fits, OfferDiffers}
+use Rattle.pd_source.specs.Table.{HardResetsLeft, holds}
 
 -- what the code says of each guard
 abbrev pub told : Facts → Guard → Bool

@@ -37,6 +37,10 @@ pub record SourceData : Type 0 where
   pub settings : SourceSettings
   pub «record» : SourceRecord
 
+-- the same source with another record
+abbrev pub with_record : SourceData → SourceRecord → SourceData
+with_record d r = record d { «record» = r }
+
 -- the current in mA that each cable carries (USB Type-C)
 abbrev pub cable_current : ℕ
 cable_current = 3000

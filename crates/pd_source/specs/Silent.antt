@@ -14,7 +14,8 @@ use Rattle.pd_source.specs.Step.{stepped}
 
 -- whether the source sends no message: it is off or disabled, resets, or waits for its power to be turned on
 abbrev pub is_silent : State → Bool
-is_silent t = among t (state.Off ∷ state.Startup ∷ state.HardReset ∷ state.HardResetReceived ∷ state.TransitionToDefault ∷ state.Disabled ∷ [])
+is_silent t = among t (state.Off ∷ state.Startup ∷ state.HardReset ∷ state.HardResetReceived ∷ state.TransitionToDefault ∷ state.Disabled
+    ∷ [])
 
 -- each deadline that runs is later than t
 abbrev pub AllLater : ℕ → List (Option ℕ) → Type 0

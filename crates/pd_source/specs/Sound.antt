@@ -55,7 +55,8 @@ pub record HasNothing (r : SourceRecord) : Type 0 where
 
 -- the states before the first offer after an attach or a hard reset
 abbrev pub is_early : State → Bool
-is_early s = among s (state.Off ∷ state.Startup ∷ state.VdmIdentityRequest ∷ state.HardReset ∷ state.HardResetReceived ∷ state.TransitionToDefault ∷ [])
+is_early s = among s (state.Off ∷ state.Startup ∷ state.VdmIdentityRequest ∷ state.HardReset ∷ state.HardResetReceived
+    ∷ state.TransitionToDefault ∷ [])
 
 abbrev pub is_transition : State → Bool
 is_transition s = among s (state.TransitionSupply ∷ [])

@@ -3,9 +3,9 @@
 ghost use Rattle.std.specs.Prelude.{◌≡◌, ◌≤◌, ◌<◌, ◌+◌, ◌++◌, length, false, [], None, option_map, option_to_list};
 ghost use Rattle.arrayvec.specs.ArrayVec.{array_vec_len};
 ghost use Rattle.pd_timers.specs.Deadlines.{first_of, idle};
-ghost use Rattle.pd_source.specs.Record.{new_source};
-ghost use Rattle.pd_source.specs.Acts.{after, wants, all_after, all_wants, limit_from, kept_from, revision_from, draft_from, sending_of, fault_count};
-ghost use Rattle.pd_source.specs.Request.{contract_of};
+ghost use Rattle.pd_source.specs.Record.{new_source, with_record};
+ghost use Rattle.pd_source.specs.Acts.{after, wants, all_after, all_wants, fault_count};
+ghost use Rattle.pd_source.specs.Acts.{limit_from, keeping, draft_from, closed, committed, voided, sending_of};
 ghost use Rattle.pd_source.specs.declared.kinds.Revision.TheVariants as spoken;
 ghost use Rattle.pd_source.specs.Step.{before_row, stepped, acts_of, hears_in, is_ready, revision_bits};
 
@@ -153,7 +153,7 @@ impl Source {
         answer: Option<Answer>,
     ) -> ArrayVec<Act, 8>
         requires { now ≤ LAST_TIME }
-        ensures after { self.new ≡ record self.old { «record» = stepped self.old.settings now stimulus.now answer self.old.record } }
+        ensures after { self.new ≡ with_record self.old (stepped self.old.settings now stimulus.now answer self.old.record) }
         ensures acts { result.items ≡ acts_of self.old.settings now stimulus.now answer self.old.record }
         ensures few { length result.items ≤ 6 }
         ensures few_faults { fault_count result.items ≤ 2 }
@@ -170,7 +170,7 @@ impl Source {
         answer: Option<Answer>,
     ) -> ArrayVec<Act, 8>
         requires { now ≤ LAST_TIME }
-        ensures after { self.new ≡ record self.old { «record» = stepped self.old.settings now stimulus.now answer self.old.record } }
+        ensures after { self.new ≡ with_record self.old (stepped self.old.settings now stimulus.now answer self.old.record) }
         ensures acts { result.items ≡ acts_of self.old.settings now stimulus.now answer self.old.record }
         ensures few { length result.items ≤ 6 }
     {
@@ -181,7 +181,7 @@ impl Source {
 
     /// A timer that falls due has ended, and Sent sets the mark.
     fn arrive(&mut self, stimulus: &Stimulus)
-        ensures { self.new ≡ record self.old { «record» = before_row stimulus.now self.old.record } }
+        ensures { self.new ≡ with_record self.old (before_row stimulus.now self.old.record) }
     {
         match stimulus {
             Stimulus::Sent(_) => self.sent = true,
@@ -200,7 +200,8 @@ impl Source {
     ) -> ArrayVec<Act, 8>
         requires time { now ≤ LAST_TIME }
         requires few { length deeds.now ≤ 6 }
-        ensures after { self.new ≡ record self.old { «record» = all_after self.old.settings deeds.now now stimulus.now answer.now self.old.record } }
+        ensures after { self.new ≡ with_record self.old
+            (all_after self.old.settings deeds.now now stimulus.now answer.now self.old.record) }
         ensures acts { result.items ≡ all_wants self.old.settings deeds.now now stimulus.now answer.now self.old.record }
         ensures few { length result.items ≤ 6 }
     {
@@ -222,7 +223,7 @@ impl Source {
     )
         requires time { now ≤ LAST_TIME }
         requires room { array_vec_len acts.old < 8 }
-        ensures after { self.new ≡ record self.old { «record» = after self.old.settings deed now stimulus.now answer.now self.old.record } }
+        ensures after { self.new ≡ with_record self.old (after self.old.settings deed now stimulus.now answer.now self.old.record) }
         ensures few { array_vec_len acts.new ≤ array_vec_len acts.old + 1 }
         ensures acts { acts.new.items ≡ acts.old.items ++ wants self.old.settings deed self.old.record }
     {
@@ -251,7 +252,7 @@ impl Source {
     /// What an act of a row does to the engine.
     fn change(&mut self, deed: Deed, now: u64, stimulus: &Stimulus, answer: &Option<Answer>)
         requires { now ≤ LAST_TIME }
-        ensures { self.new ≡ record self.old { «record» = after self.old.settings deed now stimulus.now answer.now self.old.record } }
+        ensures { self.new ≡ with_record self.old (after self.old.settings deed now stimulus.now answer.now self.old.record) }
     {
         match deed {
             Deed::Enter(state) => {
@@ -284,7 +285,7 @@ impl Source {
 
     /// A state is entered: no timer runs, and nothing was sent.
     fn enter(&mut self)
-        ensures { self.new ≡ record self.old { «record» = record self.old.record { deadlines = idle; sent = false } } }
+        ensures { self.new ≡ with_record self.old (record self.old.record { deadlines = idle; sent = false }) }
     {
         self.deadlines.stop_all();
         self.sent = false;
@@ -292,7 +293,7 @@ impl Source {
 
     /// The request that came is kept, and its revision is spoken.
     fn keep_request(&mut self, stimulus: &Stimulus)
-        ensures { self.new ≡ record self.old { «record» = record self.old.record { kept_request = kept_from stimulus.now self.old.record.kept_request; revision = revision_from stimulus.now self.old.record.revision } } }
+        ensures { self.new ≡ with_record self.old (keeping stimulus.now self.old.record) }
     {
         if let Stimulus::Request { object, revision } = stimulus {
             self.kept_request = Some(*object);
@@ -302,7 +303,8 @@ impl Source {
 
     /// The answer is the offer that is being made.
     fn draft(&mut self, answer: &Option<Answer>)
-        ensures { self.new ≡ record self.old { «record» = record self.old.record { draft_offer = draft_from answer.now self.old.record.draft_offer } } }
+        ensures { self.new ≡ with_record self.old
+            (record self.old.record { draft_offer = draft_from answer.now self.old.record.draft_offer }) }
     {
         if let Some(Answer::Offer(currents)) = answer {
             self.draft_offer = copied(currents.as_slice());
@@ -311,7 +313,7 @@ impl Source {
 
     /// No offer is being made, and no request is accepted.
     fn close(&mut self)
-        ensures { self.new ≡ record self.old { «record» = record self.old.record { draft_offer = []; accepted_request = None } } }
+        ensures { self.new ≡ with_record self.old (closed self.old.record) }
     {
         self.draft_offer.clear();
         self.accepted_request = None;
@@ -319,7 +321,7 @@ impl Source {
 
     /// The accepted request becomes the contract.
     fn commit(&mut self)
-        ensures { self.new ≡ record self.old { «record» = record self.old.record { contract = option_map (contract_of self.old.settings.supplies self.old.record.delivered_offer) self.old.record.accepted_request; accepted_request = None } } }
+        ensures { self.new ≡ with_record self.old (committed self.old.settings self.old.record) }
     {
         self.contract = match self.accepted_request {
             None => None,
@@ -334,7 +336,7 @@ impl Source {
 
     /// Contract, accepted request and both offers are dropped, and Revision 3.0 is spoken.
     fn void(&mut self)
-        ensures { self.new ≡ record self.old { «record» = record self.old.record { contract = None; accepted_request = None; draft_offer = []; delivered_offer = []; revision = spoken.Revision3 } } }
+        ensures { self.new ≡ with_record self.old (voided self.old.record) }
     {
         self.close();
         self.contract = None;

@@ -43,14 +43,17 @@ macro_rules! deeds {
         &[$($deed,)* Deed::Enter(State::SendCapabilities), Deed::CapsCounterUp, Deed::Draft, Deed::Send(Message::SourceCapabilities)]
     };
     ($facts:ident, nc [$($deed:expr),*]) => {
-        &[$($deed,)* Deed::CableLimit, Deed::Note(Note::CableUnread), Deed::Enter(State::SendCapabilities), Deed::CapsCounterUp, Deed::Draft, Deed::Send(Message::SourceCapabilities)]
+        &[$($deed,)* Deed::CableLimit, Deed::Note(Note::CableUnread),
+            Deed::Enter(State::SendCapabilities), Deed::CapsCounterUp, Deed::Draft, Deed::Send(Message::SourceCapabilities)]
     };
     ($facts:ident, sr [$($deed:expr),*]) => {
-        &[$($deed,)* Deed::Enter(State::SendSoftReset), Deed::Close, Deed::ResetLayer, Deed::Note(Note::SoftReset), Deed::Send(Message::SoftReset)]
+        &[$($deed,)* Deed::Enter(State::SendSoftReset), Deed::Close, Deed::ResetLayer,
+            Deed::Note(Note::SoftReset), Deed::Send(Message::SoftReset)]
     };
     ($facts:ident, hr [$($deed:expr),*]) => {
         if $facts.hard_resets_left {
-            &[$($deed,)* Deed::Enter(State::HardReset), Deed::HardResetCounterUp, Deed::Void, Deed::Note(Note::HardReset), Deed::SendHardReset]
+            &[$($deed,)* Deed::Enter(State::HardReset), Deed::HardResetCounterUp, Deed::Void,
+                Deed::Note(Note::HardReset), Deed::SendHardReset]
         } else {
             &[$($deed,)* Deed::Enter(State::Disabled), Deed::Void, Deed::Note(Note::Disabled)]
         }
@@ -60,7 +63,8 @@ macro_rules! deeds {
 /// The first row that fits, tried in order: what it does, and nothing where none fits.
 macro_rules! rows {
     ($state:ident, $heard:ident, $facts:ident; each $($any:ident)|+;
-    $($number:ident: $($s:ident $(($($but:ident)|+))?)|+, $c:pat $(if $guard:ident)? => $next:ident $(($to:ident))? [$($deed:expr),*];)*) => {
+    $($number:ident: $($s:ident $(($($but:ident)|+))?)|+, $c:pat $(if $guard:ident)?
+        => $next:ident $(($to:ident))? [$($deed:expr),*];)*) => {
         match ($state, $heard) {
             $((states!($($s $(($($but)|+))?)|+), $c) $(if $facts.$guard)? => deeds!($facts, $next $(($to))? [$($deed),*]),)*
             $((State::$any, _) => &[],)+
@@ -72,7 +76,8 @@ macro_rules! rows {
 #[cfg(test)]
 macro_rules! names {
     (each $($any:ident)|+;
-    $($number:ident: $($s:ident $(($($but:ident)|+))?)|+, $c:pat $(if $guard:ident)? => $next:ident $(($to:ident))? [$($deed:expr),*];)*) => {
+    $($number:ident: $($s:ident $(($($but:ident)|+))?)|+, $c:pat $(if $guard:ident)?
+        => $next:ident $(($to:ident))? [$($deed:expr),*];)*) => {
         [$(stringify!($number)),*]
     };
 }
@@ -82,7 +87,9 @@ macro_rules! table {
     ($read:ident $($before:tt)*) => {
         $read! {
             $($before)*
-            each Off | Startup | VdmIdentityRequest | SendCapabilities | Discovery | NegotiateCapability | CapabilityResponse | TransitionSupply | Ready | WaitNewCapabilities | GetSinkCap | SendSoftReset | SoftReset | HardReset | HardResetReceived | TransitionToDefault | Disabled;
+            each Off | Startup | VdmIdentityRequest | SendCapabilities | Discovery | NegotiateCapability |
+                CapabilityResponse | TransitionSupply | Ready | WaitNewCapabilities | GetSinkCap |
+                SendSoftReset | SoftReset | HardReset | HardResetReceived | TransitionToDefault | Disabled;
             // Off
             S1: Off, Heard::Attach => to(Startup) [Deed::Start(Timer::TurnOn)];
             // PE_SRC_Startup

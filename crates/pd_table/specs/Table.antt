@@ -13,7 +13,8 @@ pub record Row (S C G N D : Type 0) : Type 0 where
 
 -- a row, in the order of a table's columns
 abbrev pub row : {S C G N D : Type 0} → ℕ → List S → List C → G → N → List D → Row S C G N D
-row number states cues guard next deeds = record { number = number; states = states; cues = cues; guard = guard; next = next; deeds = deeds }
+row number states cues guard next deeds =
+    record { number = number; states = states; cues = cues; guard = guard; next = next; deeds = deeds }
 
 -- whether a state is among some, where each has a place of its own by which two are told apart
 abbrev pub is_among : {S : Type 0} → (S → ℕ) → S → List S → Bool

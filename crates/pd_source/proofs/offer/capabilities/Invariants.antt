@@ -6,5 +6,6 @@ abbrev pub invariant-loop-supply : goal.invariant-loop-supply
 invariant-loop-supply l =
     (goal.iterator-loop-supply).can_next l.supply-iterator
     × (goal.iterator-loop-supply).is_finite l.supply-iterator
-    × (l.objects.items ++ capabilities l.flagged l.supply-iterator.a.rest.now l.supply-iterator.b.rest.now ≡ capabilities l.unconstrained l.supplies l.currents)
+    × (l.objects.items ++ capabilities l.flagged l.supply-iterator.a.rest.now l.supply-iterator.b.rest.now ≡ capabilities l.unconstrained
+    l.supplies l.currents)
     × (length l.objects.items + length l.supply-iterator.a.rest.now ≤ 7)

@@ -5,4 +5,5 @@ use Rattle.pd_source.proofs.Faults.{fault_count-acts_of}
 use Rattle.pd_source.proofs.engine.Source.step.Goals as goal
 
 pub returns-clause-few_faults : goal.returns-clause-few_faults
-returns-clause-few_faults c = subst (λ (acts : List Act). fault_count acts ≤ 2) (sym c.take_row.ensures.acts) (fault_count-acts_of _ _ _ _ _)
+returns-clause-few_faults c = subst (λ (acts : List Act). fault_count acts ≤ 2) (sym c.take_row.ensures.acts)
+    (fault_count-acts_of _ _ _ _ _)
