@@ -1,3 +1,4 @@
+pub mod Records
 pub mod Walk
 pub mod RowTaken
 pub mod Powers

@@ -3,7 +3,7 @@
 ghost use Rattle.std.specs.Prelude.{◌≡◌, ◌↔◌, IsTrue};
 
 use super::Source;
-use pd_objects::{Contract, same_supplies};
+use pd_objects::same_supplies;
 use pd_symbols::copied;
 
 /// Whether all tests hold, with a return at the first that doesn't.
@@ -14,24 +14,6 @@ macro_rules! all_of {
         })*
         true
     }};
-}
-
-fn same_number(number: Option<u32>, other: Option<u32>) -> bool
-    ensures { IsTrue result ↔ (number ≡ other) }
-{
-    number == other
-}
-
-fn same_contract(contract: Option<Contract>, other: Option<Contract>) -> bool
-    ensures { IsTrue result ↔ (contract ≡ other) }
-{
-    contract == other
-}
-
-fn same_currents(currents: &[u32], others: &[u32]) -> bool
-    ensures { IsTrue result ↔ (currents.now ≡ others.now) }
-{
-    currents == others
 }
 
 impl Source {
@@ -55,14 +37,14 @@ impl Source {
             self.caps_counter == other.caps_counter;
             self.discover_identity_counter == other.discover_identity_counter;
             self.hard_reset_counter == other.hard_reset_counter;
-            same_number(self.limit, other.limit);
+            self.limit == other.limit;
             self.sent == other.sent;
             self.revision == other.revision;
-            same_number(self.kept_request, other.kept_request);
-            same_number(self.accepted_request, other.accepted_request);
-            same_currents(self.draft_offer.as_slice(), other.draft_offer.as_slice());
-            same_currents(self.delivered_offer.as_slice(), other.delivered_offer.as_slice());
-            same_contract(self.contract, other.contract);
+            self.kept_request == other.kept_request;
+            self.accepted_request == other.accepted_request;
+            self.draft_offer.as_slice() == other.draft_offer.as_slice();
+            self.delivered_offer.as_slice() == other.delivered_offer.as_slice();
+            self.contract == other.contract;
         }
     }
 
