@@ -150,7 +150,7 @@ impl Plug {
         }
     }
 
-    /// Whether both keep the same.
+    /// Whether both engines are in the same record.
     pub fn same(&self, other: &Plug) -> bool
         ensures { IsTrue result ↔ (self.now ≡ other.now) }
     {
@@ -160,7 +160,7 @@ impl Plug {
             && self.cable == other.cable
     }
 
-    /// The same engine.
+    /// A copy of the engine, in the same record.
     pub fn copy(&self) -> Plug
         ensures { result ≡ self.now }
     {

@@ -304,7 +304,7 @@ impl Sink {
         }
     }
 
-    /// Whether both keep the same.
+    /// Whether both engines are in the same record.
     pub fn same(&self, other: &Sink) -> bool
         ensures { IsTrue result ↔ (self.now ≡ other.now) }
     {
@@ -321,7 +321,7 @@ impl Sink {
         }
     }
 
-    /// The same engine.
+    /// A copy of the engine, in the same record.
     pub fn copy(&self) -> Sink
         ensures { result ≡ self.now }
     {

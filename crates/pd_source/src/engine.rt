@@ -84,7 +84,8 @@ impl Model for Source {
 }
 
 impl Source {
-    /// An engine in Off, for a port of these supplies, at most 7, that asks its cable so often who it is.
+    /// An engine in Off, for a port of these supplies, at most 7; it asks its cable at most `identity_tries` times who it is,
+    /// and not at all at 0. `unconstrained` is bit 27 of its Source_Capabilities.
     pub fn new(supplies: &[Supply], identity_tries: u8, unconstrained: bool) -> Source
         requires { length supplies.now ≤ 7 }
         ensures { result ≡ new_source (record { supplies = supplies.now; identity_tries = identity_tries; unconstrained = unconstrained }) }

@@ -4,24 +4,16 @@ ghost use Rattle.std.specs.Prelude.{◌≡◌, ◌≤◌, ◌<◌};
 ghost use Rattle.pd_source.specs.Request as specs;
 
 use crate::Revision;
-use pd_objects::{Contract, Supply, field};
+use pd_objects::{Contract, RequestObject, Supply, field};
 
-/// The position of the supply in the offer, from 1.
+/// The position of the supply in the offer, from 1. Where it is 0, `unpack` gives no request; power and contract are told of
+/// each object.
 #[tactic(auto, unfolding(crate::specs::Request::position_of))]
 fn position_of(object: u32) -> u8
     ensures value { result ≡ specs.position_of object }
     ensures few { result < 8 }
 {
     field(object, 30, 28) as u8
-}
-
-/// The operating current in mA.
-#[tactic(auto, unfolding(crate::specs::Request::operating_ma))]
-fn operating_ma(object: u32) -> u32
-    ensures value { result ≡ specs.operating_ma object }
-    ensures bounded { result ≤ 10230 }
-{
-    10 * field(object, 19, 10)
 }
 
 /// The maximum operating current in mA.
@@ -34,17 +26,18 @@ fn maximum_ma(object: u32) -> u32
 }
 
 /// Whether a request's position is in the offer, and neither of its currents is above the offered one there.
-#[tactic(auto, unfolding(crate::specs::Request::is_valid))]
+#[tactic(auto, unfolding(crate::specs::Request::is_valid, crate::specs::Request::position_of, crate::specs::Request::operating_ma, crate::specs::Request::maximum_ma))]
 pub(crate) fn is_valid(offer: &[u32], object: u32) -> bool
     ensures { result ≡ specs.is_valid offer.now object }
 {
-    let position = usize::from(position_of(object));
-    if position < 1 {
+    let Some(request) = RequestObject::unpack(object) else {
         return false;
-    }
-    match offer.get(position - 1) {
+    };
+    let operating_ma = 10 * u32::from(request.operating_current());
+    let maximum_ma = 10 * u32::from(request.maximum_current());
+    match offer.get(usize::from(request.position()) - 1) {
         None => false,
-        Some(ma) => operating_ma(object) <= *ma && maximum_ma(object) <= *ma,
+        Some(ma) => operating_ma <= *ma && maximum_ma <= *ma,
     }
 }
 

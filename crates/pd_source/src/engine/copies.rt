@@ -17,7 +17,7 @@ macro_rules! all_of {
 }
 
 impl Source {
-    /// Whether both keep the same, settings included.
+    /// Whether both engines are set to the same and are in the same record.
     pub fn same(&self, other: &Source) -> bool
         ensures { IsTrue result ↔ (self.now ≡ other.now) }
     {
@@ -48,7 +48,7 @@ impl Source {
         }
     }
 
-    /// The same settings and record.
+    /// A copy of the engine, with its settings and its record.
     pub fn copy(&self) -> Source
         ensures { result ≡ self.now }
     {

@@ -253,7 +253,7 @@ fn gives(source: Source, now: u64, stimulus: &Stimulus, want: &Source, acts: &[A
     next.same(want) && wanted.as_slice() == acts
 }
 
-/// The same with an answer.
+/// Whether a step with this answer leaves what is wanted, and wants these acts.
 fn answered_gives(
     source: Source,
     now: u64,
