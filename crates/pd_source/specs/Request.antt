@@ -12,7 +12,7 @@ use Rattle.pd_source.specs.declared.kinds.Revision.TheVariants as revision
 unfoldable pub position_of : ℕ → ℕ
 position_of object = (request_of object).position
 
-unfoldable pub operating_ma : ℕ → ℕ
+abbrev pub operating_ma : ℕ → ℕ
 operating_ma object = 10 * (request_of object).operating_current
 
 unfoldable pub maximum_ma : ℕ → ℕ

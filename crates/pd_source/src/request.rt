@@ -26,7 +26,7 @@ fn maximum_ma(object: u32) -> u32
 }
 
 /// Whether a request's position is in the offer, and neither of its currents is above the offered one there.
-#[tactic(auto, unfolding(crate::specs::Request::is_valid, crate::specs::Request::position_of, crate::specs::Request::operating_ma, crate::specs::Request::maximum_ma))]
+#[tactic(auto, unfolding(crate::specs::Request::is_valid, crate::specs::Request::position_of, crate::specs::Request::maximum_ma))]
 pub(crate) fn is_valid(offer: &[u32], object: u32) -> bool
     ensures { result ≡ specs.is_valid offer.now object }
 {
