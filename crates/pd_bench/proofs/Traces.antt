@@ -3,7 +3,7 @@ use Rattle.std.proofs.Common.{◌≡◌, ℕ, List, [], ◌∷◌, ◌++◌, len
 use Rattle.std.specs.Prelude.{slice_get, Some}
 use Rattle.std.specs.Str.Lines.{lines}
 use Rattle.std.proofs.lemmas.List.Sums.{fold-append}
-use Rattle.pd_scenario.specs.Contents.{Contents}
+use Rattle.pd_scenario.specs.Scenarios.{ScenarioData}
 use Rattle.pd_edit_lines.specs.Grammar.{line_of}
 use Rattle.pd_bench.specs.declared.tally.Tally.{Tally}
 use Rattle.pd_bench.specs.declared.tally.Outcome.{Outcome}
@@ -14,7 +14,7 @@ use Rattle.pd_bench.specs.Traces.{IsWithoutLine, LeavesNoTrace, RefusedLeavesNoT
 use Rattle.pd_bench.proofs.Refusals.{refused_changes_nothing, refusals_are_shown}
 
 -- the replies to some lines, and to the same without a refused one
-pub record Without (n : ℕ) (s : Contents) (before after : List (List ℕ)) (text : List ℕ) (outcomes : List Outcome) (number : ℕ) : Type 0 where
+pub record Without (n : ℕ) (s : ScenarioData) (before after : List (List ℕ)) (text : List ℕ) (outcomes : List Outcome) (number : ℕ) : Type 0 where
   pub earlier : List ℕ
   pub later : List ℕ
   pub done : List Outcome
@@ -25,7 +25,7 @@ pub record Without (n : ℕ) (s : Contents) (before after : List (List ℕ)) (te
   pub are_others : Replies n s (before ++ after) (earlier ++ later) (done ++ rest)
 
 -- one more line before
-with_first : (n : ℕ) (s : Contents) (line : List ℕ) (before after : List (List ℕ)) (reply : List ℕ) (s' : Contents) (outcome : Outcome) (rest text : List ℕ) (others outcomes : List Outcome) (number : ℕ)
+with_first : (n : ℕ) (s : ScenarioData) (line : List ℕ) (before after : List (List ℕ)) (reply : List ℕ) (s' : ScenarioData) (outcome : Outcome) (rest text : List ℕ) (others outcomes : List Outcome) (number : ℕ)
     → Reply n s (line_of line) reply s' outcome → text ≡ reply ++ rest → outcomes ≡ outcome ∷ others → Without n s' before after rest others number → Without n s (line ∷ before) after text outcomes number
 with_first n s line before after reply s' outcome rest text others outcomes number is_reply text_is outcomes_are w = record {
   earlier = reply ++ w.earlier;
@@ -39,7 +39,7 @@ with_first n s line before after reply s' outcome rest text others outcomes numb
 }
 
 -- the refused line is the first
-at_first : (n : ℕ) (s : Contents) (more after : List (List ℕ)) (rest text : List ℕ) (others outcomes : List Outcome) (number : ℕ)
+at_first : (n : ℕ) (s : ScenarioData) (more after : List (List ℕ)) (rest text : List ℕ) (others outcomes : List Outcome) (number : ℕ)
     → more ≡ after → text ≡ refused_text number ++ rest → outcomes ≡ Refused ∷ others → Replies n s more rest others → Without n s [] after text outcomes number
 at_first n s more after rest text others outcomes number more_are text_is outcomes_are replies = record {
   earlier = [];
@@ -52,7 +52,7 @@ at_first n s more after rest text others outcomes number more_are text_is outcom
   are_others = rw more_are at replies;
 }
 
-without : (n : ℕ) (before : List (List ℕ)) (s : Contents) (ls : List (List ℕ)) (line : List ℕ) (after : List (List ℕ)) (text : List ℕ) (outcomes : List Outcome) → ls ≡ before ++ line ∷ after
+without : (n : ℕ) (before : List (List ℕ)) (s : ScenarioData) (ls : List (List ℕ)) (line : List ℕ) (after : List (List ℕ)) (text : List ℕ) (outcomes : List Outcome) → ls ≡ before ++ line ∷ after
     → Replies n s ls text outcomes → slice_get outcomes (length before) ≡ Some Refused → (number : ℕ) × Without n s before after text outcomes number
 without n [] s [] line after text outcomes split replies is = absurd cc
 without n (first ∷ before) s [] line after text outcomes split replies is = absurd cc
@@ -70,7 +70,7 @@ without n (first ∷ before) s (here ∷ more) line after text outcomes split (r
     (w.0, with_first n s first before after reply s' outcome rest text others outcomes w.0 (rw here_is at is_reply) text_is outcomes_are w.1)
 
 -- the same for a line that is refused for its own sake, by its number
-without_own : (n : ℕ) (before : List (List ℕ)) (s : Contents) (ls : List (List ℕ)) (line : List ℕ) (after : List (List ℕ)) (text : List ℕ) (outcomes : List Outcome) (number : ℕ) → ls ≡ before ++ line ∷ after
+without_own : (n : ℕ) (before : List (List ℕ)) (s : ScenarioData) (ls : List (List ℕ)) (line : List ℕ) (after : List (List ℕ)) (text : List ℕ) (outcomes : List Outcome) (number : ℕ) → ls ≡ before ++ line ∷ after
     → (replies : Replies n s ls text outcomes) → RefusedAs n (edited_by n s ls text outcomes replies (length before)) (line_of line) number
     → (slice_get outcomes (length before) ≡ Some Refused) × Without n s before after text outcomes number
 without_own n [] s [] line after text outcomes number split replies refused = absurd cc
@@ -105,7 +105,7 @@ counted_apart done rest =
 
 -- ---- the session
 
-from_without : (n : ℕ) (s : Contents) (bytes others : List ℕ) (before : List (List ℕ)) (line : List ℕ) (after : List (List ℕ)) (text : List ℕ) (tally : Tally) (number : ℕ) → IsWithoutLine bytes others before line after
+from_without : (n : ℕ) (s : ScenarioData) (bytes others : List ℕ) (before : List (List ℕ)) (line : List ℕ) (after : List (List ℕ)) (text : List ℕ) (tally : Tally) (number : ℕ) → IsWithoutLine bytes others before line after
     → (session : Session n s bytes text tally) → Without n s before after session.replies session.outcomes number → LeavesNoTrace n s others before text tally number
 from_without n s bytes others before line after text tally number split session w =
     let fewer = fold counted no_lines (w.done ++ w.rest) in

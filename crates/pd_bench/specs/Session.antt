@@ -3,7 +3,7 @@ use Rattle.std.specs.Prelude.{IfOk, IfSome, ◌≡◌, ℕ, ◌+◌, ◌≤◌, 
 use Rattle.std.specs.Str.Lines.{lines}
 use Rattle.std.specs.Io.KnownBytes.{Appends, Consumes, IsAtEnd}
 use Rattle.pd_port.specs.declared.entry.Entry.{Entry}
-use Rattle.pd_scenario.specs.Contents.{Contents}
+use Rattle.pd_scenario.specs.Scenarios.{ScenarioData}
 use Rattle.pd_scenario.specs.Limits.{is_port}
 use Rattle.pd_scenario.specs.Plan.{Plan}
 use Rattle.pd_scenario.specs.Plans.{plan_of}
@@ -58,11 +58,11 @@ answered t = t.edits + t.refused + t.shows
 -- ---- the reply to one line, and the scenario after it
 
 -- the line is refused, and changes nothing
-abbrev pub IsRefused : ℕ → Contents → List ℕ → Contents → Outcome → Type 0
+abbrev pub IsRefused : ℕ → ScenarioData → List ℕ → ScenarioData → Outcome → Type 0
 IsRefused number s reply s' outcome = (reply ≡ refused_text number) × (s' ≡ s) × (outcome ≡ Refused)
 
 -- an edit: its refusal, or ok with the scenario after it, or want of memory
-abbrev pub EditReply : Contents → Result Contents EditFault → List ℕ → Contents → Outcome → Type 0
+abbrev pub EditReply : ScenarioData → Result ScenarioData EditFault → List ℕ → ScenarioData → Outcome → Type 0
 EditReply s (Err fault) reply s' outcome = IsRefused (edit_numbers.number_of fault) s reply s' outcome
 EditReply s (Ok after) reply s' outcome =
     ((reply ≡ ok_text) × (s' ≡ after) × (outcome ≡ Accepted)) ⊎ IsRefused (edit_numbers.number_of edit_faults.Memory) s reply s' outcome
@@ -80,12 +80,12 @@ can_show n (Transcript port) = is_port n port
 can_show n _ = true
 
 -- a show: its text over the scenario's run, where there is such a port
-abbrev pub ShowReply : Bool → Show → Contents → List ℕ → Contents → Outcome → Type 0
+abbrev pub ShowReply : Bool → Show → ScenarioData → List ℕ → ScenarioData → Outcome → Type 0
 ShowReply true show s reply s' outcome =
     (entries : List (ℕ × Entry)) × Shows (plan_of s) entries × (reply ≡ show_text show (plan_of s) entries) × (s' ≡ s) × (outcome ≡ Shown)
 ShowReply false show s reply s' outcome = IsRefused (edit_numbers.number_of edit_faults.NoSuchPort) s reply s' outcome
 
-abbrev pub Reply : ℕ → Contents → Result Line EditFault → List ℕ → Contents → Outcome → Type 0
+abbrev pub Reply : ℕ → ScenarioData → Result Line EditFault → List ℕ → ScenarioData → Outcome → Type 0
 Reply n s (Ok lines_read.Skip) reply s' outcome = (reply ≡ []) × (s' ≡ s) × (outcome ≡ Skipped)
 Reply n s (Ok (lines_read.Edit edit)) reply s' outcome = EditReply s (edited n s edit) reply s' outcome
 Reply n s (Ok (lines_read.Show show)) reply s' outcome = ShowReply (can_show n show) show s reply s' outcome
@@ -94,13 +94,13 @@ Reply n s (Err fault) reply s' outcome = IsRefused (edit_numbers.number_of fault
 -- ---- the whole session
 
 -- the replies to these lines in their order, each with the scenario as edited by then, and what became of each line
-abbrev pub Replies : ℕ → Contents → List (List ℕ) → List ℕ → List Outcome → Type 0
+abbrev pub Replies : ℕ → ScenarioData → List (List ℕ) → List ℕ → List Outcome → Type 0
 Replies n s [] text outcomes = (text ≡ []) × (outcomes ≡ [])
-Replies n s (line ∷ more) text outcomes = (reply : List ℕ) × (rest : List ℕ) × (s' : Contents) × (outcome : Outcome) × (others : List Outcome)
+Replies n s (line ∷ more) text outcomes = (reply : List ℕ) × (rest : List ℕ) × (s' : ScenarioData) × (outcome : Outcome) × (others : List Outcome)
     × Reply n s (line_of line) reply s' outcome × (text ≡ reply ++ rest) × (outcomes ≡ outcome ∷ others) × Replies n s' more rest others
 
 -- the text of a session over these bytes, and its counts
-pub record Session (n : ℕ) (s : Contents) (bytes text : List ℕ) (tally : Tally) : Type 0 where
+pub record Session (n : ℕ) (s : ScenarioData) (bytes text : List ℕ) (tally : Tally) : Type 0 where
   pub replies : List ℕ
   pub outcomes : List Outcome
   pub are_replies : Replies n s (lines bytes) replies outcomes
@@ -108,7 +108,7 @@ pub record Session (n : ℕ) (s : Contents) (bytes text : List ℕ) (tally : Tal
   pub text_is : text ≡ replies ++ done_text tally
 
 -- the first bytes of such a text
-pub record BeginsSession (n : ℕ) (s : Contents) (bytes out : List ℕ) : Type 0 where
+pub record BeginsSession (n : ℕ) (s : ScenarioData) (bytes out : List ℕ) : Type 0 where
   pub text : List ℕ
   pub tally : Tally
   pub session : Session n s bytes text tally
@@ -117,7 +117,7 @@ pub record BeginsSession (n : ℕ) (s : Contents) (bytes out : List ℕ) : Type 
 -- ---- what a session reads and writes, by its answer
 
 -- all that the reader has left was read, and the text of a session over it was written
-pub record SessionDone (n : ℕ) (left left' taken taken' : Option (List ℕ)) (s : Contents) (tally : Tally) : Type 0 where
+pub record SessionDone (n : ℕ) (left left' taken taken' : Option (List ℕ)) (s : ScenarioData) (tally : Tally) : Type 0 where
   pub bytes : List ℕ
   pub consumes : Consumes left left' bytes
   pub at_end : IsAtEnd left'
@@ -127,7 +127,7 @@ pub record SessionDone (n : ℕ) (left left' taken taken' : Option (List ℕ)) (
   pub session : Session n s bytes out tally
 
 -- so many bytes were read, and what was written begins the text of a session over them, whatever comes after them
-pub record SessionStopped (n : ℕ) (left left' taken taken' : Option (List ℕ)) (s : Contents) (count : ℕ) : Type 0 where
+pub record SessionStopped (n : ℕ) (left left' taken taken' : Option (List ℕ)) (s : ScenarioData) (count : ℕ) : Type 0 where
   pub bytes : List ℕ
   pub consumes : Consumes left left' bytes
   pub counts : length bytes ≡ count
@@ -136,7 +136,7 @@ pub record SessionStopped (n : ℕ) (left left' taken taken' : Option (List ℕ)
   pub begins : (more : List ℕ) → BeginsSession n s (bytes ++ more) out
 
 -- some bytes were read, and what was written begins the text of a session over them
-pub record SessionCut (n : ℕ) (left left' taken taken' : Option (List ℕ)) (s : Contents) : Type 0 where
+pub record SessionCut (n : ℕ) (left left' taken taken' : Option (List ℕ)) (s : ScenarioData) : Type 0 where
   pub bytes : List ℕ
   pub consumes : Consumes left left' bytes
   pub few : length bytes ≤ 16777217
@@ -145,7 +145,7 @@ pub record SessionCut (n : ℕ) (left left' taken taken' : Option (List ℕ)) (s
   pub begins : BeginsSession n s bytes out
 
 -- Without memory for the first run nothing is read or written.
-abbrev pub SessionEnds : ℕ → Result Tally BenchFault → Option (List ℕ) → Option (List ℕ) → Option (List ℕ) → Option (List ℕ) → Contents → Type 0
+abbrev pub SessionEnds : ℕ → Result Tally BenchFault → Option (List ℕ) → Option (List ℕ) → Option (List ℕ) → Option (List ℕ) → ScenarioData → Type 0
 SessionEnds n (Ok tally) left left' taken taken' s = SessionDone n left left' taken taken' s tally
 SessionEnds n (Err ReadFailed) left left' taken taken' s = (count : ℕ) × (count ≤ 16777216) × SessionStopped n left left' taken taken' s count
 SessionEnds n (Err WriteFailed) left left' taken taken' s = SessionCut n left left' taken taken' s
@@ -161,6 +161,6 @@ CountsFault (Err Memory) reads reads' writes writes' = (reads' ≡ reads) × (wr
 CountsFault (Err ReaderTooLong) reads reads' writes writes' = (reads' ≡ reads) × (writes' ≡ writes)
 
 -- over devices that tell their bytes: what was written is the text for all that the reader had
-abbrev pub WritesSession : ℕ → Result Tally BenchFault → Option (List ℕ) → Option (List ℕ) → Option (List ℕ) → Contents → Type 0
+abbrev pub WritesSession : ℕ → Result Tally BenchFault → Option (List ℕ) → Option (List ℕ) → Option (List ℕ) → ScenarioData → Type 0
 WritesSession n result left taken taken' s =
     IfOk result (λ tally. IfSome left (λ bytes. IfSome taken (λ before. (out : List ℕ) × Session n s bytes out tally × (taken' ≡ Some (before ++ out)))))

@@ -3,7 +3,7 @@ use Rattle.std.specs.Prelude.{◌≡◌, ◌≢◌, ℕ, ◌≤◌, length, List
 use Rattle.std.specs.Str.Lines.{lines}
 use Rattle.std.specs.Io.KnownBytes.{Appends, Consumes, IsAtEnd}
 use Rattle.pd_port.specs.declared.entry.Entry.{Entry}
-use Rattle.pd_scenario.specs.Contents.{Contents}
+use Rattle.pd_scenario.specs.Scenarios.{ScenarioData}
 use Rattle.pd_scenario.specs.Plan.{Plan}
 use Rattle.pd_scenario.specs.Plans.{plan_of}
 use Rattle.pd_edit_lines.specs.Grammar.{line_of}
@@ -19,67 +19,67 @@ use Rattle.pd_bench.specs.Pending.{IsPending}
 use Rattle.pd_bench.specs.Session.{Reply, counted, done_text}
 
 -- the reply to a line, and the scenario and the counts after it
-abbrev pub Replied : ℕ → Contents → Tally → Result Line EditFault → List ℕ → Contents → Tally → Type 0
+abbrev pub Replied : ℕ → ScenarioData → Tally → Result Line EditFault → List ℕ → ScenarioData → Tally → Type 0
 Replied n s t r reply s' t' = (outcome : Outcome) × Reply n s r reply s' outcome × (t' ≡ counted t outcome)
 
 -- the text that answers these lines, and the counts at the end
-abbrev pub Answers : ℕ → Contents → Tally → List (List ℕ) → List ℕ → Tally → Type 0
+abbrev pub Answers : ℕ → ScenarioData → Tally → List (List ℕ) → List ℕ → Tally → Type 0
 Answers n s t [] text final = (text ≡ done_text t) × (final ≡ t)
-Answers n s t (line ∷ more) text final = (reply : List ℕ) × (rest : List ℕ) × (s' : Contents) × (t' : Tally)
+Answers n s t (line ∷ more) text final = (reply : List ℕ) × (rest : List ℕ) × (s' : ScenarioData) × (t' : Tally)
     × Replied n s t (line_of line) reply s' t' × (text ≡ reply ++ rest) × Answers n s' t' more rest final
 
 -- the scenario has a run
-abbrev pub HasRun : Contents → Type 0
+abbrev pub HasRun : ScenarioData → Type 0
 HasRun s = (entries : List (ℕ × Entry)) × Shows (plan_of s) entries
 
 -- the runner has the run of this scenario
-abbrev pub IsRunning : Option Plan → List (ℕ × Entry) → Contents → Type 0
+abbrev pub IsRunning : Option Plan → List (ℕ × Entry) → ScenarioData → Type 0
 IsRunning plan entries s = (plan ≡ Some (plan_of s)) × Shows (plan_of s) entries
 
 -- These bytes and the text out lead from one state to another: whatever answers what comes after them, answers, after
 -- out, them and what comes after.
-abbrev pub Leads : ℕ → Contents → Tally → List ℕ → List ℕ → List ℕ → Contents → Tally → List ℕ → Type 0
+abbrev pub Leads : ℕ → ScenarioData → Tally → List ℕ → List ℕ → List ℕ → ScenarioData → Tally → List ℕ → Type 0
 Leads n s t kept bytes out s' t' kept' = (line : List ℕ) → IsPending line kept → (line' : List ℕ) × IsPending line' kept'
     × ((more text : List ℕ) (final : Tally) → Answers n s' t' (lines (line' ++ more)) text final → Answers n s t (lines (line ++ (bytes ++ more))) (out ++ text) final)
 
 -- out begins a text that answers these bytes, whatever comes after them
-abbrev pub LeadsPart : ℕ → Contents → Tally → List ℕ → List ℕ → List ℕ → Type 0
+abbrev pub LeadsPart : ℕ → ScenarioData → Tally → List ℕ → List ℕ → List ℕ → Type 0
 LeadsPart n s t kept bytes out = (line : List ℕ) → IsPending line kept → (more : List ℕ) → (text : List ℕ) × (final : Tally) × Answers n s t (lines (line ++ (bytes ++ more))) text final × Begins out text
 
 -- the text answers what is pending and then nothing
-abbrev pub Ends : ℕ → Contents → Tally → List ℕ → List ℕ → Tally → Type 0
+abbrev pub Ends : ℕ → ScenarioData → Tally → List ℕ → List ℕ → Tally → Type 0
 Ends n s t kept out final = (line : List ℕ) → IsPending line kept → Answers n s t (lines line) out final
 
 -- out begins such a text
-abbrev pub EndsPart : ℕ → Contents → Tally → List ℕ → List ℕ → Type 0
+abbrev pub EndsPart : ℕ → ScenarioData → Tally → List ℕ → List ℕ → Type 0
 EndsPart n s t kept out = (line : List ℕ) → IsPending line kept → (text : List ℕ) × (final : Tally) × Answers n s t (lines line) text final × Begins out text
 
 -- these bytes were taken in, and what they ask for was written
-pub record Fed (n : ℕ) (taken taken' : Option (List ℕ)) (s : Contents) (t : Tally) (kept bytes : List ℕ) (s' : Contents) (t' : Tally) (kept' : List ℕ) : Type 0 where
+pub record Fed (n : ℕ) (taken taken' : Option (List ℕ)) (s : ScenarioData) (t : Tally) (kept bytes : List ℕ) (s' : ScenarioData) (t' : Tally) (kept' : List ℕ) : Type 0 where
   pub out : List ℕ
   pub appends : Appends taken taken' out
   pub leads : Leads n s t kept bytes out s' t' kept'
 
 -- the writer failed after the first bytes of what these bytes ask for
-pub record FedPart (n : ℕ) (taken taken' : Option (List ℕ)) (s : Contents) (t : Tally) (kept bytes : List ℕ) : Type 0 where
+pub record FedPart (n : ℕ) (taken taken' : Option (List ℕ)) (s : ScenarioData) (t : Tally) (kept bytes : List ℕ) : Type 0 where
   pub out : List ℕ
   pub appends : Appends taken taken' out
   pub leads : LeadsPart n s t kept bytes out
 
 -- the end was answered
-pub record Finished (n : ℕ) (taken taken' : Option (List ℕ)) (s : Contents) (t : Tally) (kept : List ℕ) (final : Tally) : Type 0 where
+pub record Finished (n : ℕ) (taken taken' : Option (List ℕ)) (s : ScenarioData) (t : Tally) (kept : List ℕ) (final : Tally) : Type 0 where
   pub out : List ℕ
   pub appends : Appends taken taken' out
   pub ends : Ends n s t kept out final
 
 -- the writer failed after the first bytes of what the end asks for
-pub record FinishedPart (n : ℕ) (taken taken' : Option (List ℕ)) (s : Contents) (t : Tally) (kept : List ℕ) : Type 0 where
+pub record FinishedPart (n : ℕ) (taken taken' : Option (List ℕ)) (s : ScenarioData) (t : Tally) (kept : List ℕ) : Type 0 where
   pub out : List ℕ
   pub appends : Appends taken taken' out
   pub ends : EndsPart n s t kept out
 
 -- all was read, and what it asks for before the end was written
-pub record TookIn (n : ℕ) (left left' taken taken' : Option (List ℕ)) (s : Contents) (t : Tally) (kept : List ℕ) (s' : Contents) (t' : Tally) (kept' : List ℕ) : Type 0 where
+pub record TookIn (n : ℕ) (left left' taken taken' : Option (List ℕ)) (s : ScenarioData) (t : Tally) (kept : List ℕ) (s' : ScenarioData) (t' : Tally) (kept' : List ℕ) : Type 0 where
   pub bytes : List ℕ
   pub consumes : Consumes left left' bytes
   pub at_end : IsAtEnd left'
@@ -87,7 +87,7 @@ pub record TookIn (n : ℕ) (left left' taken taken' : Option (List ℕ)) (s : C
   pub fed : Fed n taken taken' s t kept bytes s' t' kept'
 
 -- the session stopped after some bytes, and the first bytes of what they ask for were written
-pub record TookPart (n : ℕ) (fault : BenchFault) (left left' taken taken' : Option (List ℕ)) (s : Contents) (t : Tally) (kept : List ℕ) : Type 0 where
+pub record TookPart (n : ℕ) (fault : BenchFault) (left left' taken taken' : Option (List ℕ)) (s : ScenarioData) (t : Tally) (kept : List ℕ) : Type 0 where
   pub bytes : List ℕ
   pub consumes : Consumes left left' bytes
   pub few : length bytes ≤ 16777217
@@ -97,7 +97,7 @@ pub record TookPart (n : ℕ) (fault : BenchFault) (left left' taken taken' : Op
   pub fed : FedPart n taken taken' s t kept bytes
 
 -- so many bytes were read, and what they ask for was written
-pub record Taking (n total : ℕ) (left left' taken taken' : Option (List ℕ)) (s : Contents) (t : Tally) (kept : List ℕ) (s' : Contents) (t' : Tally) (kept' : List ℕ) : Type 0 where
+pub record Taking (n total : ℕ) (left left' taken taken' : Option (List ℕ)) (s : ScenarioData) (t : Tally) (kept : List ℕ) (s' : ScenarioData) (t' : Tally) (kept' : List ℕ) : Type 0 where
   pub bytes : List ℕ
   pub count : length bytes ≡ total
   pub consumes : Consumes left left' bytes

@@ -1,7 +1,7 @@
 -- None of the refusals applies where none is found.
 use Rattle.std.proofs.Common.{◌≡◌, ℕ, Bool, true, false, not, cond, find, refl, Some, None}
 use Rattle.std.specs.Prelude.{Option}
-use Rattle.pd_scenario.specs.Contents.{Contents}
+use Rattle.pd_scenario.specs.Scenarios.{ScenarioData}
 use Rattle.pd_edit_lines.specs.declared.fault.EditFault.{EditFault}
 use Rattle.pd_edit_lines.specs.declared.edit.Edit.{Edit}
 use Rattle.pd_edit.specs.Refusals.{refuses, refusals, IsAccepted, id_is_free, id_is_known, port_is_known, name_is_known, is_unused, in_range, supplies_rise, stays_funded, has_room}
@@ -10,7 +10,7 @@ passed : (b : Bool) (fault : EditFault) (rest : Option EditFault) → cond (not 
 passed true fault rest h = (refl, h)
 passed false fault rest h = absurd (cc)
 
-pub accepted : (n : ℕ) (c : Contents) (edit : Edit) → find (λ fault. refuses fault n c edit) refusals ≡ None → IsAccepted n c edit
+pub accepted : (n : ℕ) (c : ScenarioData) (edit : Edit) → find (λ fault. refuses fault n c edit) refusals ≡ None → IsAccepted n c edit
 accepted n c edit h =
     let first = passed (id_is_free c edit) _ _ h in
     let second = passed (id_is_known c edit) _ _ first.1 in

@@ -7,15 +7,15 @@ use Rattle.std.proofs.lemmas.Bool.Decides.{nat_tests}
 use Rattle.std.proofs.lemmas.List.{length-map, length-append}
 use Rattle.std.proofs.lemmas.List.Folds.{list_all-map}
 use Rattle.pd_identity.specs.declared.CablePlug.{CablePlug}
-use Rattle.pd_scenario.specs.declared.contents.NamedCable.{NamedCable}
-use Rattle.pd_scenario.specs.declared.contents.NamedSink.{NamedSink}
-use Rattle.pd_scenario.specs.declared.contents.ScenarioEvent.{ScenarioEvent}
-use Rattle.pd_scenario.specs.declared.contents.ScenarioEventKind.{ScenarioEventKind}
-use Rattle.pd_scenario.specs.declared.contents.ScenarioEventKind.TheVariants.{Attach, Detach, Demand, Lose, Damage, GetSource, GetSink}
-use Rattle.pd_scenario.specs.declared.contents.ScenarioHappening.{ScenarioHappening}
-use Rattle.pd_scenario.specs.declared.contents.ScenarioHappening.TheVariants.{OnPort, Budget}
+use Rattle.pd_scenario.specs.declared.named.NamedCable.{NamedCable}
+use Rattle.pd_scenario.specs.declared.named.NamedSink.{NamedSink}
+use Rattle.pd_scenario.specs.declared.event.ScenarioEvent.{ScenarioEvent}
+use Rattle.pd_scenario.specs.Events.{ScenarioEventKind}
+use Rattle.pd_setup.specs.declared.event.EventKind.TheVariants.{Attach}
+use Rattle.pd_scenario.specs.declared.event.ScenarioHappening.{ScenarioHappening}
+use Rattle.pd_scenario.specs.declared.event.ScenarioHappening.TheVariants.{OnPort, Budget}
 use Rattle.pd_scenario.specs.Names.{is_name}
-use Rattle.pd_scenario.specs.Contents.{Contents, IsValid, names_differ, kind_is_known, names_are_known}
+use Rattle.pd_scenario.specs.Scenarios.{ScenarioData, IsValid, names_differ, kind_is_known, names_are_known}
 use Rattle.pd_edit_lines.specs.declared.edit.Edit.TheVariants.{Cable, DropCable}
 use Rattle.pd_edit.specs.Edits.{has_cable, has_sink, written_cable, without_cable, outcome}
 use Rattle.pd_edit.specs.Refusals.{IsAccepted, kind_names_cable, names_cable}
@@ -36,12 +36,7 @@ kind_known : (old new : List NamedCable) (sinks : List NamedSink) → ((k : List
 kind_known old new sinks kept (Attach cable sink) h =
     let (here, more) = and_parts (has_cable old cable) (has_sink sinks sink) h in
     rw (kept cable here, more)
-kind_known old new sinks kept Detach h = refl
-kind_known old new sinks kept (Demand mw) h = refl
-kind_known old new sinks kept Lose h = refl
-kind_known old new sinks kept (Damage damage) h = refl
-kind_known old new sinks kept GetSource h = refl
-kind_known old new sinks kept GetSink h = refl
+kind_known old new sinks kept _ h = refl
 
 known : (old new : List NamedCable) (sinks : List NamedSink) → ((k : List ℕ) → has_cable old k ≡ true → has_cable new k ≡ true) → (h : ScenarioHappening)
     → names_are_known old sinks h ≡ true → names_are_known new sinks h ≡ true
@@ -54,12 +49,7 @@ kind_known_dropped cables sinks gone (Attach cable sink) other h =
     let (here, more) = and_parts (has_cable cables cable) (has_sink sinks sink) h in
     let left = among-dropped name_of cable gone cables other (sym (has_is_among cable cables) ∙ here) in
     rw (has_is_among cable (without_cable gone cables), left, more)
-kind_known_dropped cables sinks gone Detach other h = refl
-kind_known_dropped cables sinks gone (Demand mw) other h = refl
-kind_known_dropped cables sinks gone Lose other h = refl
-kind_known_dropped cables sinks gone (Damage damage) other h = refl
-kind_known_dropped cables sinks gone GetSource other h = refl
-kind_known_dropped cables sinks gone GetSink other h = refl
+kind_known_dropped cables sinks gone _ other h = refl
 
 known_dropped : (cables : List NamedCable) (sinks : List NamedSink) (gone : List ℕ) (h : ScenarioHappening) → names_cable gone h ≡ false → names_are_known cables sinks h ≡ true
     → names_are_known (without_cable gone cables) sinks h ≡ true
@@ -68,7 +58,7 @@ known_dropped cables sinks gone (Budget mw) other h = refl
 
 -- ---- a new or another cable
 
-valid_replaced : (n : ℕ) (c : Contents) (new : NamedCable) → IsValid n c
+valid_replaced : (n : ℕ) (c : ScenarioData) (new : NamedCable) → IsValid n c
     → IsValid n (record c { cables = map (λ (old : NamedCable). cond (bytes_eq old.name new.name) new old) c.cables })
 valid_replaced n c new v =
     let replaced : List NamedCable = map (λ (old : NamedCable). cond (bytes_eq old.name new.name) new old) c.cables in
@@ -86,7 +76,7 @@ names_last : (new : NamedCable) (cables : List NamedCable) → map name_of (cabl
 names_last new [] = refl
 names_last new (cable ∷ cables) = ap (λ rest. cable.name ∷ rest) (names_last new cables)
 
-valid_appended : (n : ℕ) (c : Contents) (new : NamedCable) → is_name new.name ≡ true → has_cable c.cables new.name ≡ false → length c.cables < 64 → IsValid n c
+valid_appended : (n : ℕ) (c : ScenarioData) (new : NamedCable) → is_name new.name ≡ true → has_cable c.cables new.name ≡ false → length c.cables < 64 → IsValid n c
     → IsValid n (record c { cables = c.cables ++ new ∷ [] })
 valid_appended n c new named other room v =
     let more : List NamedCable = c.cables ++ new ∷ [] in
@@ -104,7 +94,7 @@ room_for : (has : Bool) (n : ℕ) → has ≡ false → (has || nat_lt n 64) ≡
 room_for true n is h = absurd (false≢true (sym is))
 room_for false n is h = grind (arith, nat_tests)
 
-pub valid_cable : (n : ℕ) (c : Contents) (name : List ℕ) (plug : CablePlug) (rating : ℕ) → is_name name ≡ true → IsValid n c → IsAccepted n c (Cable name plug rating)
+pub valid_cable : (n : ℕ) (c : ScenarioData) (name : List ℕ) (plug : CablePlug) (rating : ℕ) → is_name name ≡ true → IsValid n c → IsAccepted n c (Cable name plug rating)
     → IsValid n (outcome c (Cable name plug rating))
 valid_cable n c name plug rating named v a =
     let new : NamedCable = written_cable name plug rating in
@@ -115,7 +105,7 @@ valid_cable n c name plug rating named v a =
 
 -- ---- a dropped cable
 
-pub valid_drop_cable : (n : ℕ) (c : Contents) (name : List ℕ) → IsValid n c → IsAccepted n c (DropCable name) → IsValid n (outcome c (DropCable name))
+pub valid_drop_cable : (n : ℕ) (c : ScenarioData) (name : List ℕ) → IsValid n c → IsAccepted n c (DropCable name) → IsValid n (outcome c (DropCable name))
 valid_drop_cable n c name v a =
     let others : NamedCable → Bool = λ (cable : NamedCable). not (bytes_eq cable.name name) in
     let unused : list_any (λ (e : ScenarioEvent). names_cable name e.happening) c.events ≡ false = not_true _ a.unused in

@@ -6,15 +6,15 @@ use Rattle.std.proofs.lemmas.Bool.{cases_Bool, false≢true, and_parts, or_parts
 use Rattle.std.proofs.lemmas.Bool.Decides.{nat_tests}
 use Rattle.std.proofs.lemmas.List.{length-map, length-append}
 use Rattle.pd_scenario.specs.declared.limits.Quantity.TheVariants as quantity
-use Rattle.pd_scenario.specs.declared.contents.ScenarioEvent.{ScenarioEvent}
-use Rattle.pd_scenario.specs.declared.contents.ScenarioEventKind.{ScenarioEventKind}
-use Rattle.pd_scenario.specs.declared.contents.ScenarioHappening.{ScenarioHappening}
-use Rattle.pd_scenario.specs.declared.contents.ScenarioHappening.TheVariants as scenario_happening
+use Rattle.pd_scenario.specs.declared.event.ScenarioEvent.{ScenarioEvent}
+use Rattle.pd_scenario.specs.Events.{ScenarioEventKind}
+use Rattle.pd_scenario.specs.declared.event.ScenarioHappening.{ScenarioHappening}
+use Rattle.pd_scenario.specs.declared.event.ScenarioHappening.TheVariants as scenario_happening
 use Rattle.pd_scenario.specs.Names.{is_name}
 use Rattle.pd_scenario.specs.Limits.{allows, is_port}
-use Rattle.pd_scenario.specs.Contents.{Contents, IsValid, floors_mw, has_id, ids_differ, kind_fits, happening_fits, event_fits, names_are_known, kind_is_known as kind_names_are_known, budget_in, budget_of, least_budget}
-use Rattle.pd_edit_lines.specs.declared.edit.EditKind.{EditKind}
-use Rattle.pd_edit_lines.specs.declared.edit.EditKind.TheVariants.{Attach, Detach, Demand, Lose, Damage, GetSource, GetSink}
+use Rattle.pd_scenario.specs.Scenarios.{ScenarioData, IsValid, floors_mw, has_id, ids_differ, kind_fits, happening_fits, event_fits, names_are_known, kind_is_known as kind_names_are_known, budget_in, budget_of, least_budget}
+use Rattle.pd_setup.specs.declared.event.EventKind.TheVariants.{Attach, Demand, Damage}
+use Rattle.pd_edit_lines.specs.Kinds.{EditKind}
 use Rattle.pd_edit_lines.specs.declared.edit.EditHappening.{EditHappening}
 use Rattle.pd_edit_lines.specs.declared.edit.EditHappening.TheVariants as happens
 use Rattle.pd_edit_lines.specs.declared.edit.Edit.TheVariants.{Insert, Remove, Move, Change}
@@ -63,38 +63,30 @@ ids_differ-last (f ∷ es) e h new =
 
 -- ---- kinds of events
 
-cable_is_name : (c : Contents) (name : List ℕ) → list_all (λ cable. is_name cable.name) c.cables ≡ true → has_cable c.cables name ≡ true → is_name name ≡ true
+cable_is_name : (c : ScenarioData) (name : List ℕ) → list_all (λ cable. is_name cable.name) c.cables ≡ true → has_cable c.cables name ≡ true → is_name name ≡ true
 cable_is_name c name named known = name_of (λ cable. cable.name) name is_name c.cables named (sym (some_of (λ cable. cable.cable) _ ∙ among (λ cable. cable.name) name c.cables) ∙ known)
 
-sink_is_name : (c : Contents) (name : List ℕ) → list_all (λ sink. is_name sink.name) c.sinks ≡ true → has_sink c.sinks name ≡ true → is_name name ≡ true
+sink_is_name : (c : ScenarioData) (name : List ℕ) → list_all (λ sink. is_name sink.name) c.sinks ≡ true → has_sink c.sinks name ≡ true → is_name name ≡ true
 sink_is_name c name named known = name_of (λ sink. sink.name) name is_name c.sinks named (sym (some_of (λ sink. sink.sink) _ ∙ among (λ sink. sink.name) name c.sinks) ∙ known)
 
-kind_fits-known : (n : ℕ) (c : Contents) (kind : EditKind) → IsValid n c → kind_is_known c kind ≡ true → kind_in_range kind ≡ true → kind_fits (event_kind_of kind) ≡ true
+kind_fits-known : (n : ℕ) (c : ScenarioData) (kind : EditKind) → IsValid n c → kind_is_known c kind ≡ true → kind_in_range kind ≡ true → kind_fits (event_kind_of kind) ≡ true
 kind_fits-known n c (Attach cable sink) v known range =
     let (has_cable, has_sink) = and_parts (has_cable c.cables cable) (has_sink c.sinks sink) known in
     rw (cable_is_name c cable v.cables_named has_cable, sink_is_name c sink v.sinks_named has_sink)
-kind_fits-known n c Detach v known range = refl
 kind_fits-known n c (Demand mw) v known range = range
-kind_fits-known n c Lose v known range = refl
-kind_fits-known n c (Damage place mask) v known range = range
-kind_fits-known n c GetSource v known range = refl
-kind_fits-known n c GetSink v known range = refl
+kind_fits-known n c (Damage harm) v known range = range
+kind_fits-known n c _ v known range = refl
 
-kind_names-known : (c : Contents) (kind : EditKind) → kind_is_known c kind ≡ true → kind_names_are_known c.cables c.sinks (event_kind_of kind) ≡ true
+kind_names-known : (c : ScenarioData) (kind : EditKind) → kind_is_known c kind ≡ true → kind_names_are_known c.cables c.sinks (event_kind_of kind) ≡ true
 kind_names-known c (Attach cable sink) known = known
-kind_names-known c Detach known = refl
-kind_names-known c (Demand mw) known = refl
-kind_names-known c Lose known = refl
-kind_names-known c (Damage place mask) known = refl
-kind_names-known c GetSource known = refl
-kind_names-known c GetSink known = refl
+kind_names-known c _ known = refl
 
-happening_fits-known : (n : ℕ) (c : Contents) (h : EditHappening) → IsValid n c → happening_is_known c h ≡ true → happens_on_port n h ≡ true → happening_in_range h ≡ true
+happening_fits-known : (n : ℕ) (c : ScenarioData) (h : EditHappening) → IsValid n c → happening_is_known c h ≡ true → happens_on_port n h ≡ true → happening_in_range h ≡ true
     → happening_fits n (event_happening_of h) ≡ true
 happening_fits-known n c (happens.OnPort port kind) v known on range = rw (on, kind_fits-known n c kind v known range)
 happening_fits-known n c (happens.Budget mw) v known on range = range
 
-happening_names-known : (c : Contents) (h : EditHappening) → happening_is_known c h ≡ true → names_are_known c.cables c.sinks (event_happening_of h) ≡ true
+happening_names-known : (c : ScenarioData) (h : EditHappening) → happening_is_known c h ≡ true → names_are_known c.cables c.sinks (event_happening_of h) ≡ true
 happening_names-known c (happens.OnPort port kind) known = kind_names-known c kind known
 happening_names-known c (happens.Budget mw) known = refl
 
@@ -106,12 +98,12 @@ at_most a b h = grind (arith, nat_tests)
 below : (a b : ℕ) → nat_lt a b ≡ true → a < b
 below a b h = grind (arith, nat_tests)
 
-funded-insert : (n : ℕ) (c : Contents) (id at : ℕ) (h : EditHappening) → IsValid n c → IsAccepted n c (Insert id at h)
+funded-insert : (n : ℕ) (c : ScenarioData) (id at : ℕ) (h : EditHappening) → IsValid n c → IsAccepted n c (Insert id at h)
     → floors_mw c.settings ≤ least_budget c.budget_mw (c.events ++ inserted_event id at h ∷ [])
 funded-insert n c id at (happens.OnPort port kind) v a = rw (least_append c.budget_mw c.events (inserted_event id at (happens.OnPort port kind))) v.funded
 funded-insert n c id at (happens.Budget mw) v a = at_most _ _ a.funded
 
-pub valid_insert : (n : ℕ) (c : Contents) (id at : ℕ) (h : EditHappening) → IsValid n c → IsAccepted n c (Insert id at h) → IsValid n (outcome c (Insert id at h))
+pub valid_insert : (n : ℕ) (c : ScenarioData) (id at : ℕ) (h : EditHappening) → IsValid n c → IsAccepted n c (Insert id at h) → IsValid n (outcome c (Insert id at h))
 valid_insert n c id at h v a =
     let event : ScenarioEvent = inserted_event id at h in
     let (numbers, range) = and_parts (allows quantity.EventId id && allows quantity.Time at) (happening_in_range h) a.in_range in
@@ -126,7 +118,7 @@ valid_insert n c id at h v a =
 
 -- ---- remove
 
-pub valid_remove : (n : ℕ) (c : Contents) (id : ℕ) → IsValid n c → IsValid n (outcome c (Remove id))
+pub valid_remove : (n : ℕ) (c : ScenarioData) (id : ℕ) → IsValid n c → IsValid n (outcome c (Remove id))
 valid_remove n c id v =
     let others : ScenarioEvent → Bool = λ (e : ScenarioEvent). not (e.id == id) in
     let funded : floors_mw c.settings ≤ least_budget c.budget_mw (filter others c.events) = omega (arith, v.funded, least_filter c.budget_mw others c.events) in
@@ -164,7 +156,7 @@ list_all-to_map p f kept (e ∷ es) h =
     let (here, more) = and_parts (p e) (list_all p es) h in
     rw (kept e here, list_all-to_map p f kept es more)
 
-pub valid_move : (n : ℕ) (c : Contents) (id at : ℕ) → IsValid n c → IsAccepted n c (Move id at) → IsValid n (outcome c (Move id at))
+pub valid_move : (n : ℕ) (c : ScenarioData) (id at : ℕ) → IsValid n c → IsAccepted n c (Move id at) → IsValid n (outcome c (Move id at))
 valid_move n c id at v a =
     let f : ScenarioEvent → ScenarioEvent = moved_event id at in
     valid_events n c (map f c.events)
@@ -206,12 +198,12 @@ fits_changed n id kind e fits h =
       | inr other ↦ rw other h
     ]
 
-known_with : (c : Contents) (kind : ScenarioEventKind) (h : ScenarioHappening) → kind_names_are_known c.cables c.sinks kind ≡ true → names_are_known c.cables c.sinks h ≡ true
+known_with : (c : ScenarioData) (kind : ScenarioEventKind) (h : ScenarioHappening) → kind_names_are_known c.cables c.sinks kind ≡ true → names_are_known c.cables c.sinks h ≡ true
     → names_are_known c.cables c.sinks (with_kind kind h) ≡ true
 known_with c kind (scenario_happening.OnPort port old) known h = known
 known_with c kind (scenario_happening.Budget mw) known h = refl
 
-known_changed : (c : Contents) (id : ℕ) (kind : ScenarioEventKind) (e : ScenarioEvent) → kind_names_are_known c.cables c.sinks kind ≡ true → names_are_known c.cables c.sinks e.happening ≡ true
+known_changed : (c : ScenarioData) (id : ℕ) (kind : ScenarioEventKind) (e : ScenarioEvent) → kind_names_are_known c.cables c.sinks kind ≡ true → names_are_known c.cables c.sinks e.happening ≡ true
     → names_are_known c.cables c.sinks (changed_event id kind e).happening ≡ true
 known_changed c id kind e known h =
     elim (cases_Bool (e.id == id)) [
@@ -219,7 +211,7 @@ known_changed c id kind e known h =
       | inr other ↦ rw other h
     ]
 
-pub valid_change : (n : ℕ) (c : Contents) (id : ℕ) (kind : EditKind) → IsValid n c → IsAccepted n c (Change id kind) → IsValid n (outcome c (Change id kind))
+pub valid_change : (n : ℕ) (c : ScenarioData) (id : ℕ) (kind : EditKind) → IsValid n c → IsAccepted n c (Change id kind) → IsValid n (outcome c (Change id kind))
 valid_change n c id kind v a =
     let f : ScenarioEvent → ScenarioEvent = changed_event id (event_kind_of kind) in
     let fits = kind_fits-known n c kind v a.name_known a.in_range in

@@ -6,10 +6,10 @@ use Rattle.std.specs.Prelude.{min}
 use Rattle.std.specs.List.{filter_map}
 use Rattle.std.proofs.lemmas.List.Elements.{filter_map-append}
 use Rattle.std.proofs.lemmas.List.Sums.{fold-append}
-use Rattle.pd_scenario.specs.declared.contents.ScenarioEvent.{ScenarioEvent}
-use Rattle.pd_scenario.specs.declared.contents.ScenarioHappening.{ScenarioHappening}
-use Rattle.pd_scenario.specs.declared.contents.ScenarioHappening.TheVariants.{OnPort, Budget}
-use Rattle.pd_scenario.specs.Contents.{budget_of, least_budget}
+use Rattle.pd_scenario.specs.declared.event.ScenarioEvent.{ScenarioEvent}
+use Rattle.pd_scenario.specs.declared.event.ScenarioHappening.{ScenarioHappening}
+use Rattle.pd_scenario.specs.declared.event.ScenarioHappening.TheVariants.{OnPort, Budget}
+use Rattle.pd_scenario.specs.Scenarios.{budget_of, least_budget}
 
 -- the less of a budget and the one that an event changes it to
 abbrev pub least_with : ℕ → ScenarioHappening → ℕ

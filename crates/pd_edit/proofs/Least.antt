@@ -1,7 +1,7 @@
 -- The refusal that is answered is the least that applies.
 use Rattle.std.proofs.Common.{◌≡◌, ℕ, ◌<◌, ◌⊎◌, Bool, true, false, List, [], ◌∷◌, find, refl, ap, inl, inr, arith, lit<, Some, Err}
 use Rattle.std.proofs.lemmas.Bool.{cases_Bool}
-use Rattle.pd_scenario.specs.Contents.{Contents}
+use Rattle.pd_scenario.specs.Scenarios.{ScenarioData}
 use Rattle.pd_edit_lines.specs.declared.fault.EditFault.{EditFault}
 use Rattle.pd_edit_lines.specs.declared.fault.EditFault.TheVariants.{Syntax, IdTaken, NoSuchId, NoSuchPort, NoSuchName, InUse, Range, Supplies, Floors, Limit, Memory}
 use Rattle.pd_edit_lines.specs.declared.edit.Edit.{Edit}
@@ -34,7 +34,7 @@ above number fault (first ∷ faults) all there =
       | inr later ↦ above number fault faults all.1 later
     ]
 
-least : (applies : EditFault → Bool) (faults : List EditFault) (c : Contents) (fault : EditFault) → AreRising faults
+least : (applies : EditFault → Bool) (faults : List EditFault) (c : ScenarioData) (fault : EditFault) → AreRising faults
     → ((other : EditFault) → (applies other ≡ false) ⊎ IsIn other faults) → answered (find applies faults) c ≡ Err fault → IsLeast applies fault
 least applies [] c fault rising left h = absurd (cc)
 least applies (first ∷ faults) c fault rising left h =
@@ -68,7 +68,7 @@ rising : AreRising refusals
 rising =
     ((lit< tt, (lit< tt, (lit< tt, (lit< tt, (lit< tt, (lit< tt, (lit< tt, (lit< tt, tt)))))))), ((lit< tt, (lit< tt, (lit< tt, (lit< tt, (lit< tt, (lit< tt, (lit< tt, tt))))))), ((lit< tt, (lit< tt, (lit< tt, (lit< tt, (lit< tt, (lit< tt, tt)))))), ((lit< tt, (lit< tt, (lit< tt, (lit< tt, (lit< tt, tt))))), ((lit< tt, (lit< tt, (lit< tt, (lit< tt, tt)))), ((lit< tt, (lit< tt, (lit< tt, tt))), ((lit< tt, (lit< tt, tt)), ((lit< tt, tt), (tt, tt)))))))))
 
-listed : (n : ℕ) (c : Contents) (edit : Edit) (fault : EditFault) → (refuses fault n c edit ≡ false) ⊎ IsIn fault refusals
+listed : (n : ℕ) (c : ScenarioData) (edit : Edit) (fault : EditFault) → (refuses fault n c edit ≡ false) ⊎ IsIn fault refusals
 listed n c edit Syntax = inl refl
 listed n c edit IdTaken = inr (inl refl)
 listed n c edit NoSuchId = inr (inr (inl refl))
@@ -81,7 +81,7 @@ listed n c edit Floors = inr (inr (inr (inr (inr (inr (inr (inr (inl refl)))))))
 listed n c edit Limit = inr (inr (inr (inr (inr (inr (inr (inr (inr (inl refl)))))))))
 listed n c edit Memory = inl refl
 
-pub least_refusal : (n : ℕ) (c : Contents) (edit : Edit) (fault : EditFault) → edited n c edit ≡ Err fault
+pub least_refusal : (n : ℕ) (c : ScenarioData) (edit : Edit) (fault : EditFault) → edited n c edit ≡ Err fault
     → (refuses fault n c edit ≡ true) × ((other : EditFault) → number_of other < number_of fault → refuses other n c edit ≡ false)
 unfolding edited
 least_refusal n c edit fault h = least (λ f. refuses f n c edit) refusals (outcome c edit) fault rising (listed n c edit) h

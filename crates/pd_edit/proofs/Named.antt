@@ -4,7 +4,7 @@ use Rattle.std.specs.Prelude.{Option, bytes_eq, is_some, option_map}
 use Rattle.std.specs.List.{list_any, list_all}
 use Rattle.std.proofs.lemmas.Bool.{cases_Bool, false≢true, and_parts, or_parts}
 use Rattle.std.proofs.lemmas.Slice.Eq.{bytes_eq-Decides}
-use Rattle.pd_scenario.specs.Contents.{names_differ}
+use Rattle.pd_scenario.specs.Scenarios.{names_differ}
 
 pub not_true : (a : Bool) → not a ≡ true → a ≡ false
 not_true true h = absurd (false≢true h)

@@ -11,7 +11,7 @@ use Rattle.pd_objects.specs.Supply.{SupplyData}
 use Rattle.pd_setup.specs.Settings.{SettingsData, IsSettings, AreRising}
 use Rattle.pd_scenario.specs.declared.limits.Quantity.TheVariants as quantity
 use Rattle.pd_scenario.specs.Limits.{allows}
-use Rattle.pd_scenario.specs.Contents.{Contents, IsValid, floors_mw}
+use Rattle.pd_scenario.specs.Scenarios.{ScenarioData, IsValid, floors_mw}
 use Rattle.pd_edit_lines.specs.declared.edit.WrittenSupply.{WrittenSupply}
 use Rattle.pd_edit_lines.specs.declared.edit.Edit.TheVariants.{Caps, Floor, Budget, End}
 use Rattle.pd_edit.specs.Edits.{changed_from, changed_port, supply_of, AreSupplies, with_supplies, with_floor, outcome}
@@ -68,7 +68,7 @@ floor_kept mw range s h =
       most_tries = h.most_tries;
     }
 
-pub valid_floor : (n : ℕ) (c : Contents) (port mw : ℕ) → IsValid n c → IsAccepted n c (Floor port mw) → IsValid n (outcome c (Floor port mw))
+pub valid_floor : (n : ℕ) (c : ScenarioData) (port mw : ℕ) → IsValid n c → IsAccepted n c (Floor port mw) → IsValid n (outcome c (Floor port mw))
 valid_floor n c port mw v a =
     valid_settings n c (changed_port port (with_floor mw) c.settings) (length-changed 1 port (with_floor mw) c.settings ∙ v.settings_count)
     (all_changed (with_floor mw) (floor_kept mw a.in_range) 1 port c.settings v.settings_fit) (at_most _ _ a.funded) v
@@ -114,7 +114,7 @@ caps_kept supplies are s h = record {
   most_tries = h.most_tries;
 }
 
-pub valid_caps : (n : ℕ) (c : Contents) (port : ℕ) (supplies : ArrayVec WrittenSupply) → IsValid n c → IsAccepted n c (Caps port supplies) → IsValid n (outcome c (Caps port supplies))
+pub valid_caps : (n : ℕ) (c : ScenarioData) (port : ℕ) (supplies : ArrayVec WrittenSupply) → IsValid n c → IsAccepted n c (Caps port supplies) → IsValid n (outcome c (Caps port supplies))
 valid_caps n c port supplies v a =
     let f : SettingsData → SettingsData = with_supplies supplies.items in
     valid_settings n c (changed_port port f c.settings) (length-changed 1 port f c.settings ∙ v.settings_count)
@@ -123,8 +123,8 @@ valid_caps n c port supplies v a =
 
 -- ---- the budget and the end
 
-pub valid_budget_edit : (n : ℕ) (c : Contents) (mw : ℕ) → IsValid n c → IsAccepted n c (Budget mw) → IsValid n (outcome c (Budget mw))
+pub valid_budget_edit : (n : ℕ) (c : ScenarioData) (mw : ℕ) → IsValid n c → IsAccepted n c (Budget mw) → IsValid n (outcome c (Budget mw))
 valid_budget_edit n c mw v a = valid_budget n c mw a.in_range (at_most _ _ a.funded) v
 
-pub valid_end_edit : (n : ℕ) (c : Contents) (at : ℕ) → IsValid n c → IsAccepted n c (End at) → IsValid n (outcome c (End at))
+pub valid_end_edit : (n : ℕ) (c : ScenarioData) (at : ℕ) → IsValid n c → IsAccepted n c (End at) → IsValid n (outcome c (End at))
 valid_end_edit n c at v a = valid_end n c at a.in_range v

@@ -10,15 +10,15 @@ use Rattle.std.proofs.lemmas.List.Elements.{All-nil, All-cons, All-head, All-tai
 use Rattle.pd_setup.specs.Sinks.{IsSink}
 use Rattle.pd_setup.specs.declared.sink.SinkMode.{SinkMode}
 use Rattle.pd_setup.specs.declared.sink.SinkRevision.{SinkRevision}
-use Rattle.pd_scenario.specs.declared.contents.NamedCable.{NamedCable}
-use Rattle.pd_scenario.specs.declared.contents.NamedSink.{NamedSink}
-use Rattle.pd_scenario.specs.declared.contents.ScenarioEvent.{ScenarioEvent}
-use Rattle.pd_scenario.specs.declared.contents.ScenarioEventKind.{ScenarioEventKind}
-use Rattle.pd_scenario.specs.declared.contents.ScenarioEventKind.TheVariants.{Attach, Detach, Demand, Lose, Damage, GetSource, GetSink}
-use Rattle.pd_scenario.specs.declared.contents.ScenarioHappening.{ScenarioHappening}
-use Rattle.pd_scenario.specs.declared.contents.ScenarioHappening.TheVariants.{OnPort, Budget}
+use Rattle.pd_scenario.specs.declared.named.NamedCable.{NamedCable}
+use Rattle.pd_scenario.specs.declared.named.NamedSink.{NamedSink}
+use Rattle.pd_scenario.specs.declared.event.ScenarioEvent.{ScenarioEvent}
+use Rattle.pd_scenario.specs.Events.{ScenarioEventKind}
+use Rattle.pd_setup.specs.declared.event.EventKind.TheVariants.{Attach}
+use Rattle.pd_scenario.specs.declared.event.ScenarioHappening.{ScenarioHappening}
+use Rattle.pd_scenario.specs.declared.event.ScenarioHappening.TheVariants.{OnPort, Budget}
 use Rattle.pd_scenario.specs.Names.{is_name}
-use Rattle.pd_scenario.specs.Contents.{Contents, IsValid, names_differ, kind_is_known, names_are_known}
+use Rattle.pd_scenario.specs.Scenarios.{ScenarioData, IsValid, names_differ, kind_is_known, names_are_known}
 use Rattle.pd_edit_lines.specs.declared.edit.Edit.TheVariants.{Sink, DropSink}
 use Rattle.pd_edit.specs.Edits.{has_cable, has_sink, written_sink, without_sink, outcome}
 use Rattle.pd_edit.specs.Refusals.{IsAccepted, kind_names_sink, names_sink}
@@ -42,12 +42,7 @@ kind_known : (cables : List NamedCable) (old new : List NamedSink) → ((k : Lis
 kind_known cables old new kept (Attach cable sink) h =
     let (before, here) = and_parts (has_cable cables cable) (has_sink old sink) h in
     rw (before, kept sink here)
-kind_known cables old new kept Detach h = refl
-kind_known cables old new kept (Demand mw) h = refl
-kind_known cables old new kept Lose h = refl
-kind_known cables old new kept (Damage damage) h = refl
-kind_known cables old new kept GetSource h = refl
-kind_known cables old new kept GetSink h = refl
+kind_known cables old new kept _ h = refl
 
 known : (cables : List NamedCable) (old new : List NamedSink) → ((k : List ℕ) → has_sink old k ≡ true → has_sink new k ≡ true) → (h : ScenarioHappening)
     → names_are_known cables old h ≡ true → names_are_known cables new h ≡ true
@@ -60,12 +55,7 @@ kind_known_dropped cables sinks gone (Attach cable sink) other h =
     let (before, here) = and_parts (has_cable cables cable) (has_sink sinks sink) h in
     let left = among-dropped name_of sink gone sinks other (sym (has_is_among sink sinks) ∙ here) in
     rw (before, has_is_among sink (without_sink gone sinks), left)
-kind_known_dropped cables sinks gone Detach other h = refl
-kind_known_dropped cables sinks gone (Demand mw) other h = refl
-kind_known_dropped cables sinks gone Lose other h = refl
-kind_known_dropped cables sinks gone (Damage damage) other h = refl
-kind_known_dropped cables sinks gone GetSource other h = refl
-kind_known_dropped cables sinks gone GetSink other h = refl
+kind_known_dropped cables sinks gone _ other h = refl
 
 known_dropped : (cables : List NamedCable) (sinks : List NamedSink) (gone : List ℕ) (h : ScenarioHappening) → names_sink gone h ≡ false → names_are_known cables sinks h ≡ true
     → names_are_known cables (without_sink gone sinks) h ≡ true
@@ -84,7 +74,7 @@ fit-replaced new (sink ∷ sinks) h all =
     All-cons Fits (cond (bytes_eq sink.name new.name) new sink) (map (λ (old : NamedSink). cond (bytes_eq old.name new.name) new old) sinks)
     (one_fits (bytes_eq sink.name new.name) new sink h (All-head Fits sink sinks all)) (fit-replaced new sinks h (All-tail Fits sink sinks all))
 
-valid_replaced : (n : ℕ) (c : Contents) (new : NamedSink) → Fits new → IsValid n c
+valid_replaced : (n : ℕ) (c : ScenarioData) (new : NamedSink) → Fits new → IsValid n c
     → IsValid n (record c { sinks = map (λ (old : NamedSink). cond (bytes_eq old.name new.name) new old) c.sinks })
 valid_replaced n c new fits v =
     let replaced : List NamedSink = map (λ (old : NamedSink). cond (bytes_eq old.name new.name) new old) c.sinks in
@@ -103,7 +93,7 @@ names_last : (new : NamedSink) (sinks : List NamedSink) → map name_of (sinks +
 names_last new [] = refl
 names_last new (sink ∷ sinks) = ap (λ rest. sink.name ∷ rest) (names_last new sinks)
 
-valid_appended : (n : ℕ) (c : Contents) (new : NamedSink) → Fits new → is_name new.name ≡ true → has_sink c.sinks new.name ≡ false → length c.sinks < 64 → IsValid n c
+valid_appended : (n : ℕ) (c : ScenarioData) (new : NamedSink) → Fits new → is_name new.name ≡ true → has_sink c.sinks new.name ≡ false → length c.sinks < 64 → IsValid n c
     → IsValid n (record c { sinks = c.sinks ++ new ∷ [] })
 valid_appended n c new fits named other room v =
     let more : List NamedSink = c.sinks ++ new ∷ [] in
@@ -122,7 +112,7 @@ room_for : (has : Bool) (n : ℕ) → has ≡ false → (has || nat_lt n 64) ≡
 room_for true n is h = absurd (false≢true (sym is))
 room_for false n is h = grind (arith, nat_tests)
 
-pub valid_sink : (n : ℕ) (c : Contents) (name : List ℕ) (max_mv demand_mw : ℕ) (mode : SinkMode) (revision : SinkRevision) → is_name name ≡ true
+pub valid_sink : (n : ℕ) (c : ScenarioData) (name : List ℕ) (max_mv demand_mw : ℕ) (mode : SinkMode) (revision : SinkRevision) → is_name name ≡ true
     → IsSink (record { max_mv = max_mv; demand_mw = demand_mw; mode = mode; revision = revision }) → IsValid n c → IsAccepted n c (Sink name max_mv demand_mw mode revision)
     → IsValid n (outcome c (Sink name max_mv demand_mw mode revision))
 valid_sink n c name max_mv demand_mw mode revision named fits v a =
@@ -134,7 +124,7 @@ valid_sink n c name max_mv demand_mw mode revision named fits v a =
 
 -- ---- a dropped sink
 
-pub valid_drop_sink : (n : ℕ) (c : Contents) (name : List ℕ) → IsValid n c → IsAccepted n c (DropSink name) → IsValid n (outcome c (DropSink name))
+pub valid_drop_sink : (n : ℕ) (c : ScenarioData) (name : List ℕ) → IsValid n c → IsAccepted n c (DropSink name) → IsValid n (outcome c (DropSink name))
 valid_drop_sink n c name v a =
     let others : NamedSink → Bool = λ (sink : NamedSink). not (bytes_eq sink.name name) in
     let unused : list_any (λ (e : ScenarioEvent). names_sink name e.happening) c.events ≡ false = not_true _ a.unused in

@@ -6,17 +6,19 @@ use Rattle.pd_identity.specs.declared.Rating.TheVariants.{ThreeAmperes}
 use Rattle.pd_setup.specs.declared.sink.SinkMode.{SinkMode}
 use Rattle.pd_setup.specs.declared.sink.SinkRevision.{SinkRevision}
 use Rattle.pd_setup.specs.Settings.{SettingsData, AreRising}
-use Rattle.pd_scenario.specs.declared.contents.NamedCable.{NamedCable}
-use Rattle.pd_scenario.specs.declared.contents.NamedSink.{NamedSink}
-use Rattle.pd_scenario.specs.declared.contents.ScenarioEvent.{ScenarioEvent}
-use Rattle.pd_scenario.specs.declared.contents.ScenarioEventKind.{ScenarioEventKind}
-use Rattle.pd_scenario.specs.declared.contents.ScenarioEventKind.TheVariants as scenario_event
-use Rattle.pd_scenario.specs.declared.contents.ScenarioHappening.{ScenarioHappening}
-use Rattle.pd_scenario.specs.declared.contents.ScenarioHappening.TheVariants as scenario_happening
-use Rattle.pd_scenario.specs.Contents.{Contents, cable_named, sink_named}
+use Rattle.pd_scenario.specs.declared.named.NamedCable.{NamedCable}
+use Rattle.pd_scenario.specs.declared.named.NamedSink.{NamedSink}
+use Rattle.pd_scenario.specs.declared.event.ScenarioEvent.{ScenarioEvent}
+use Rattle.pd_scenario.specs.Events.{ScenarioEventKind}
+use Rattle.pd_packet.specs.Damage.{DamageData}
+use Rattle.pd_setup.specs.Events.{by_kind}
+use Rattle.pd_setup.specs.declared.event.EventKind.TheVariants.{Attach, Demand, Damage}
+use Rattle.pd_scenario.specs.declared.event.ScenarioHappening.{ScenarioHappening}
+use Rattle.pd_scenario.specs.declared.event.ScenarioHappening.TheVariants as scenario_happening
+use Rattle.pd_scenario.specs.Scenarios.{ScenarioData, cable_named, sink_named}
 use Rattle.pd_scenario.specs.Words.{rating_of}
-use Rattle.pd_edit_lines.specs.declared.edit.EditKind.{EditKind}
-use Rattle.pd_edit_lines.specs.declared.edit.EditKind.TheVariants.{Attach, Detach, Demand, Lose, Damage, GetSource, GetSink}
+use Rattle.pd_edit_lines.specs.Kinds.{EditKind}
+use Rattle.pd_edit_lines.specs.declared.edit.WrittenDamage.{WrittenDamage}
 use Rattle.pd_edit_lines.specs.declared.edit.EditHappening.{EditHappening}
 use Rattle.pd_edit_lines.specs.declared.edit.EditHappening.TheVariants as happens
 use Rattle.pd_edit_lines.specs.declared.edit.WrittenSupply.{WrittenSupply}
@@ -25,15 +27,13 @@ use Rattle.pd_edit_lines.specs.declared.edit.Edit.TheVariants.{Insert, Remove, M
 
 -- ---- events: the lines `insert`, `move` and `change`
 
--- the kinds of events of a line are those of a scenario
+-- the damage of a line is that of a scenario
+abbrev pub damage_of : WrittenDamage → DamageData
+damage_of written = record { place = written.place; mask = written.mask }
+
+-- the kind of event of a line is that of a scenario
 abbrev pub event_kind_of : EditKind → ScenarioEventKind
-event_kind_of (Attach cable sink) = scenario_event.Attach cable sink
-event_kind_of Detach = scenario_event.Detach
-event_kind_of (Demand mw) = scenario_event.Demand mw
-event_kind_of Lose = scenario_event.Lose
-event_kind_of (Damage place mask) = scenario_event.Damage (record { place = place; mask = mask })
-event_kind_of GetSource = scenario_event.GetSource
-event_kind_of GetSink = scenario_event.GetSink
+event_kind_of kind = by_kind Attach Demand (λ written. Damage (damage_of written)) (λ plain. plain) kind
 
 -- what a line makes happen
 abbrev pub event_happening_of : EditHappening → ScenarioHappening
@@ -121,7 +121,7 @@ with_floor mw s = record s { floor_mw = mw }
 -- ---- the whole
 
 -- the scenario after an edit: what is new stands last
-abbrev pub outcome : Contents → Edit → Contents
+abbrev pub outcome : ScenarioData → Edit → ScenarioData
 outcome c (Insert id at happening) = record c { events = c.events ++ inserted_event id at happening ∷ [] }
 outcome c (Remove id) = record c { events = filter (λ (e : ScenarioEvent). not (e.id == id)) c.events }
 outcome c (Move id at) = record c { events = map (moved_event id at) c.events }

@@ -3,17 +3,16 @@
 use Rattle.std.specs.Prelude.{◌≡◌, ℕ, Bool, true, false, not, ◌||◌, ◌&&◌, ◌==◌, nat_le, nat_lt, List, [], ◌∷◌, length, find, Option, Some, None, Result, Ok, Err, IsOk, is_some, bytes_eq}
 use Rattle.std.specs.List.{list_any, list_all}
 use Rattle.pd_scenario.specs.declared.limits.Quantity.TheVariants as quantity
-use Rattle.pd_scenario.specs.declared.contents.ScenarioEvent.{ScenarioEvent}
-use Rattle.pd_scenario.specs.declared.contents.ScenarioEventKind.{ScenarioEventKind}
-use Rattle.pd_scenario.specs.declared.contents.ScenarioEventKind.TheVariants as scenario_event
-use Rattle.pd_scenario.specs.declared.contents.ScenarioHappening.{ScenarioHappening}
-use Rattle.pd_scenario.specs.declared.contents.ScenarioHappening.TheVariants as scenario_happening
-use Rattle.pd_scenario.specs.Contents.{Contents, has_id, is_funded}
+use Rattle.pd_scenario.specs.declared.event.ScenarioEvent.{ScenarioEvent}
+use Rattle.pd_scenario.specs.Events.{ScenarioEventKind}
+use Rattle.pd_setup.specs.declared.event.EventKind.TheVariants.{Attach, Demand, Damage}
+use Rattle.pd_scenario.specs.declared.event.ScenarioHappening.{ScenarioHappening}
+use Rattle.pd_scenario.specs.declared.event.ScenarioHappening.TheVariants as scenario_happening
+use Rattle.pd_scenario.specs.Scenarios.{ScenarioData, has_id, is_funded}
 use Rattle.pd_scenario.specs.Limits.{allows, is_port, most_names, most_events, most_supplies, first_mv}
 use Rattle.pd_edit_lines.specs.declared.fault.EditFault.{EditFault}
 use Rattle.pd_edit_lines.specs.declared.fault.EditFault.TheVariants.{Syntax, IdTaken, NoSuchId, NoSuchPort, NoSuchName, InUse, Range, Supplies, Floors, Limit, Memory}
-use Rattle.pd_edit_lines.specs.declared.edit.EditKind.{EditKind}
-use Rattle.pd_edit_lines.specs.declared.edit.EditKind.TheVariants.{Attach, Demand, Damage}
+use Rattle.pd_edit_lines.specs.Kinds.{EditKind}
 use Rattle.pd_edit_lines.specs.declared.edit.EditHappening.{EditHappening}
 use Rattle.pd_edit_lines.specs.declared.edit.EditHappening.TheVariants as happens
 use Rattle.pd_edit_lines.specs.declared.edit.WrittenSupply.{WrittenSupply}
@@ -24,13 +23,13 @@ use Rattle.pd_edit.specs.Edits.{has_cable, has_sink, outcome}
 
 -- ---- 21: no event has the id of a new one
 
-abbrev pub id_is_free : Contents → Edit → Bool
+abbrev pub id_is_free : ScenarioData → Edit → Bool
 id_is_free c (Insert id at happening) = not (has_id c.events id)
 id_is_free c _ = true
 
 -- ---- 22: some event has the id
 
-abbrev pub id_is_known : Contents → Edit → Bool
+abbrev pub id_is_known : ScenarioData → Edit → Bool
 id_is_known c (Remove id) = has_id c.events id
 id_is_known c (Move id at) = has_id c.events id
 id_is_known c (Change id kind) = has_id c.events id
@@ -46,7 +45,7 @@ abbrev pub is_on_port : ScenarioHappening → Bool
 is_on_port (scenario_happening.OnPort port kind) = true
 is_on_port (scenario_happening.Budget mw) = false
 
-abbrev pub port_is_known : ℕ → Contents → Edit → Bool
+abbrev pub port_is_known : ℕ → ScenarioData → Edit → Bool
 port_is_known n c (Insert id at happening) = happens_on_port n happening
 port_is_known n c (Change id kind) = list_all (λ (e : ScenarioEvent). not (e.id == id) || is_on_port e.happening) c.events
 port_is_known n c (Caps port supplies) = is_port n port
@@ -55,15 +54,15 @@ port_is_known n c _ = true
 
 -- ---- 24: a cable or a sink has the name
 
-abbrev pub kind_is_known : Contents → EditKind → Bool
+abbrev pub kind_is_known : ScenarioData → EditKind → Bool
 kind_is_known c (Attach cable sink) = has_cable c.cables cable && has_sink c.sinks sink
 kind_is_known c _ = true
 
-abbrev pub happening_is_known : Contents → EditHappening → Bool
+abbrev pub happening_is_known : ScenarioData → EditHappening → Bool
 happening_is_known c (happens.OnPort port kind) = kind_is_known c kind
 happening_is_known c (happens.Budget mw) = true
 
-abbrev pub name_is_known : Contents → Edit → Bool
+abbrev pub name_is_known : ScenarioData → Edit → Bool
 name_is_known c (Insert id at happening) = happening_is_known c happening
 name_is_known c (Change id kind) = kind_is_known c kind
 name_is_known c (DropCable name) = has_cable c.cables name
@@ -73,11 +72,11 @@ name_is_known c _ = true
 -- ---- 25: no event names what is dropped
 
 abbrev pub kind_names_cable : List ℕ → ScenarioEventKind → Bool
-kind_names_cable name (scenario_event.Attach cable sink) = bytes_eq cable name
+kind_names_cable name (Attach cable sink) = bytes_eq cable name
 kind_names_cable name _ = false
 
 abbrev pub kind_names_sink : List ℕ → ScenarioEventKind → Bool
-kind_names_sink name (scenario_event.Attach cable sink) = bytes_eq sink name
+kind_names_sink name (Attach cable sink) = bytes_eq sink name
 kind_names_sink name _ = false
 
 abbrev pub names_cable : List ℕ → ScenarioHappening → Bool
@@ -88,7 +87,7 @@ abbrev pub names_sink : List ℕ → ScenarioHappening → Bool
 names_sink name (scenario_happening.OnPort port kind) = kind_names_sink name kind
 names_sink name (scenario_happening.Budget mw) = false
 
-abbrev pub is_unused : Contents → Edit → Bool
+abbrev pub is_unused : ScenarioData → Edit → Bool
 is_unused c (DropCable name) = not (list_any (λ (e : ScenarioEvent). names_cable name e.happening) c.events)
 is_unused c (DropSink name) = not (list_any (λ (e : ScenarioEvent). names_sink name e.happening) c.events)
 is_unused c _ = true
@@ -97,7 +96,7 @@ is_unused c _ = true
 
 abbrev pub kind_in_range : EditKind → Bool
 kind_in_range (Demand mw) = allows quantity.Demand mw
-kind_in_range (Damage place mask) = allows quantity.DamagePlace place && allows quantity.DamageMask mask
+kind_in_range (Damage harm) = allows quantity.DamagePlace harm.place && allows quantity.DamageMask harm.mask
 kind_in_range _ = true
 
 abbrev pub happening_in_range : EditHappening → Bool
@@ -142,7 +141,7 @@ supplies_rise _ = true
 
 -- ---- 28: the floors then add to no more than the least of the budget and its changes
 
-abbrev pub stays_funded : Contents → Edit → Bool
+abbrev pub stays_funded : ScenarioData → Edit → Bool
 stays_funded c (Insert id at (happens.Budget mw)) = is_funded (outcome c (Insert id at (happens.Budget mw)))
 stays_funded c (Floor port mw) = is_funded (outcome c (Floor port mw))
 stays_funded c (Budget mw) = is_funded (outcome c (Budget mw))
@@ -150,7 +149,7 @@ stays_funded c _ = true
 
 -- ---- 29: there may be one more
 
-abbrev pub has_room : Contents → Edit → Bool
+abbrev pub has_room : ScenarioData → Edit → Bool
 has_room c (Insert id at happening) = nat_lt (length c.events) most_events
 has_room c (Cable name plug rating) = has_cable c.cables name || nat_lt (length c.cables) most_names
 has_room c (Sink name max_mv demand_mw mode revision) = has_sink c.sinks name || nat_lt (length c.sinks) most_names
@@ -159,7 +158,7 @@ has_room c _ = true
 -- ---- all
 
 -- an edit of a scenario of n ports is refused for this
-abbrev pub refuses : EditFault → ℕ → Contents → Edit → Bool
+abbrev pub refuses : EditFault → ℕ → ScenarioData → Edit → Bool
 refuses Syntax n c edit = false
 refuses IdTaken n c edit = not (id_is_free c edit)
 refuses NoSuchId n c edit = not (id_is_known c edit)
@@ -177,20 +176,20 @@ abbrev pub refusals : List EditFault
 refusals = IdTaken ∷ NoSuchId ∷ NoSuchPort ∷ NoSuchName ∷ InUse ∷ Range ∷ Supplies ∷ Floors ∷ Limit ∷ []
 
 -- the first refusal that applies, or the edited scenario
-abbrev pub answered : Option EditFault → Contents → Result Contents EditFault
+abbrev pub answered : Option EditFault → ScenarioData → Result ScenarioData EditFault
 answered None c = Ok c
 answered (Some fault) c = Err fault
 
-unfoldable pub edited : ℕ → Contents → Edit → Result Contents EditFault
+unfoldable pub edited : ℕ → ScenarioData → Edit → Result ScenarioData EditFault
 edited n c edit = answered (find (λ fault. refuses fault n c edit) refusals) (outcome c edit)
 
 -- What an edit answers: that, and want of memory only where none of the refusals applies.
-abbrev pub Applies : Result Contents EditFault → Result Contents EditFault → Type 0
+abbrev pub Applies : Result ScenarioData EditFault → Result ScenarioData EditFault → Type 0
 Applies (Err Memory) expected = IsOk expected
 Applies answer expected = expected ≡ answer
 
 -- none of the refusals applies
-pub record IsAccepted (n : ℕ) (c : Contents) (edit : Edit) : Type 0 where
+pub record IsAccepted (n : ℕ) (c : ScenarioData) (edit : Edit) : Type 0 where
   pub id_free : id_is_free c edit ≡ true
   pub id_known : id_is_known c edit ≡ true
   pub port_known : port_is_known n c edit ≡ true

@@ -1,7 +1,7 @@
 //! Edits of a scenario.
 
 ghost use Rattle.std.specs.Prelude.{◌≡◌, IfOk};
-ghost use Rattle.pd_scenario.specs.Contents.{Contents, IsValid};
+ghost use Rattle.pd_scenario.specs.Scenarios.{ScenarioData, IsValid};
 ghost use Rattle.pd_edit_lines.specs.declared.edit.Edit.TheVariants as edits;
 ghost use Rattle.pd_edit.specs.Edits.{outcome, with_cable, with_sink, written_cable, written_sink};
 ghost use Rattle.pd_edit.specs.Refusals.{Applies, IsAccepted, edited};

@@ -6,36 +6,36 @@ ghost use Rattle.pd_setup.specs.Sinks.{IsSink};
 ghost use Rattle.pd_scenario.specs.Limits.{allows};
 ghost use Rattle.pd_scenario.specs.declared.limits.Quantity.TheVariants as quantity;
 ghost use Rattle.pd_scenario.specs.Words.{rating_of};
-ghost use Rattle.pd_edit.specs.Edits.{event_kind_of, event_happening_of, inserted_event, changed_event, written_cable, written_sink, with_floor, supply_of, AreSupplies};
+ghost use Rattle.pd_edit.specs.Edits.{damage_of, event_kind_of, event_happening_of, inserted_event, changed_event, written_cable, written_sink, with_floor, supply_of, AreSupplies};
 ghost use Rattle.pd_edit.specs.Refusals.{kind_in_range, happening_in_range, happens_on_port, supply_in_range};
 
 use arrayvec::ArrayVec;
-use pd_edit_lines::{EditHappening, EditKind, WrittenSupply};
+use pd_edit_lines::{EditHappening, EditKind, WrittenDamage, WrittenSupply};
 use pd_identity::{Cable, CablePlug};
 use pd_objects::Supply;
 use pd_packet::Damage;
 use pd_scenario::{
     Name, NamedCable, NamedSink, ScenarioEvent, ScenarioEventKind, ScenarioHappening, rating_of,
 };
-use pd_setup::{Demand, Settings, SinkMode, SinkRevision, SinkSettings};
+use pd_setup::{Demand, EventKind, Settings, SinkMode, SinkRevision, SinkSettings, by_kind};
+
+fn damage_of(written: WrittenDamage) -> Damage
+    requires { kind_in_range (EventKind.Damage written) ≡ true }
+    ensures { result ≡ damage_of written }
+{
+    Damage::new(written.place as u8, written.mask as u8)
+}
 
 fn event_kind_of(kind: &EditKind) -> ScenarioEventKind
     requires { kind_in_range kind.now ≡ true }
     ensures { result ≡ event_kind_of kind.now }
 {
-    match kind {
-        EditKind::Attach { cable, sink } => ScenarioEventKind::Attach {
-            cable: cable.copy(),
-            sink: sink.copy(),
-        },
-        EditKind::Detach => ScenarioEventKind::Detach,
-        EditKind::Demand { mw } => ScenarioEventKind::Demand(Demand::new(*mw as u32)),
-        EditKind::Lose => ScenarioEventKind::Lose,
-        EditKind::Damage { place, mask } => {
-            ScenarioEventKind::Damage(Damage::new(*place as u8, *mask as u8))
-        }
-        EditKind::GetSource => ScenarioEventKind::GetSource,
-        EditKind::GetSink => ScenarioEventKind::GetSink,
+    by_kind! {
+        kind;
+        Attach { cable, sink } => EventKind::Attach { cable: cable.copy(), sink: sink.copy() },
+        Demand(mw) => EventKind::Demand(Demand::new(*mw as u32)),
+        Damage(written) => EventKind::Damage(damage_of(*written)),
+        plain => plain,
     }
 }
 

@@ -2,17 +2,17 @@
 
 ghost use Rattle.std.specs.Prelude.{◌≡◌, ◌+◌, ◌<◌, ◌^◌, ◌==◌, not, ◌||◌, nat_le, length, find};
 ghost use Rattle.std.specs.List.{list_all, list_any};
-ghost use Rattle.pd_scenario.specs.Contents.{floors_mw};
+ghost use Rattle.pd_scenario.specs.Scenarios.{floors_mw};
 ghost use Rattle.pd_scenario.specs.Limits.{is_port};
 ghost use Rattle.pd_edit.specs.Edits.{changed_from, with_floor, has_cable, has_sink};
 ghost use Rattle.pd_edit.specs.Refusals.{id_is_free, id_is_known, happens_on_port, is_on_port, port_is_known, kind_is_known, happening_is_known, name_is_known, names_cable, names_sink, is_unused, kind_in_range, happening_in_range, supply_in_range, in_range, begin_at, follows, voltages_rise, are_supplies, supplies_rise, stays_funded, has_room, refuses, refusals};
 
 use pd_edit_lines::{Edit, EditFault, EditHappening, EditKind, WrittenSupply};
 use pd_scenario::{
-    FIRST_MV, MOST_EVENTS, MOST_NAMES, Name, Quantity, Scenario, ScenarioEvent, ScenarioEventKind,
-    ScenarioHappening, are_funded, least_budget, rating_of,
+    FIRST_MV, MOST_EVENTS, MOST_NAMES, Name, Quantity, Scenario, ScenarioEvent, ScenarioHappening,
+    are_funded, least_budget, rating_of,
 };
-use pd_setup::Settings;
+use pd_setup::{EventKind, Settings};
 
 /// What an edit may be refused for, the least number first.
 const REFUSALS: [EditFault; 9] = [
@@ -97,7 +97,7 @@ fn kind_is_known<const N: usize>(scenario: &Scenario<N>, kind: &EditKind) -> boo
     ensures { result ≡ kind_is_known scenario.now kind.now }
 {
     match kind {
-        EditKind::Attach { cable, sink } => {
+        EventKind::Attach { cable, sink } => {
             scenario.cable(cable).is_some() && scenario.sink(sink).is_some()
         }
         _ => true,
@@ -131,7 +131,7 @@ fn names_cable(name: &Name, happening: &ScenarioHappening) -> bool
 {
     match happening {
         ScenarioHappening::OnPort {
-            kind: ScenarioEventKind::Attach { cable, .. },
+            kind: EventKind::Attach { cable, .. },
             ..
         } => cable.as_str() == name.as_str(),
         _ => false,
@@ -143,7 +143,7 @@ fn names_sink(name: &Name, happening: &ScenarioHappening) -> bool
 {
     match happening {
         ScenarioHappening::OnPort {
-            kind: ScenarioEventKind::Attach { sink, .. },
+            kind: EventKind::Attach { sink, .. },
             ..
         } => sink.as_str() == name.as_str(),
         _ => false,
@@ -181,9 +181,9 @@ fn kind_in_range(kind: &EditKind) -> bool
     ensures { result ≡ kind_in_range kind.now }
 {
     match kind {
-        EditKind::Demand { mw } => Quantity::Demand.allows(*mw),
-        EditKind::Damage { place, mask } => {
-            Quantity::DamagePlace.allows(*place) && Quantity::DamageMask.allows(*mask)
+        EventKind::Demand(mw) => Quantity::Demand.allows(*mw),
+        EventKind::Damage(harm) => {
+            Quantity::DamagePlace.allows(harm.place) && Quantity::DamageMask.allows(harm.mask)
         }
         _ => true,
     }

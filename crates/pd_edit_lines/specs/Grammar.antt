@@ -9,21 +9,20 @@
 use Rattle.std.specs.Prelude.{ℕ, Bool, false, ◌&&◌, ◌==◌, ◌||◌, nat_lt, nat_le, List, [], ◌∷◌, ◌++◌, length, codes, Option, Some, None, option_map, ok_or, Result, Ok, Err, bytes_eq, if◌then◌else◌}
 use Rattle.std.specs.List.{list_all}
 use Rattle.arrayvec.specs.ArrayVec.{ArrayVec}
+use Rattle.pd_setup.specs.Events.{KindWord, by_kind}
+use Rattle.pd_setup.specs.declared.event.EventKind.TheVariants.{Attach, Demand, Damage}
 use Rattle.pd_setup.specs.declared.sink.SinkRevision.{SinkRevision}
 use Rattle.pd_setup.specs.declared.sink.SinkRevision.TheVariants.{Revision3}
-use Rattle.pd_scenario.specs.Words.{plug_of, mode_of}
-use Rattle.pd_edit_lines.specs.Keywords.{command_word, kind_word, show_word, revision_word}
+use Rattle.pd_scenario.specs.Words.{kind_of, plug_of, mode_of}
+use Rattle.pd_edit_lines.specs.Keywords.{command_word, show_word, revision_word}
 use Rattle.pd_edit_lines.specs.Words.{words, number, name, ◌>>=◌}
 use Rattle.pd_edit_lines.specs.declared.fault.EditFault.{EditFault}
 use Rattle.pd_edit_lines.specs.declared.fault.EditFault.TheVariants.{Syntax}
 use Rattle.pd_edit_lines.specs.declared.keywords.Command.{Command}
 use Rattle.pd_edit_lines.specs.declared.keywords.Command.TheVariants as command
-use Rattle.pd_edit_lines.specs.declared.keywords.KindWord.{KindWord}
-use Rattle.pd_edit_lines.specs.declared.keywords.KindWord.TheVariants as kind
 use Rattle.pd_edit_lines.specs.declared.keywords.ShowWord.{ShowWord}
 use Rattle.pd_edit_lines.specs.declared.keywords.ShowWord.TheVariants as shown
-use Rattle.pd_edit_lines.specs.declared.edit.EditKind.{EditKind}
-use Rattle.pd_edit_lines.specs.declared.edit.EditKind.TheVariants.{Attach, Detach, Demand, Lose, Damage, GetSource, GetSink}
+use Rattle.pd_edit_lines.specs.Kinds.{EditKind}
 use Rattle.pd_edit_lines.specs.declared.edit.EditHappening.{EditHappening}
 use Rattle.pd_edit_lines.specs.declared.edit.EditHappening.TheVariants as happens
 use Rattle.pd_edit_lines.specs.declared.edit.WrittenSupply.{WrittenSupply}
@@ -63,28 +62,26 @@ attach_of (cable ∷ sink ∷ []) = do
   Some (Attach c s)
 attach_of _ = None
 
+-- PLACE MASK
+abbrev pub damage_of : Words → Option EditKind
+damage_of ws = two_numbers (λ place mask. Damage (record { place = place; mask = mask })) ws
+
 -- what stands after the word of a kind
 abbrev pub kind_from : KindWord → Words → Option EditKind
-kind_from kind.Attach ws = attach_of ws
-kind_from kind.Detach ws = alone Detach ws
-kind_from kind.Demand ws = one_number Demand ws
-kind_from kind.Lose ws = alone Lose ws
-kind_from kind.Damage ws = two_numbers Damage ws
-kind_from kind.GetSource ws = alone GetSource ws
-kind_from kind.GetSink ws = alone GetSink ws
+kind_from word ws = by_kind (λ cable sink. attach_of ws) (λ power. one_number Demand ws) (λ harm. damage_of ws) (λ plain. alone plain ws) word
 
 -- KIND
-abbrev pub kind_of : Words → Option EditKind
-kind_of (word ∷ ws) = do
-  k ← kind_word word
+abbrev pub kind_at : Words → Option EditKind
+kind_at (word ∷ ws) = do
+  k ← kind_of word
   kind_from k ws
-kind_of [] = None
+kind_at [] = None
 
 -- PORT KIND
 abbrev pub on_port_of : List ℕ → Words → Option EditHappening
 on_port_of port ws = do
   p ← number port
-  k ← kind_of ws
+  k ← kind_at ws
   Some (happens.OnPort p k)
 
 -- PORT KIND, or budget MW
@@ -105,7 +102,7 @@ insert_of _ = None
 abbrev pub change_of : Words → Option Edit
 change_of (id ∷ ws) = do
   i ← number id
-  k ← kind_of ws
+  k ← kind_at ws
   Some (edits.Change i k)
 change_of [] = None
 

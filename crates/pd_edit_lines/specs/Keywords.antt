@@ -1,12 +1,9 @@
--- The words that a command, a kind of event, what is shown and a revision are written by:
--- docs/FORMATS.md, "Edit script".
+-- The words that a command, what is shown and a revision are written by: docs/FORMATS.md, "Edit script".
 use Rattle.std.specs.Prelude.{ℕ, List, codes, Option, Some, None, bytes_eq, if◌then◌else◌}
 use Rattle.pd_setup.specs.declared.sink.SinkRevision.{SinkRevision}
 use Rattle.pd_setup.specs.declared.sink.SinkRevision.TheVariants.{Revision2, Revision3}
 use Rattle.pd_edit_lines.specs.declared.keywords.Command.{Command}
 use Rattle.pd_edit_lines.specs.declared.keywords.Command.TheVariants as command
-use Rattle.pd_edit_lines.specs.declared.keywords.KindWord.{KindWord}
-use Rattle.pd_edit_lines.specs.declared.keywords.KindWord.TheVariants as kind
 use Rattle.pd_edit_lines.specs.declared.keywords.ShowWord.{ShowWord}
 use Rattle.pd_edit_lines.specs.declared.keywords.ShowWord.TheVariants as shown
 
@@ -24,18 +21,6 @@ command_word word =
     else if bytes_eq word (codes "budget") then Some command.Budget
     else if bytes_eq word (codes "end") then Some command.End
     else if bytes_eq word (codes "show") then Some command.Show
-    else None
-
--- the word that a kind of event begins with
-abbrev pub kind_word : List ℕ → Option KindWord
-kind_word word =
-    if bytes_eq word (codes "attach") then Some kind.Attach
-    else if bytes_eq word (codes "detach") then Some kind.Detach
-    else if bytes_eq word (codes "demand") then Some kind.Demand
-    else if bytes_eq word (codes "lose") then Some kind.Lose
-    else if bytes_eq word (codes "damage") then Some kind.Damage
-    else if bytes_eq word (codes "get_source") then Some kind.GetSource
-    else if bytes_eq word (codes "get_sink") then Some kind.GetSink
     else None
 
 -- the word that what is to be shown begins with

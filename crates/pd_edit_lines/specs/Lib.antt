@@ -1,4 +1,5 @@
 pub mod Grammar
 pub mod Keywords
+pub mod Kinds
 pub mod Numbers
 pub mod Words

@@ -3,26 +3,18 @@
 use arrayvec::ArrayVec;
 use pd_identity::CablePlug;
 use pd_scenario::Name;
-use pd_setup::{SinkMode, SinkRevision};
+use pd_setup::{EventKind, SinkMode, SinkRevision};
 
-/// What an event is to do to its port.
-#[derive(Drop)]
-pub enum EditKind {
-    /// The sink of a name is attached through the cable of a name.
-    Attach { cable: Name, sink: Name },
-    /// The cable is pulled out.
-    Detach,
-    /// The sink wants another power from now on, in mW.
-    Demand { mw: u64 },
-    /// The next packet that starts is lost.
-    Lose,
-    /// The next packet that starts is damaged.
-    Damage { place: u64, mask: u64 },
-    /// The sink is to ask for the source's capabilities.
-    GetSource,
-    /// The source is to ask for the sink's capabilities.
-    GetSink,
+/// Damage as it was written: the place that is hit, and the bits that are turned.
+#[derive(Clone, Copy, Debug, Default, PartialEq, Eq)]
+pub struct WrittenDamage {
+    pub place: u64,
+    pub mask: u64,
 }
+
+/// A kind of event as it was written, with the names of a cable and a sink, and a demand in mW. Its numbers may be out of
+/// the ranges that a scenario keeps.
+pub type EditKind = EventKind<Name, Name, u64, WrittenDamage>;
 
 /// What an event that is inserted is: something to one port, numbered from 1, or a change of the budget in mW.
 #[derive(Drop)]

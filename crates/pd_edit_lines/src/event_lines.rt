@@ -2,14 +2,14 @@
 
 ghost use Rattle.std.specs.Prelude.{◌≡◌};
 ghost use Rattle.pd_edit_lines.specs.Words.{words};
-ghost use Rattle.pd_edit_lines.specs.Grammar.{attach_of, kind_from, kind_of, on_port_of, happening_of, insert_of, change_of, one_number, two_numbers};
-ghost use Rattle.pd_edit_lines.specs.declared.edit.EditKind.TheVariants as kinds;
+ghost use Rattle.pd_edit_lines.specs.Grammar.{attach_of, damage_of, kind_from, kind_at, on_port_of, happening_of, insert_of, change_of, one_number, two_numbers};
 ghost use Rattle.pd_edit_lines.specs.declared.edit.EditHappening.TheVariants as happenings;
 ghost use Rattle.pd_edit_lines.specs.declared.edit.Edit.TheVariants as edits;
 
-use crate::keywords::{KindWord, kind_word};
 use crate::words::{end_of, name_at, next, number, number_at};
-use crate::{Edit, EditHappening, EditKind};
+use crate::{Edit, EditHappening, EditKind, WrittenDamage};
+use pd_scenario::kind_of;
+use pd_setup::{EventKind, KindWord, by_kind};
 
 fn attach_of(line: &[u8]) -> Option<EditKind>
     ensures { result ≡ attach_of (words line.now) }
@@ -17,52 +17,51 @@ fn attach_of(line: &[u8]) -> Option<EditKind>
     let (cable, line) = name_at(line)?;
     let (sink, line) = name_at(line)?;
     end_of(line)?;
-    Some(EditKind::Attach { cable, sink })
+    Some(EventKind::Attach { cable, sink })
 }
 
 fn demand_of(line: &[u8]) -> Option<EditKind>
-    ensures { result ≡ one_number kinds.Demand (words line.now) }
+    ensures { result ≡ one_number EventKind.Demand (words line.now) }
 {
     let (mw, line) = number_at(line)?;
     end_of(line)?;
-    Some(EditKind::Demand { mw })
+    Some(EventKind::Demand(mw))
 }
 
 fn damage_of(line: &[u8]) -> Option<EditKind>
-    ensures { result ≡ two_numbers kinds.Damage (words line.now) }
+    ensures { result ≡ damage_of (words line.now) }
 {
     let (place, line) = number_at(line)?;
     let (mask, line) = number_at(line)?;
     end_of(line)?;
-    Some(EditKind::Damage { place, mask })
+    Some(EventKind::Damage(WrittenDamage { place, mask }))
 }
 
+/// The kind of a word, by what stands after the word.
 fn kind_from(word: KindWord, line: &[u8]) -> Option<EditKind>
     ensures { result ≡ kind_from word (words line.now) }
 {
-    match word {
-        KindWord::Attach => attach_of(line),
-        KindWord::Detach => end_of(line).map(|_| EditKind::Detach),
-        KindWord::Demand => demand_of(line),
-        KindWord::Lose => end_of(line).map(|_| EditKind::Lose),
-        KindWord::Damage => damage_of(line),
-        KindWord::GetSource => end_of(line).map(|_| EditKind::GetSource),
-        KindWord::GetSink => end_of(line).map(|_| EditKind::GetSink),
+    by_kind! {
+        word;
+        Attach { (), () } => attach_of(line),
+        Demand(()) => demand_of(line),
+        Damage(()) => damage_of(line),
+        plain => end_of(line).map(|_| plain),
     }
 }
 
-fn kind_of(line: &[u8]) -> Option<EditKind>
-    ensures { result ≡ kind_of (words line.now) }
+fn kind_at(line: &[u8]) -> Option<EditKind>
+    ensures { result ≡ kind_at (words line.now) }
 {
     let (word, line) = next(line)?;
-    kind_from(kind_word(word)?, line)
+    kind_from(kind_of(word)?, line)
 }
 
 fn on_port_of(port: &[u8], line: &[u8]) -> Option<EditHappening>
     ensures { result ≡ on_port_of port.now (words line.now) }
 {
     let port = number(port)?;
-    let kind = kind_of(line)?;
+    let kind = kind_at(line)?;
     Some(EditHappening::OnPort { port, kind })
 }
 
@@ -114,6 +113,6 @@ pub(crate) fn change_of(line: &[u8]) -> Option<Edit>
     ensures { result ≡ change_of (words line.now) }
 {
     let (id, line) = number_at(line)?;
-    let kind = kind_of(line)?;
+    let kind = kind_at(line)?;
     Some(Edit::Change { id, kind })
 }

@@ -1,7 +1,7 @@
-//! The words that a command, a kind of event, what is shown and a revision are written by.
+//! The words that a command, what is shown and a revision are written by.
 
 ghost use Rattle.std.specs.Prelude.{◌≡◌};
-ghost use Rattle.pd_edit_lines.specs.Keywords.{command_word, kind_word, show_word, revision_word};
+ghost use Rattle.pd_edit_lines.specs.Keywords.{command_word, show_word, revision_word};
 
 use pd_setup::SinkRevision;
 
@@ -19,18 +19,6 @@ pub(crate) enum Command {
     Budget,
     End,
     Show,
-}
-
-/// The word that a kind of event begins with.
-#[derive(Clone, Copy)]
-pub(crate) enum KindWord {
-    Attach,
-    Detach,
-    Demand,
-    Lose,
-    Damage,
-    GetSource,
-    GetSink,
 }
 
 /// The word that what is to be shown begins with.
@@ -77,33 +65,6 @@ pub(crate) fn command_word(word: &[u8]) -> Option<Command>
     }
     if word == b"show".as_slice() {
         return Some(Command::Show);
-    }
-    None
-}
-
-pub(crate) fn kind_word(word: &[u8]) -> Option<KindWord>
-    ensures { result ≡ kind_word word.now }
-{
-    if word == b"attach".as_slice() {
-        return Some(KindWord::Attach);
-    }
-    if word == b"detach".as_slice() {
-        return Some(KindWord::Detach);
-    }
-    if word == b"demand".as_slice() {
-        return Some(KindWord::Demand);
-    }
-    if word == b"lose".as_slice() {
-        return Some(KindWord::Lose);
-    }
-    if word == b"damage".as_slice() {
-        return Some(KindWord::Damage);
-    }
-    if word == b"get_source".as_slice() {
-        return Some(KindWord::GetSource);
-    }
-    if word == b"get_sink".as_slice() {
-        return Some(KindWord::GetSink);
     }
     None
 }

@@ -9,6 +9,6 @@ mod line;
 mod setting_lines;
 mod words;
 
-pub use edit::{Edit, EditHappening, EditKind, WrittenSupply};
+pub use edit::{Edit, EditHappening, EditKind, WrittenDamage, WrittenSupply};
 pub use fault::EditFault;
 pub use line::{Line, Show};

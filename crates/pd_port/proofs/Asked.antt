@@ -16,7 +16,7 @@ use Rattle.pd_source.specs.declared.kinds.Stimulus.TheVariants as told
 use Rattle.pd_setup.specs.Sinks.{SinkData}
 use Rattle.pd_sink.specs.Step as sink
 use Rattle.pd_sink.specs.declared.kinds.Stimulus.TheVariants as sink_told
-use Rattle.pd_setup.specs.declared.event.EventKind.{EventKind}
+use Rattle.pd_setup.specs.Events.{PortEventKind}
 use Rattle.pd_setup.specs.declared.event.EventKind.TheVariants.{Attach, Detach, Demand, Lose, Damage, GetSource, GetSink}
 use Rattle.pd_setup.specs.declared.event.Happening.{Happening}
 use Rattle.pd_setup.specs.declared.event.Happening.TheVariants.{Port, Budget}
@@ -93,7 +93,7 @@ gets_sink_tells id t w = either (source.is_ready w.port.source.record) where
   either false = spares_tell t w _ _ (noted_kept t (sparing t) (Ignored id) w)
 
 -- an event while nothing is attached
-detached_tells : (id : ℕ) (k : EventKind) (t : ℕ) (w : PortStep) →
+detached_tells : (id : ℕ) (k : PortEventKind) (t : ℕ) (w : PortStep) →
     Tells t (told_detached k) w (happens_detached id k t w) (happens_detached id k t (unanswered w))
 detached_tells id (Attach cable device) t w = attach_tells cable device t w
 detached_tells id k t w = spares_tell t w _ _ (noted_kept t (sparing t) (Ignored id) w)
@@ -133,7 +133,7 @@ by_cable true s r t given x y f g h k = h
 by_cable false s r t given x y f g h k = k
 
 -- an event that doesn't pull the cable out
-told_event : (s : SettingsData) (r : PortRecord) (id : ℕ) (k : EventKind) (t : ℕ) (given : Option Answer) →
+told_event : (s : SettingsData) (r : PortRecord) (id : ℕ) (k : PortEventKind) (t : ℕ) (given : Option Answer) →
     TellsFirst s r (told_attached k (whole s r)) t given (happens_attached id k t) →
     TellsFirst s r (if is_some r.cable then told_attached k (whole s r) else told_detached k) t given
     (λ z. if is_some r.cable then happens_attached id k t z else happens_detached id k t z)
@@ -152,7 +152,7 @@ unfolding detaches noted nothing_attached
 pulled_out true s r id t given = record { becomes = refl; blind = λ q. refl }
 pulled_out false s r id t given = record { becomes = refl; blind = λ q. refl }
 
-kind_happens : (s : SettingsData) (r : PortRecord) (at id t : ℕ) (given : Option Answer) (k : EventKind) →
+kind_happens : (s : SettingsData) (r : PortRecord) (at id t : ℕ) (given : Option Answer) (k : PortEventKind) →
     Happens s r (what.Event (record { at = at; happening = Port id k })) t given
 unfolding ask
 kind_happens s r at id t given (Attach cable device) =

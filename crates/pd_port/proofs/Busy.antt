@@ -7,7 +7,7 @@ use Rattle.pd_source.specs.Step as source
 use Rattle.pd_source.specs.declared.kinds.Stimulus.TheVariants as source_told
 use Rattle.pd_sink.specs.Step as sink
 use Rattle.pd_sink.specs.declared.kinds.Stimulus.TheVariants as sink_told
-use Rattle.pd_setup.specs.declared.event.EventKind.{EventKind}
+use Rattle.pd_setup.specs.Events.{PortEventKind}
 use Rattle.pd_setup.specs.declared.event.EventKind.TheVariants.{Attach, Detach, Demand, Lose, Damage, GetSource, GetSink}
 use Rattle.pd_setup.specs.declared.event.Happening.{Happening}
 use Rattle.pd_setup.specs.declared.event.Happening.TheVariants.{Port, Budget}
@@ -56,7 +56,7 @@ gets_sink_line id t w =
     choice t (leaves_line t) (source.is_ready w.port.source.record) (source_steps t source_told.GetSink) (noted (Ignored id)) w
     (source_steps_line t source_told.GetSink w) (noted_kept t (leaves_line t) (Ignored id) w)
 
-attached_line : (id : ℕ) (k : EventKind) (t : ℕ) (w : PortStep) → pulls_out k ≡ false → LeavesLine w (happens_attached id k t w)
+attached_line : (id : ℕ) (k : PortEventKind) (t : ℕ) (w : PortStep) → pulls_out k ≡ false → LeavesLine w (happens_attached id k t w)
 attached_line id (Attach cable device) t w n = noted_kept t (leaves_line t) (Ignored id) w
 attached_line id Detach t w n = absurd (cc)
 attached_line id (Demand mw) t w n = sink_steps_kept t (leaves_line t) (sink_told.Demand mw) w refl
@@ -65,7 +65,7 @@ attached_line id (Damage d) t w n = disturbs_line id (Damaged d) t w
 attached_line id GetSource t w n = gets_source_line id t w
 attached_line id GetSink t w n = gets_sink_line id t w
 
-detached_line : (id : ℕ) (k : EventKind) (t : ℕ) (w : PortStep) → LeavesLine w (happens_detached id k t w)
+detached_line : (id : ℕ) (k : PortEventKind) (t : ℕ) (w : PortStep) → LeavesLine w (happens_detached id k t w)
 detached_line id (Attach cable device) t w = tells_attach_kept t (leaves_line t) tt cable device w
 detached_line id k t w = noted_kept t (leaves_line t) (Ignored id) w
 
@@ -113,7 +113,7 @@ unfolding detaches noted
 detaches_start true id w = refl
 detaches_start false id w = refl
 
-kind_start : (id : ℕ) (k : EventKind) (t : ℕ) (w : PortStep) → (port_event_happens id k t w).start ≡ w.start
+kind_start : (id : ℕ) (k : PortEventKind) (t : ℕ) (w : PortStep) → (port_event_happens id k t w).start ≡ w.start
 kind_start id Detach t w = detaches_start (is_some w.port.cable) id w
 kind_start id k t w = (event_line (Port id k) t w refl).start
 
@@ -145,7 +145,7 @@ unfolding line_starts detaches detached nothing_attached
 pulled_out true s r id t given e = refl
 pulled_out false s r id t given e = absurd (cc)
 
-kind_new : (s : SettingsData) (r : PortRecord) (id : ℕ) (k : EventKind) (t : ℕ) (given : Option Answer) →
+kind_new : (s : SettingsData) (r : PortRecord) (id : ℕ) (k : PortEventKind) (t : ℕ) (given : Option Answer) →
     pulls_out k ≡ true → is_some r.cable ≡ true →
     without_settings (line_starts t (port_event_happens id k t (begun (whole s r) given))).port ≡ detached s
 kind_new s r id Detach t given p e = pulled_out (is_some r.cable) s r id t given e

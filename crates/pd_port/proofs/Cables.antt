@@ -35,7 +35,7 @@ use Rattle.pd_source.specs.Laws.{is_attach}
 use Rattle.pd_source.proofs.Attached.{off-stepped}
 use Rattle.pd_sink.specs.Step as sink
 use Rattle.pd_sink.specs.declared.kinds.Stimulus.TheVariants as sink_told
-use Rattle.pd_setup.specs.declared.event.EventKind.{EventKind}
+use Rattle.pd_setup.specs.Events.{PortEventKind}
 use Rattle.pd_setup.specs.declared.event.EventKind.TheVariants.{Attach, Detach, Demand, Lose, Damage, GetSource, GetSink}
 use Rattle.pd_setup.specs.declared.event.Happening.{Happening}
 use Rattle.pd_setup.specs.declared.event.Happening.TheVariants.{Port, Budget}
@@ -69,7 +69,7 @@ use Rattle.pd_port.specs.Sound.{IsSoundPort}
 use Rattle.pd_port.proofs.Asked.{record_after-source}
 
 -- the cable that is attached after something has happened
-abbrev pub cable_with : EventKind → Option Cable → Option Cable
+abbrev pub cable_with : PortEventKind → Option Cable → Option Cable
 cable_with Detach cable = None
 cable_with (Attach cable device) None = Some cable
 cable_with kind cable = cable
@@ -106,7 +106,7 @@ gets_sink_on cable id t w h =
     either_on cable t (source.is_ready w.port.source.record) (source_steps t told.GetSink w) (noted (Ignored id) w)
     (source_steps_on cable t told.GetSink w h) (noted_on cable t (Ignored id) w h)
 
-attached_on : (c : Cable) (id : ℕ) (k : EventKind) (t : ℕ) (w : PortStep) → On (Some c) w →
+attached_on : (c : Cable) (id : ℕ) (k : PortEventKind) (t : ℕ) (w : PortStep) → On (Some c) w →
     On (cable_with k (Some c)) (happens_attached id k t w)
 attached_on c id (Attach cable device) t w h = noted_on (Some c) t (Ignored id) w h
 attached_on c id Detach t w h = detaches_on w
@@ -116,11 +116,11 @@ attached_on c id (Damage d) t w h = disturbs_on (Some c) id (Damaged d) t w h
 attached_on c id GetSource t w h = gets_source_on (Some c) id t w h
 attached_on c id GetSink t w h = gets_sink_on (Some c) id t w h
 
-detached_on : (id : ℕ) (k : EventKind) (t : ℕ) (w : PortStep) → On None w → On (cable_with k None) (happens_detached id k t w)
+detached_on : (id : ℕ) (k : PortEventKind) (t : ℕ) (w : PortStep) → On None w → On (cable_with k None) (happens_detached id k t w)
 detached_on id (Attach cable device) t w h = tells_attach_on cable device t w h
 detached_on id k t w h = noted_on None t (Ignored id) w h
 
-kind_on : (b : Bool) (cable : Option Cable) (id : ℕ) (k : EventKind) (t : ℕ) (w : PortStep) → is_some cable ≡ b → On cable w →
+kind_on : (b : Bool) (cable : Option Cable) (id : ℕ) (k : PortEventKind) (t : ℕ) (w : PortStep) → is_some cable ≡ b → On cable w →
     On (cable_with k cable) (if b then happens_attached id k t w else happens_detached id k t w)
 kind_on true (Some c) id k t w e h = attached_on c id k t w h
 kind_on true None id k t w e h = absurd (cc)
@@ -242,17 +242,17 @@ line_fits cable (NoAnswer side p end) r h = time_out_fits cable side p r
 line_fits cable (HardReset side end) r h = reset_fits cable side r
 line_fits cable line r h = tt
 
-attached_fits : (cable : Option Cable) (k : EventKind) (r : PortParts) → MayTellSome cable (told_attached k r)
+attached_fits : (cable : Option Cable) (k : PortEventKind) (r : PortParts) → MayTellSome cable (told_attached k r)
 unfolding MayTellSome MayTell
 attached_fits cable GetSink r = if_fits cable (source.is_ready r.source.record) told.GetSink tt
 attached_fits cable k r = tt
 
-detached_fits : (k : EventKind) → MayTellSome (cable_with k None) (told_detached k)
+detached_fits : (k : PortEventKind) → MayTellSome (cable_with k None) (told_detached k)
 unfolding MayTellSome MayTell
 detached_fits (Attach cable device) = refl
 detached_fits k = tt
 
-kind_fits : (b : Bool) (cable : Option Cable) (k : EventKind) (r : PortParts) → is_some cable ≡ b →
+kind_fits : (b : Bool) (cable : Option Cable) (k : PortEventKind) (r : PortParts) → is_some cable ≡ b →
     MayTellSome (cable_with k cable) (if b then told_attached k r else told_detached k)
 kind_fits true cable k r e = attached_fits (cable_with k cable) k r
 kind_fits false None k r e = detached_fits k
@@ -321,7 +321,7 @@ off_knows : (cable : Option Cable) (s : SourceSettings) → Knows cable (off s)
 off_knows cable s = record { limit = off_limit (s.identity_tries == 0) cable; off = λ e. refl }
 
 -- a cable that is attached carries no less than none does
-kind_raises : (k : EventKind) (cable : Option Cable) (r : SourceRecord) → pulls_out k && is_some cable ≡ false →
+kind_raises : (k : PortEventKind) (cable : Option Cable) (r : SourceRecord) → pulls_out k && is_some cable ≡ false →
     Knows cable r → Knows (cable_with k cable) r
 kind_raises Detach None r e h = h
 kind_raises Detach (Some c) r e h = absurd (cc)
@@ -332,7 +332,7 @@ kind_raises (Attach cable device) None r e h =
 kind_raises (Attach cable device) (Some c) r e h = h
 kind_raises k cable r e h = h
 
-port_knows : (c : Bool) (s : SettingsData) (r : PortRecord) (at id t : ℕ) (k : EventKind) (a : Option Answer) →
+port_knows : (c : Bool) (s : SettingsData) (r : PortRecord) (at id t : ℕ) (k : PortEventKind) (a : Option Answer) →
     pulls_out k && is_some r.cable ≡ c → KnowsCable r →
     let x = what.Event (record { at = at; happening = Port id k }) in
     Knows (cable_with k r.cable) (if c then off (source_settings s)

@@ -10,7 +10,7 @@ use Rattle.pd_source.specs.Step as source
 use Rattle.pd_source.specs.declared.kinds.Stimulus.TheVariants as source_told
 use Rattle.pd_sink.specs.Step as sink
 use Rattle.pd_sink.specs.declared.kinds.Stimulus.TheVariants as sink_told
-use Rattle.pd_setup.specs.declared.event.EventKind.{EventKind}
+use Rattle.pd_setup.specs.Events.{PortEventKind}
 use Rattle.pd_setup.specs.declared.event.EventKind.TheVariants.{Attach, Detach, Demand, Lose, Damage, GetSource, GetSink}
 use Rattle.pd_setup.specs.declared.event.Happening.{Happening}
 use Rattle.pd_setup.specs.declared.event.Happening.TheVariants.{Port, Budget}
@@ -70,7 +70,7 @@ gets_sink_leads id t w =
     choice t (leads t) (source.is_ready w.port.source.record) (source_steps t source_told.GetSink) (noted (Ignored id)) w
     (source_now t source_told.GetSink w refl) (noted_kept t (leads t) (Ignored id) w)
 
-attached_leads : (id : ℕ) (k : EventKind) (t : ℕ) (w : PortStep) → LeadsOn t w (happens_attached id k t w)
+attached_leads : (id : ℕ) (k : PortEventKind) (t : ℕ) (w : PortStep) → LeadsOn t w (happens_attached id k t w)
 attached_leads id (Attach cable device) t w = noted_kept t (leads t) (Ignored id) w
 attached_leads id Detach t w = detaches_leads t w
 attached_leads id (Demand mw) t w = sink_steps_kept t (leads t) (sink_told.Demand mw) w refl
@@ -79,7 +79,7 @@ attached_leads id (Damage d) t w = disturbs_leads id (Damaged d) t w
 attached_leads id GetSource t w = gets_source_leads id t w
 attached_leads id GetSink t w = gets_sink_leads id t w
 
-detached_leads : (id : ℕ) (k : EventKind) (t : ℕ) (w : PortStep) → LeadsOn t w (happens_detached id k t w)
+detached_leads : (id : ℕ) (k : PortEventKind) (t : ℕ) (w : PortStep) → LeadsOn t w (happens_detached id k t w)
 detached_leads id (Attach cable device) t w = tells_attach_kept t (leads t) tt cable device w
 detached_leads id k t w = noted_kept t (leads t) (Ignored id) w
 

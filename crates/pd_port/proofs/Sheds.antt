@@ -27,7 +27,7 @@ use Rattle.pd_line.specs.Told.{source_hears_as}
 use Rattle.pd_line.specs.declared.port_parts.PortParts.{PortParts}
 use Rattle.pd_line.specs.declared.port_parts.Line.{Line}
 use Rattle.pd_line.specs.declared.port_parts.Line.TheVariants.{GoodCrc, NoAnswer, HardReset}
-use Rattle.pd_setup.specs.declared.event.EventKind.{EventKind}
+use Rattle.pd_setup.specs.Events.{PortEventKind}
 use Rattle.pd_setup.specs.declared.event.EventKind.TheVariants.{Attach, GetSink}
 use Rattle.pd_setup.specs.declared.event.Happening.{Happening}
 use Rattle.pd_setup.specs.declared.event.Happening.TheVariants.{Port, Budget}
@@ -114,17 +114,17 @@ line_ends (NoAnswer side p end) r = time_out_ends side p r
 line_ends (HardReset side end) r = reset_ends side r
 line_ends line r = tt
 
-attached_ends : (k : EventKind) (r : PortParts) → EndsNone (told_attached k r)
+attached_ends : (k : PortEventKind) (r : PortParts) → EndsNone (told_attached k r)
 unfolding EndsNone ends
 attached_ends GetSink r = if_ends (source.is_ready r.source.record) told.GetSink refl
 attached_ends k r = tt
 
-detached_ends : (k : EventKind) → EndsNone (told_detached k)
+detached_ends : (k : PortEventKind) → EndsNone (told_detached k)
 unfolding EndsNone ends
 detached_ends (Attach cable device) = refl
 detached_ends k = tt
 
-kind_ends : (b : Bool) (k : EventKind) (r : PortParts) → EndsNone (if b then told_attached k r else told_detached k)
+kind_ends : (b : Bool) (k : PortEventKind) (r : PortParts) → EndsNone (if b then told_attached k r else told_detached k)
 kind_ends true k r = attached_ends k r
 kind_ends false k r = detached_ends k
 

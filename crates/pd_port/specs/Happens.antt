@@ -2,7 +2,7 @@
 use Rattle.std.specs.Prelude.{ℕ, nat_lt, Bool, true, false, if◌then◌else◌, is_some, [], ◌∷◌, ◌++◌, length, Option, Some, None}
 use Rattle.pd_objects.specs.declared.query.Answer.{Answer}
 use Rattle.pd_objects.specs.declared.query.Answer.TheVariants as answer
-use Rattle.pd_setup.specs.declared.event.EventKind.{EventKind}
+use Rattle.pd_setup.specs.Events.{PortEventKind}
 use Rattle.pd_setup.specs.declared.event.EventKind.TheVariants.{Attach, Detach, Demand, Lose, Damage, GetSource, GetSink}
 use Rattle.pd_setup.specs.declared.event.Happening.{Happening}
 use Rattle.pd_setup.specs.declared.event.Happening.TheVariants.{Port, Budget}
@@ -39,7 +39,7 @@ unfoldable pub gets_sink : ℕ → ℕ → PortStep → PortStep
 gets_sink id t w = if source.is_ready w.port.source.record then source_steps t source_told.GetSink w else noted (Ignored id) w
 
 -- an event while a sink is attached
-abbrev pub happens_attached : ℕ → EventKind → ℕ → PortStep → PortStep
+abbrev pub happens_attached : ℕ → PortEventKind → ℕ → PortStep → PortStep
 happens_attached id (Attach cable device) t w = noted (Ignored id) w
 happens_attached id Detach t w = detaches w
 happens_attached id (Demand mw) t w = sink_steps t (sink_told.Demand mw) w
@@ -49,12 +49,12 @@ happens_attached id GetSource t w = gets_source id t w
 happens_attached id GetSink t w = gets_sink id t w
 
 -- an event while nothing is attached
-abbrev pub happens_detached : ℕ → EventKind → ℕ → PortStep → PortStep
+abbrev pub happens_detached : ℕ → PortEventKind → ℕ → PortStep → PortStep
 happens_detached id (Attach cable device) t w = tells_attach cable device t w
 happens_detached id kind t w = noted (Ignored id) w
 
 -- an event of the port
-abbrev pub port_event_happens : ℕ → EventKind → ℕ → PortStep → PortStep
+abbrev pub port_event_happens : ℕ → PortEventKind → ℕ → PortStep → PortStep
 port_event_happens id kind t w =
     if is_some w.port.cable then happens_attached id kind t w else happens_detached id kind t w
 
@@ -81,7 +81,7 @@ abbrev pub is_budget : What → Bool
 is_budget (what.Event e) = changes_budget e.happening
 is_budget _ = false
 
-abbrev pub pulls_out : EventKind → Bool
+abbrev pub pulls_out : PortEventKind → Bool
 pulls_out Detach = true
 pulls_out _ = false
 

@@ -19,7 +19,7 @@ use Rattle.pd_source.specs.Step as source
 use Rattle.pd_source.specs.declared.kinds.Sent.TheVariants as sent
 use Rattle.pd_source.specs.declared.kinds.Stimulus.{Stimulus}
 use Rattle.pd_source.specs.declared.kinds.Stimulus.TheVariants as told
-use Rattle.pd_setup.specs.declared.event.EventKind.{EventKind}
+use Rattle.pd_setup.specs.Events.{PortEventKind}
 use Rattle.pd_setup.specs.declared.event.EventKind.TheVariants.{Attach, GetSink}
 use Rattle.pd_setup.specs.declared.event.Happening.{Happening}
 use Rattle.pd_setup.specs.declared.event.Happening.TheVariants.{Port, Budget}
@@ -71,12 +71,12 @@ told_by_line (HardReset side end) r = told_of_reset side r
 told_by_line line r = None
 
 -- an event while a sink is attached
-abbrev pub told_attached : EventKind → PortParts → Option Stimulus
+abbrev pub told_attached : PortEventKind → PortParts → Option Stimulus
 told_attached GetSink r = if source.is_ready r.source.record then Some told.GetSink else None
 told_attached kind r = None
 
 -- an event while nothing is attached
-abbrev pub told_detached : EventKind → Option Stimulus
+abbrev pub told_detached : PortEventKind → Option Stimulus
 told_detached (Attach cable device) = Some told.Attach
 told_detached kind = None
 

@@ -5,7 +5,7 @@ ghost use Rattle.pd_port.specs.Port.{source_settings};
 ghost use Rattle.pd_port.specs.Happens.{detaches, disturbs, gets_source, gets_sink, happens_attached, happens_detached};
 ghost use Rattle.pd_port.specs.Happens.{port_event_happens, budget_changes, event_happens};
 
-use crate::{EventKind, Happening, Settings};
+use crate::{EventKind, Happening, PortEventKind, Settings};
 use pd_line::Fault;
 use pd_line::stepping::{Disturbance, PortParts, PortStep};
 use pd_objects::Answer;
@@ -68,7 +68,7 @@ fn gets_sink(step: &mut PortStep, id: u32, t: u64)
 }
 
 /// An event while a sink is attached.
-fn happens_attached(step: &mut PortStep, settings: &Settings, id: u32, kind: &EventKind, t: u64)
+fn happens_attached(step: &mut PortStep, settings: &Settings, id: u32, kind: &PortEventKind, t: u64)
     requires time { t ≤ LAST_TIME }
     requires room { length step.old.faults.items ≤ 4 }
     requires settings { step.old.port.source.settings ≡ source_settings settings.now }
@@ -86,7 +86,7 @@ fn happens_attached(step: &mut PortStep, settings: &Settings, id: u32, kind: &Ev
 }
 
 /// An event while nothing is attached.
-fn happens_detached(step: &mut PortStep, id: u32, kind: &EventKind, t: u64)
+fn happens_detached(step: &mut PortStep, id: u32, kind: &PortEventKind, t: u64)
     requires time { t ≤ LAST_TIME }
     requires room { length step.old.faults.items ≤ 4 }
     ensures { step.new ≡ happens_detached id kind.now t step.old }
@@ -98,7 +98,13 @@ fn happens_detached(step: &mut PortStep, id: u32, kind: &EventKind, t: u64)
 }
 
 /// An event of the port.
-fn port_event_happens(step: &mut PortStep, settings: &Settings, id: u32, kind: &EventKind, t: u64)
+fn port_event_happens(
+    step: &mut PortStep,
+    settings: &Settings,
+    id: u32,
+    kind: &PortEventKind,
+    t: u64,
+)
     requires time { t ≤ LAST_TIME }
     requires room { length step.old.faults.items ≤ 4 }
     requires settings { step.old.port.source.settings ≡ source_settings settings.now }

@@ -14,7 +14,7 @@ pub use due::{Due, What};
 pub use entry::{ContractChange, Entry};
 pub use meter::Meter;
 pub use pd_line::{Fault, Start};
-pub use pd_setup::{Event, EventKind, Happening, Settings};
+pub use pd_setup::{Event, EventKind, Happening, PortEventKind, Settings};
 pub use port::Port;
 
 #[cfg(test)]

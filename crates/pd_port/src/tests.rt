@@ -139,7 +139,7 @@ fn larger_port() -> Port {
     Port::new(&Settings::new(2_500, supplies, 1, false))
 }
 
-fn event(id: u32, at: u64, kind: EventKind) -> Event
+fn event(id: u32, at: u64, kind: PortEventKind) -> Event
     requires least_id { 1 ≤ id }
     requires most_id { id ≤ 1000000 }
     requires in_time { at ≤ LAST_TIME }

@@ -1,6 +1,6 @@
 -- What a session over texts comes to.
 use Rattle.std.specs.Prelude.{◌≡◌, ℕ, ◌⊎◌, List, ◌++◌, Result, Ok, Err, Option, Some, IfSome}
-use Rattle.pd_scenario.specs.Contents.{Contents}
+use Rattle.pd_scenario.specs.Scenarios.{ScenarioData}
 use Rattle.pd_scenario_tables.specs.declared.fault.ScenarioFault.{ScenarioFault}
 use Rattle.pd_scenario_tables.specs.Numbers.{number_of}
 use Rattle.pd_scenario_text.specs.Reading.{Counts, Reads}
@@ -12,14 +12,14 @@ use Rattle.pd_run_text.specs.declared.texts.RunFault.{RunFault}
 use Rattle.pd_run_text.specs.declared.texts.RunFault.TheVariants as faults
 
 -- the text is a scenario of so many ports
-pub record IsScenarioText (text : List ℕ) (n : ℕ) (s : Contents) : Type 0 where
+pub record IsScenarioText (text : List ℕ) (n : ℕ) (s : ScenarioData) : Type 0 where
   pub counts : Counts text (Ok n)
   pub reads : Reads n text (Ok s)
 
 -- out is what a session over these edits writes, for the scenario of the text
 pub record IsAnswer (text edits out : List ℕ) (tally : Tally) : Type 0 where
   pub ports : ℕ
-  pub scenario : Contents
+  pub scenario : ScenarioData
   pub is_scenario : IsScenarioText text ports scenario
   pub session : Session ports scenario edits out tally
 
@@ -39,7 +39,7 @@ abbrev pub RunsText : Result Tally RunFault → List ℕ → List ℕ → Option
 RunsText (Ok tally) text edits taken taken' = WritesAnswer text edits tally taken taken'
 RunsText (Err (faults.Scenario fault)) text edits taken taken' = IsRefused text fault × (taken' ≡ taken)
 RunsText (Err (faults.Session fault)) text edits taken taken' =
-    (n : ℕ) × (s : Contents) × (left' : Option (List ℕ)) × IsScenarioText text n s × SessionEnds n (Err fault) (Some edits) left' taken taken' s
+    (n : ℕ) × (s : ScenarioData) × (left' : Option (List ℕ)) × IsScenarioText text n s × SessionEnds n (Err fault) (Some edits) left' taken taken' s
 
 -- the count of failed writes says whether one failed
 abbrev pub CountsWrites : Result Tally RunFault → ℕ → ℕ → Type 0
@@ -52,5 +52,5 @@ IsRefusedBy text number = (fault : ScenarioFault) × IsRefused text fault × (nu
 
 -- a text is a scenario, or it is refused
 abbrev pub ChecksText : Result Unit ScenarioFault → List ℕ → Type 0
-ChecksText (Ok _) text = (n : ℕ) × (s : Contents) × IsScenarioText text n s
+ChecksText (Ok _) text = (n : ℕ) × (s : ScenarioData) × IsScenarioText text n s
 ChecksText (Err fault) text = IsRefused text fault

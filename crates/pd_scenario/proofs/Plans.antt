@@ -13,16 +13,16 @@ use Rattle.pd_setup.specs.declared.event.Happening.TheVariants as happens
 use Rattle.pd_setup.specs.declared.event.Happening.TheVariants.{Port}
 use Rattle.pd_setup.specs.Settings.{SettingsData, floor_of}
 use Rattle.pd_scenario.specs.declared.budget.BudgetChange.{BudgetChange}
-use Rattle.pd_scenario.specs.declared.contents.NamedCable.{NamedCable}
-use Rattle.pd_scenario.specs.declared.contents.NamedSink.{NamedSink}
-use Rattle.pd_scenario.specs.declared.contents.ScenarioHappening.{ScenarioHappening}
-use Rattle.pd_scenario.specs.declared.contents.ScenarioHappening.TheVariants.{OnPort, Budget}
-use Rattle.pd_scenario.specs.declared.contents.ScenarioEventKind.{ScenarioEventKind}
-use Rattle.pd_scenario.specs.declared.contents.ScenarioEvent.{ScenarioEvent}
+use Rattle.pd_scenario.specs.declared.named.NamedCable.{NamedCable}
+use Rattle.pd_scenario.specs.declared.named.NamedSink.{NamedSink}
+use Rattle.pd_scenario.specs.declared.event.ScenarioHappening.{ScenarioHappening}
+use Rattle.pd_scenario.specs.declared.event.ScenarioHappening.TheVariants.{OnPort, Budget}
+use Rattle.pd_scenario.specs.Events.{ScenarioEventKind}
+use Rattle.pd_scenario.specs.declared.event.ScenarioEvent.{ScenarioEvent}
 use Rattle.pd_scenario.specs.declared.limits.Quantity.TheVariants as quantity
 use Rattle.pd_scenario.specs.Limits.{allows}
 use Rattle.pd_scenario.specs.Plan.{IsPlan, ComesBefore, script_of, number_of, told_at, force, budget_after, last_change}
-use Rattle.pd_scenario.specs.Contents.{Contents, IsValid, has_id, ids_differ, event_fits, happening_fits, budget_in, budget_of}
+use Rattle.pd_scenario.specs.Scenarios.{ScenarioData, IsValid, has_id, ids_differ, event_fits, happening_fits, budget_in, budget_of}
 use Rattle.pd_scenario.specs.Script.{script, events_for, event_for, seen_by, resolved, put}
 use Rattle.pd_scenario.specs.Plans.{plan_of, change_in, change_of, changes_of, IsScript}
 use Rattle.pd_scenario.proofs.Lists.{cases, none, passes, filter_map_from, filter_map_has, length-filter_map, least_first, least_of}
@@ -106,7 +106,7 @@ from_one n e h =
     let least = (and_parts (nat_le 1 e.id) (nat_le e.id 1000000) id).0 in
     grind (arith, nat_tests)
 
-made_alike : (n : ℕ) (c : Contents) → IsValid n c → (port : ℕ) (x y : EventData) → Contains (events_for c.cables c.sinks port c.events) x → Contains (events_for c.cables c.sinks port c.events) y → SamePlace x y → x ≡ y
+made_alike : (n : ℕ) (c : ScenarioData) → IsValid n c → (port : ℕ) (x y : EventData) → Contains (events_for c.cables c.sinks port c.events) x → Contains (events_for c.cables c.sinks port c.events) y → SamePlace x y → x ≡ y
 made_alike n c valid port x y a b place =
     let left = filter_map_from (event_for c.cables c.sinks port) c.events x a in
     let right = filter_map_from (event_for c.cables c.sinks port) c.events y b in
@@ -116,7 +116,7 @@ made_alike n c valid port x y a b place =
     λ ids. ap (λ (e : ScenarioEvent). e.happening) (one_id c.events left.of right.of valid.events_differ left.there right.there ids)
     ) left.is right.is place
 
-script_is : (n : ℕ) (c : Contents) → IsValid n c → (port : ℕ) → IsScript c port (script c.cables c.sinks c.events port)
+script_is : (n : ℕ) (c : ScenarioData) → IsValid n c → (port : ℕ) → IsScript c port (script c.cables c.sinks c.events port)
 unfolding script
 script_is n c valid port =
     let made = events_for c.cables c.sinks port c.events in
@@ -138,26 +138,26 @@ sum-floors (x ∷ xs) =
     let right = sum_by-cons (λ (s : SettingsData). s.floor_mw) x xs in
     omega (arith, rest, left, right)
 
-pub script_of-plan_of : (c : Contents) (p : ℕ) → p < length c.settings → script_of (plan_of c) p ≡ script c.cables c.sinks c.events (p + 1)
+pub script_of-plan_of : (c : ScenarioData) (p : ℕ) → p < length c.settings → script_of (plan_of c) p ≡ script c.cables c.sinks c.events (p + 1)
 unfolding plan_of
 script_of-plan_of c p h = get_or-map-range_with_len (script c.cables c.sinks c.events) 1 (length c.settings) p (p + 1) [] h (omega arith)
 
-pub script_is_in_order : (n : ℕ) (c : Contents) → IsValid n c → (p : ℕ) → p < n → IsScript c (p + 1) (script_of (plan_of c) p)
+pub script_is_in_order : (n : ℕ) (c : ScenarioData) → IsValid n c → (p : ℕ) → p < n → IsScript c (p + 1) (script_of (plan_of c) p)
 script_is_in_order n c valid p h =
     rw (script_of-plan_of c p (omega (arith, valid.settings_count))) (script_is n c valid (p + 1))
 
-pub one_script : (c : Contents) (port : ℕ) (events others : List EventData) → IsScript c port events → IsScript c port others → events ≡ others
+pub one_script : (c : ScenarioData) (port : ℕ) (events others : List EventData) → IsScript c port events → IsScript c port others → events ≡ others
 one_script c port events others left right =
     one_order events others (from_adjacent events left.in_order) (from_adjacent others right.in_order) (λ x h. (right.all x).1 ((left.all x).0 h)) (λ x h. (left.all x).1 ((right.all x).0 h))
 
-length-script : (n : ℕ) (c : Contents) → IsValid n c → (port : ℕ) → length (script c.cables c.sinks c.events port) ≤ 4096
+length-script : (n : ℕ) (c : ScenarioData) → IsValid n c → (port : ℕ) → length (script c.cables c.sinks c.events port) ≤ 4096
 unfolding script
 length-script n c valid port =
     let made = length-filter_map (event_for c.cables c.sinks port) c.events in
     let put_each = length-each [] (events_for c.cables c.sinks port c.events) in
     omega (arith, made, put_each, valid.few_events)
 
-no_script : (n : ℕ) (c : Contents) → IsValid n c → (p : ℕ) → n ≤ p → script_of (plan_of c) p ≡ []
+no_script : (n : ℕ) (c : ScenarioData) → IsValid n c → (p : ℕ) → n ≤ p → script_of (plan_of c) p ≡ []
 unfolding plan_of
 no_script n c valid p h =
     let scripts = length-map-range_with_len (script c.cables c.sinks c.events) 1 (length c.settings) in
@@ -166,7 +166,7 @@ no_script n c valid p h =
 nothing : (i : ℕ) (e : EventData) → slice_get [] i ≡ Some e → ⊥
 nothing i e h = cc
 
-scripts_in_order : (n : ℕ) (c : Contents) → IsValid n c → (p i : ℕ) (e f : EventData) → slice_get (script_of (plan_of c) p) i ≡ Some e
+scripts_in_order : (n : ℕ) (c : ScenarioData) → IsValid n c → (p i : ℕ) (e f : EventData) → slice_get (script_of (plan_of c) p) i ≡ Some e
     → slice_get (script_of (plan_of c) p) (i + 1) ≡ Some f → ComesBefore e f
 scripts_in_order n c valid p i e f a b =
     elim (cases_lt p n) [
@@ -202,11 +202,11 @@ changes n e change fits is =
     changes_by n e.id e.at e.happening change ((and_parts (allows quantity.EventId e.id && allows quantity.Time e.at) (happening_fits n e.happening) fits).1) is
 
 -- each change leaves room for the floors
-record Funds (c : Contents) (budget : ℕ) : Type 0 where
+record Funds (c : ScenarioData) (budget : ℕ) : Type 0 where
   enough : sum (map floor_of c.settings) ≤ budget
   few : budget ≤ 1000000000
 
-plan_funds : (n : ℕ) (c : Contents) → IsValid n c → Funds c (c.budget_mw * 1000)
+plan_funds : (n : ℕ) (c : ScenarioData) → IsValid n c → Funds c (c.budget_mw * 1000)
 plan_funds n c valid =
     let floors = sum-floors c.settings in
     let least = least_first (filter_map budget_of c.events) c.budget_mw in
@@ -214,7 +214,7 @@ plan_funds n c valid =
     let few : c.budget_mw ≤ 1000000 = grind (arith, nat_tests) in
     record { enough = omega (arith, floors, least, valid.funded); few = omega (arith, few) }
 
-change_funds : (n : ℕ) (c : Contents) → IsValid n c → (change : BudgetChange) → Contains (changes_of c.events) change → Funds c change.budget
+change_funds : (n : ℕ) (c : ScenarioData) → IsValid n c → (change : BudgetChange) → Contains (changes_of c.events) change → Funds c change.budget
 change_funds n c valid change there =
     let from = filter_map_from change_of c.events change there in
     let made = changes n from.of change (passes (event_fits n) c.events from.of valid.events_fit from.there) from.is in
@@ -226,7 +226,7 @@ after : (P : ℕ → Type 0) (budget : ℕ) (last : Option BudgetChange) → P b
 after P budget None plain changed = plain
 after P budget (Some change) plain changed = changed change refl
 
-force_funds : (n : ℕ) (c : Contents) → IsValid n c → (at : ℕ) → Funds c (force (plan_of c) at)
+force_funds : (n : ℕ) (c : ScenarioData) → IsValid n c → (at : ℕ) → Funds c (force (plan_of c) at)
 unfolding force plan_of
 force_funds n c valid at =
     after (Funds c) (c.budget_mw * 1000) (last_change (changes_of c.events) at) (plan_funds n c valid)
@@ -238,7 +238,7 @@ told_by : (cables : List NamedCable) (sinks : List NamedSink) (port id at : ℕ)
 told_by cables sinks port id at (OnPort p k) mw change is times = absurd (nothing_is mw is)
 told_by cables sinks port id at (Budget nw) mw change is times = rw (← times) refl
 
-told : (n : ℕ) (c : Contents) → IsValid n c → (p : ℕ) → p < n → (change : BudgetChange) → Contains (changes_of c.events) change → Contains (script_of (plan_of c) p) (told_at change.at)
+told : (n : ℕ) (c : ScenarioData) → IsValid n c → (p : ℕ) → p < n → (change : BudgetChange) → Contains (changes_of c.events) change → Contains (script_of (plan_of c) p) (told_at change.at)
 told n c valid p h change there =
     let from = filter_map_from change_of c.events change there in
     let made = changes n from.of change (passes (event_fits n) c.events from.of valid.events_fit from.there) from.is in
@@ -248,7 +248,7 @@ told n c valid p h change there =
 soon : (end : ℕ) → allows quantity.Time end ≡ true → end ≤ 120000000
 soon end h = grind (arith, nat_tests)
 
-pub valid_is_plan : (n : ℕ) (c : Contents) → IsValid n c → IsPlan n (plan_of c)
+pub valid_is_plan : (n : ℕ) (c : ScenarioData) → IsValid n c → IsPlan n (plan_of c)
 unfolding plan_of
 valid_is_plan n c valid = record {
   settings_count = valid.settings_count;

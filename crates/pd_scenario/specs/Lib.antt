@@ -1,8 +1,9 @@
-pub mod Contents
+pub mod Events
 pub mod Laws
 pub mod Limits
 pub mod Names
 pub mod Plan
 pub mod Plans
+pub mod Scenarios
 pub mod Script
 pub mod Words

@@ -4,11 +4,11 @@ use Rattle.std.specs.Prelude.{◌≡◌, ℕ, ◌*◌, ◌+◌, ◌≤◌, ◌<�
 use Rattle.std.specs.List.{filter_map, range_with_len}
 use Rattle.pd_setup.specs.Events.{EventData}
 use Rattle.pd_scenario.specs.Plan.{Plan, ComesBefore}
-use Rattle.pd_scenario.specs.Contents.{Contents}
+use Rattle.pd_scenario.specs.Scenarios.{ScenarioData}
 use Rattle.pd_scenario.specs.Script.{script, events_for}
-use Rattle.pd_scenario.specs.declared.contents.ScenarioHappening.{ScenarioHappening}
-use Rattle.pd_scenario.specs.declared.contents.ScenarioHappening.TheVariants.{OnPort, Budget}
-use Rattle.pd_scenario.specs.declared.contents.ScenarioEvent.{ScenarioEvent}
+use Rattle.pd_scenario.specs.declared.event.ScenarioHappening.{ScenarioHappening}
+use Rattle.pd_scenario.specs.declared.event.ScenarioHappening.TheVariants.{OnPort, Budget}
+use Rattle.pd_scenario.specs.declared.event.ScenarioEvent.{ScenarioEvent}
 use Rattle.pd_scenario.specs.declared.budget.BudgetChange.{BudgetChange}
 
 -- the change of the shared budget that an event is, in microwatts
@@ -24,7 +24,7 @@ changes_of events = filter_map change_of events
 
 -- the settings of the ports; the script of each port, numbered from 1; the budget in microwatts and its changes; and the
 -- end
-unfoldable pub plan_of : Contents → Plan
+unfoldable pub plan_of : ScenarioData → Plan
 plan_of c = record {
   settings = c.settings;
   scripts = map (script c.cables c.sinks c.events) (range_with_len 1 (length c.settings));
@@ -36,7 +36,7 @@ plan_of c = record {
 -- A port's script has exactly what the events are for the port: its own, with the cable and the sink in place of their
 -- names, and one for the instant of each change of the budget. They stand in the order of their times and, at one time,
 -- the change first and then by their ids.
-pub record IsScript (c : Contents) (port : ℕ) (events : List EventData) : Type 0 where
+pub record IsScript (c : ScenarioData) (port : ℕ) (events : List EventData) : Type 0 where
   pub all : (e : EventData) → Contains events e ↔ Contains (events_for c.cables c.sinks port c.events) e
   pub in_order : (i : ℕ) (e f : EventData) → slice_get events i ≡ Some e → slice_get events (i + 1) ≡ Some f → ComesBefore e f
 

@@ -7,19 +7,17 @@ use Rattle.pd_identity.specs.declared.Rating.TheVariants.{ThreeAmperes}
 use Rattle.pd_setup.specs.Sinks.{SinkData}
 use Rattle.pd_setup.specs.declared.sink.SinkMode.TheVariants.{PowerDelivery}
 use Rattle.pd_setup.specs.declared.sink.SinkRevision.TheVariants.{Revision3}
-use Rattle.pd_setup.specs.Events.{EventData}
-use Rattle.pd_setup.specs.declared.event.EventKind.{EventKind}
-use Rattle.pd_setup.specs.declared.event.EventKind.TheVariants as port_event
+use Rattle.pd_setup.specs.Events.{EventData, PortEventKind, by_kind}
 use Rattle.pd_setup.specs.declared.event.Happening.{Happening}
 use Rattle.pd_setup.specs.declared.event.Happening.TheVariants as happens
-use Rattle.pd_scenario.specs.declared.contents.NamedCable.{NamedCable}
-use Rattle.pd_scenario.specs.declared.contents.NamedSink.{NamedSink}
-use Rattle.pd_scenario.specs.declared.contents.ScenarioEventKind.{ScenarioEventKind}
-use Rattle.pd_scenario.specs.declared.contents.ScenarioEventKind.TheVariants.{Attach, Detach, Demand, Lose, Damage, GetSource, GetSink}
-use Rattle.pd_scenario.specs.declared.contents.ScenarioHappening.{ScenarioHappening}
-use Rattle.pd_scenario.specs.declared.contents.ScenarioHappening.TheVariants.{OnPort, Budget}
-use Rattle.pd_scenario.specs.declared.contents.ScenarioEvent.{ScenarioEvent}
-use Rattle.pd_scenario.specs.Contents.{cable_named, sink_named}
+use Rattle.pd_scenario.specs.declared.named.NamedCable.{NamedCable}
+use Rattle.pd_scenario.specs.declared.named.NamedSink.{NamedSink}
+use Rattle.pd_scenario.specs.Events.{ScenarioEventKind}
+use Rattle.pd_setup.specs.declared.event.EventKind.TheVariants.{Attach, Demand, Damage}
+use Rattle.pd_scenario.specs.declared.event.ScenarioHappening.{ScenarioHappening}
+use Rattle.pd_scenario.specs.declared.event.ScenarioHappening.TheVariants.{OnPort, Budget}
+use Rattle.pd_scenario.specs.declared.event.ScenarioEvent.{ScenarioEvent}
+use Rattle.pd_scenario.specs.Scenarios.{cable_named, sink_named}
 use Rattle.pd_scenario.specs.Plan.{number_of}
 
 -- what stands for a name that no cable has, and for one that no sink has; in a valid scenario there is none
@@ -30,15 +28,10 @@ abbrev pub no_sink : SinkData
 no_sink = record { max_mv = 5000; demand_mw = 50; mode = PowerDelivery; revision = Revision3 }
 
 -- what an event does, with the cable and the sink in place of their names
-abbrev pub resolved : List NamedCable → List NamedSink → ScenarioEventKind → EventKind
-resolved cables sinks (Attach cable sink) =
-    port_event.Attach (unwrap_or (cable_named cables cable) no_cable) (unwrap_or (sink_named sinks sink) no_sink)
-resolved cables sinks Detach = port_event.Detach
-resolved cables sinks (Demand mw) = port_event.Demand mw
-resolved cables sinks Lose = port_event.Lose
-resolved cables sinks (Damage damage) = port_event.Damage damage
-resolved cables sinks GetSource = port_event.GetSource
-resolved cables sinks GetSink = port_event.GetSink
+abbrev pub resolved : List NamedCable → List NamedSink → ScenarioEventKind → PortEventKind
+resolved cables sinks kind =
+    by_kind (λ cable sink. Attach (unwrap_or (cable_named cables cable) no_cable) (unwrap_or (sink_named sinks sink) no_sink))
+    Demand Damage (λ plain. plain) kind
 
 -- what a happening is for a port: nothing where it is on another port
 abbrev pub seen_by : List NamedCable → List NamedSink → ℕ → ℕ → ScenarioHappening → Option Happening

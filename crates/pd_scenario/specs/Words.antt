@@ -1,12 +1,25 @@
--- The words by which scenario files and edit scripts write a cable's plug and a sink's mode, and the number by which they
--- write a cable's rating: this product's own, docs/FORMATS.md, "Scenario file" and "Edit script".
+-- The words by which scenario files and edit scripts write a kind of event, a cable's plug and a sink's mode, and the number
+-- by which they write a cable's rating: this product's own, docs/FORMATS.md, "Scenario file" and "Edit script".
 use Rattle.std.specs.Prelude.{ℕ, List, ◌==◌, Option, Some, None, codes, bytes_eq, if◌then◌else◌}
 use Rattle.pd_identity.specs.declared.CablePlug.{CablePlug}
 use Rattle.pd_identity.specs.declared.CablePlug.TheVariants.{Absent, Ack, Nak, Busy, Silent}
 use Rattle.pd_identity.specs.declared.Rating.{Rating}
 use Rattle.pd_identity.specs.declared.Rating.TheVariants.{ThreeAmperes, FiveAmperes}
+use Rattle.pd_setup.specs.Events.{KindWord}
+use Rattle.pd_setup.specs.declared.event.EventKind.TheVariants.{Attach, Detach, Demand, Lose, Damage, GetSource, GetSink}
 use Rattle.pd_setup.specs.declared.sink.SinkMode.{SinkMode}
 use Rattle.pd_setup.specs.declared.sink.SinkMode.TheVariants.{PowerDelivery, Plain, Greedy}
+
+abbrev pub kind_of : List ℕ → Option KindWord
+kind_of word =
+    if bytes_eq word (codes "attach") then Some (Attach tt tt)
+    else if bytes_eq word (codes "detach") then Some Detach
+    else if bytes_eq word (codes "demand") then Some (Demand tt)
+    else if bytes_eq word (codes "lose") then Some Lose
+    else if bytes_eq word (codes "damage") then Some (Damage tt)
+    else if bytes_eq word (codes "get_source") then Some GetSource
+    else if bytes_eq word (codes "get_sink") then Some GetSink
+    else None
 
 abbrev pub plug_of : List ℕ → Option CablePlug
 plug_of word =

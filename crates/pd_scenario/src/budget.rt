@@ -2,7 +2,7 @@
 
 ghost use Rattle.std.specs.Prelude.{◌≡◌, true};
 ghost use Rattle.std.specs.List.{list_all};
-ghost use Rattle.pd_scenario.specs.Contents.{event_fits};
+ghost use Rattle.pd_scenario.specs.Scenarios.{event_fits};
 ghost use Rattle.pd_scenario.specs.Plan.{is_later, with_change, last_change};
 ghost use Rattle.pd_scenario.specs.Plans.{change_of, changes_of};
 

@@ -1,7 +1,7 @@
 //! Whether the floors of the ports fit the budget that they share.
 
 ghost use Rattle.std.specs.Prelude.{◌≡◌};
-ghost use Rattle.pd_scenario.specs.Contents.{are_funded, budget_of, least_budget};
+ghost use Rattle.pd_scenario.specs.Scenarios.{are_funded, budget_of, least_budget};
 
 use crate::{ScenarioEvent, ScenarioHappening};
 use pd_setup::Settings;

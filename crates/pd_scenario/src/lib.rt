@@ -2,20 +2,22 @@
 #![tactic(auto)]
 
 mod budget;
-mod contents;
+mod event;
 mod floors;
 pub mod laws;
 mod limits;
 mod name;
+mod named;
 mod order;
 mod parts;
 mod scenario;
 mod words;
 
 pub use budget::{BudgetChange, last_change_by};
-pub use contents::{NamedCable, NamedSink, ScenarioEvent, ScenarioEventKind, ScenarioHappening};
+pub use event::{ScenarioEvent, ScenarioEventKind, ScenarioHappening, copy_kind};
 pub use floors::{are_funded, least_budget};
 pub use limits::{FIRST_MV, MOST_EVENTS, MOST_NAMES, Quantity};
 pub use name::{Name, is_name};
+pub use named::{NamedCable, NamedSink};
 pub use scenario::Scenario;
-pub use words::{mode_of, plug_of, rating_of};
+pub use words::{kind_of, mode_of, plug_of, rating_of};

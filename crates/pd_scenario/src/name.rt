@@ -44,7 +44,7 @@ impl Name {
         self.text.as_str()
     }
 
-    /// The same name.
+    /// A copy of the name.
     pub fn copy(&self) -> Name
         ensures { result ≡ self.now }
     {

@@ -3,32 +3,30 @@
 ghost use Rattle.std.specs.Prelude.{◌≡◌, ℕ, true, IfOk};
 ghost use Rattle.std.specs.BTreeMap.{values};
 ghost use Rattle.std.specs.List.{list_all};
-ghost use Rattle.pd_scenario.specs.Contents.{event_fits, kind_fits, kind_is_known, names_are_known};
+ghost use Rattle.pd_scenario.specs.Scenarios.{event_fits, kind_fits, kind_is_known, names_are_known};
 ghost use Rattle.pd_scenario.specs.Plan.{number_of};
 ghost use Rattle.pd_scenario.specs.Script.{resolved, event_for, script};
 
 use crate::scenario::{cable_named, sink_named};
 use crate::{NamedCable, NamedSink, ScenarioEvent, ScenarioEventKind, ScenarioHappening};
-use pd_setup::{Event, EventKind, Happening};
+use pd_setup::{Event, EventKind, Happening, PortEventKind, by_kind};
 use std::alloc::{AllocError, Allocator};
 use std::collections::BTreeMap;
 
 /// What an event does, with the cable and the sink in place of their names.
-fn resolved(cables: &[NamedCable], sinks: &[NamedSink], kind: &ScenarioEventKind) -> EventKind
+fn resolved(cables: &[NamedCable], sinks: &[NamedSink], kind: &ScenarioEventKind) -> PortEventKind
     requires { kind_is_known cables.now sinks.now kind.now ≡ true }
     ensures { result ≡ resolved cables.now sinks.now kind.now }
 {
-    match kind {
-        ScenarioEventKind::Attach { cable, sink } => EventKind::Attach {
+    by_kind! {
+        kind;
+        Attach { cable, sink } => EventKind::Attach {
             cable: cable_named(cables, cable).unwrap(),
             sink: sink_named(sinks, sink).unwrap(),
         },
-        ScenarioEventKind::Detach => EventKind::Detach,
-        ScenarioEventKind::Demand(demand) => EventKind::Demand(*demand),
-        ScenarioEventKind::Lose => EventKind::Lose,
-        ScenarioEventKind::Damage(damage) => EventKind::Damage(*damage),
-        ScenarioEventKind::GetSource => EventKind::GetSource,
-        ScenarioEventKind::GetSink => EventKind::GetSink,
+        Demand(demand) => EventKind::Demand(*demand),
+        Damage(damage) => EventKind::Damage(*damage),
+        plain => plain,
     }
 }
 

@@ -1,26 +1,28 @@
 //! Scenarios with one part changed.
 
 ghost use Rattle.std.specs.Prelude.{◌≡◌, IfOk};
-ghost use Rattle.pd_scenario.specs.Contents.{IsValid};
+ghost use Rattle.pd_scenario.specs.Scenarios.{ScenarioData, IsValid};
 
 use crate::{NamedCable, NamedSink, Scenario, ScenarioEvent};
 use pd_setup::Settings;
 use std::alloc::{AllocError, Global};
 
 impl<const N: usize> Scenario<N> {
-    /// The scenario with other lists.
-    fn with_lists(
-        &self,
-        settings: Vec<Settings>,
-        cables: Vec<NamedCable>,
-        sinks: Vec<NamedSink>,
-        events: Vec<ScenarioEvent>,
-    ) -> Scenario<N>
-        requires { IsValid N (record self.now { settings = settings.items; cables = cables.items; sinks = sinks.items; events = events.items }) }
-        ensures { result ≡ record self.now { settings = settings.items; cables = cables.items; sinks = sinks.items; events = events.items } }
+    /// A copy of the scenario.
+    ///
+    /// # Errors
+    /// There is no memory.
+    pub fn copy(&self, alloc: Global) -> Result<Scenario<N>, AllocError>
+        ensures { IfOk result (λ s. s ≡ self.now) }
     {
-        let budget_mw = self.budget_mw();
-        Scenario::new(settings, cables, sinks, events, budget_mw, self.end_us())
+        Ok(Scenario {
+            settings: self.settings.iter().map(|port| port.copy()).collect(alloc)?,
+            cables: self.cables.iter().map(|cable| cable.copy()).collect(alloc)?,
+            sinks: self.sinks.iter().map(|sink| sink.copy()).collect(alloc)?,
+            events: self.events.iter().map(|event| event.copy()).collect(alloc)?,
+            budget_mw: self.budget_mw,
+            end_us: self.end_us,
+        })
     }
 
     /// The scenario with other settings of its ports.
@@ -35,12 +37,8 @@ impl<const N: usize> Scenario<N> {
         requires { IsValid N (record self.now { settings = settings.items }) }
         ensures { IfOk result (λ s. s ≡ record self.now { settings = settings.items }) }
     {
-        Ok(self.with_lists(
-            settings,
-            copy_cables(alloc, self.cables())?,
-            copy_sinks(alloc, self.sinks())?,
-            copy_events(alloc, self.events())?,
-        ))
+        let copy = self.copy(alloc)?;
+        Ok(Scenario { settings, ..copy })
     }
 
     /// The scenario with other cables.
@@ -55,12 +53,8 @@ impl<const N: usize> Scenario<N> {
         requires { IsValid N (record self.now { cables = cables.items }) }
         ensures { IfOk result (λ s. s ≡ record self.now { cables = cables.items }) }
     {
-        Ok(self.with_lists(
-            copy_settings(alloc, self.ports())?,
-            cables,
-            copy_sinks(alloc, self.sinks())?,
-            copy_events(alloc, self.events())?,
-        ))
+        let copy = self.copy(alloc)?;
+        Ok(Scenario { cables, ..copy })
     }
 
     /// The scenario with other sinks.
@@ -75,12 +69,8 @@ impl<const N: usize> Scenario<N> {
         requires { IsValid N (record self.now { sinks = sinks.items }) }
         ensures { IfOk result (λ s. s ≡ record self.now { sinks = sinks.items }) }
     {
-        Ok(self.with_lists(
-            copy_settings(alloc, self.ports())?,
-            copy_cables(alloc, self.cables())?,
-            sinks,
-            copy_events(alloc, self.events())?,
-        ))
+        let copy = self.copy(alloc)?;
+        Ok(Scenario { sinks, ..copy })
     }
 
     /// The scenario with other events.
@@ -95,12 +85,14 @@ impl<const N: usize> Scenario<N> {
         requires { IsValid N (record self.now { events = events.items }) }
         ensures { IfOk result (λ s. s ≡ record self.now { events = events.items }) }
     {
-        Ok(self.with_lists(
-            copy_settings(alloc, self.ports())?,
-            copy_cables(alloc, self.cables())?,
-            copy_sinks(alloc, self.sinks())?,
+        Ok(Scenario {
+            settings: self.settings.iter().map(|port| port.copy()).collect(alloc)?,
+            cables: self.cables.iter().map(|cable| cable.copy()).collect(alloc)?,
+            sinks: self.sinks.iter().map(|sink| sink.copy()).collect(alloc)?,
             events,
-        ))
+            budget_mw: self.budget_mw,
+            end_us: self.end_us,
+        })
     }
 
     /// The scenario with another budget, in mW, and another end, in microseconds.
@@ -116,50 +108,11 @@ impl<const N: usize> Scenario<N> {
         requires { IsValid N (record self.now { budget_mw = budget_mw; end_us = end_us }) }
         ensures { IfOk result (λ s. s ≡ record self.now { budget_mw = budget_mw; end_us = end_us }) }
     {
-        let settings = copy_settings(alloc, self.ports())?;
-        let cables = copy_cables(alloc, self.cables())?;
-        let sinks = copy_sinks(alloc, self.sinks())?;
-        let events = copy_events(alloc, self.events())?;
-        Ok(Scenario::new(settings, cables, sinks, events, budget_mw, end_us))
+        let copy = self.copy(alloc)?;
+        Ok(Scenario {
+            budget_mw,
+            end_us,
+            ..copy
+        })
     }
-}
-
-fn copy_settings(alloc: Global, settings: &[Settings]) -> Result<Vec<Settings>, AllocError>
-    ensures { IfOk result (λ v. v.items ≡ settings.now) }
-{
-    let mut copies = Vec::new(alloc);
-    for port in settings {
-        copies.push(port.copy())?;
-    }
-    Ok(copies)
-}
-
-fn copy_cables(alloc: Global, cables: &[NamedCable]) -> Result<Vec<NamedCable>, AllocError>
-    ensures { IfOk result (λ v. v.items ≡ cables.now) }
-{
-    let mut copies = Vec::new(alloc);
-    for cable in cables {
-        copies.push(cable.copy())?;
-    }
-    Ok(copies)
-}
-
-fn copy_sinks(alloc: Global, sinks: &[NamedSink]) -> Result<Vec<NamedSink>, AllocError>
-    ensures { IfOk result (λ v. v.items ≡ sinks.now) }
-{
-    let mut copies = Vec::new(alloc);
-    for sink in sinks {
-        copies.push(sink.copy())?;
-    }
-    Ok(copies)
-}
-
-fn copy_events(alloc: Global, events: &[ScenarioEvent]) -> Result<Vec<ScenarioEvent>, AllocError>
-    ensures { IfOk result (λ v. v.items ≡ events.now) }
-{
-    let mut copies = Vec::new(alloc);
-    for event in events {
-        copies.push(event.copy())?;
-    }
-    Ok(copies)
 }

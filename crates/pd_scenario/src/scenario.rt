@@ -1,7 +1,7 @@
 //! A scenario.
 
 ghost use Rattle.std.specs.Prelude.{◌≡◌, ℕ, ◌-◌, ◌≤◌, ◌<◌, ◌==◌, slice_get, Some, IfOk, is_some};
-ghost use Rattle.pd_scenario.specs.Contents.{Contents, IsValid, cable_named, sink_named, has_id};
+ghost use Rattle.pd_scenario.specs.Scenarios.{ScenarioData, IsValid, cable_named, sink_named, has_id};
 ghost use Rattle.pd_scenario.specs.Plan.{Plan, IsPlan, settings_of, script_of, force};
 ghost use Rattle.pd_scenario.specs.Plans.{plan_of, changes_of};
 
@@ -19,18 +19,18 @@ use std::marker::Model;
 /// than the least of the budget and its changes.
 #[derive(Drop)]
 pub struct Scenario<const N: usize> {
-    settings: Vec<Settings>,
-    cables: Vec<NamedCable>,
-    sinks: Vec<NamedSink>,
-    events: Vec<ScenarioEvent>,
-    budget_mw: u32,
-    end_us: u32,
+    pub(crate) settings: Vec<Settings>,
+    pub(crate) cables: Vec<NamedCable>,
+    pub(crate) sinks: Vec<NamedSink>,
+    pub(crate) events: Vec<ScenarioEvent>,
+    pub(crate) budget_mw: u32,
+    pub(crate) end_us: u32,
 }
 
 impl<const N: usize> Model for Scenario<N> {
-    ghost use Rattle.pd_scenario.specs.Contents.{Contents, IsValid};
+    ghost use Rattle.pd_scenario.specs.Scenarios.{ScenarioData, IsValid};
 
-    ghost Value = { Contents };
+    ghost Value = { ScenarioData };
 
     ghost view = { λ s. record {
       settings = s.settings.items;

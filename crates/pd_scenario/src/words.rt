@@ -1,10 +1,41 @@
-//! The words and the number by which files and edit scripts write a plug, a mode and a rating.
+//! The words and the number by which files and edit scripts write a kind of event, a plug, a mode and a rating.
 
 ghost use Rattle.std.specs.Prelude.{◌≡◌};
-ghost use Rattle.pd_scenario.specs.Words.{mode_of, plug_of, rating_of};
+ghost use Rattle.pd_scenario.specs.Words.{kind_of, mode_of, plug_of, rating_of};
 
 use pd_identity::{CablePlug, Rating};
-use pd_setup::SinkMode;
+use pd_setup::{EventKind, KindWord, SinkMode};
+
+/// The kind of event that a word stands for.
+pub fn kind_of(word: &[u8]) -> Option<KindWord>
+    ensures { result ≡ kind_of word.now }
+{
+    if word == b"attach".as_slice() {
+        return Some(EventKind::Attach {
+            cable: (),
+            sink: (),
+        });
+    }
+    if word == b"detach".as_slice() {
+        return Some(EventKind::Detach);
+    }
+    if word == b"demand".as_slice() {
+        return Some(EventKind::Demand(()));
+    }
+    if word == b"lose".as_slice() {
+        return Some(EventKind::Lose);
+    }
+    if word == b"damage".as_slice() {
+        return Some(EventKind::Damage(()));
+    }
+    if word == b"get_source".as_slice() {
+        return Some(EventKind::GetSource);
+    }
+    if word == b"get_sink".as_slice() {
+        return Some(EventKind::GetSink);
+    }
+    None
+}
 
 /// The plug of a cable that a word stands for.
 pub fn plug_of(word: &[u8]) -> Option<CablePlug>

@@ -7,6 +7,7 @@ use Rattle.std.proofs.lemmas.Bool.Decides.{nat_tests}
 use Rattle.toml.specs.Data.{Data, Members}
 use Rattle.pd_objects.specs.Supply.{SupplyData, IsSupply}
 use Rattle.pd_packet.specs.Damage.{IsDamage}
+use Rattle.pd_setup.specs.declared.event.EventKind.TheVariants.{Attach, Demand, Damage}
 use Rattle.pd_setup.specs.Sinks.{SinkData, IsSink, IsDemand}
 use Rattle.pd_setup.specs.Settings.{SettingsData, IsSettings, AreRising}
 use Rattle.pd_scenario.specs.Names.{is_name}
@@ -157,24 +158,24 @@ few_tries version ports t sound = (port_fits version ports t sound).most_tries
 
 -- ---- events
 
-pub attach_named : (version : Version) (ports : ℕ) (t : Members) → is_sound version ports (Event event.Attach) t ≡ true → (is_name (word_at key.Cable t) ≡ true) × (is_name (word_at key.Sink t) ≡ true)
+pub attach_named : (version : Version) (ports : ℕ) (t : Members) → is_sound version ports (Event (event.OnPort (Attach tt tt))) t ≡ true → (is_name (word_at key.Cable t) ≡ true) × (is_name (word_at key.Sink t) ≡ true)
 attach_named version ports t sound = (
-  name_needed version ports key.Cable t (holds version ports (Event event.Attach) t (rule key.Cable Required form.Name) sound (0, lit< tt, refl)),
-  name_needed version ports key.Sink t (holds version ports (Event event.Attach) t (rule key.Sink Required form.Name) sound (1, lit< tt, refl)),
+  name_needed version ports key.Cable t (holds version ports (Event (event.OnPort (Attach tt tt))) t (rule key.Cable Required form.Name) sound (0, lit< tt, refl)),
+  name_needed version ports key.Sink t (holds version ports (Event (event.OnPort (Attach tt tt))) t (rule key.Sink Required form.Name) sound (1, lit< tt, refl)),
 )
 
-pub demand_allowed : (version : Version) (ports : ℕ) (t : Members) → is_sound version ports (Event event.Demand) t ≡ true → allows quantity.Demand (number_at [] key.Mw t) ≡ true
+pub demand_allowed : (version : Version) (ports : ℕ) (t : Members) → is_sound version ports (Event (event.OnPort (Demand tt))) t ≡ true → allows quantity.Demand (number_at [] key.Mw t) ≡ true
 demand_allowed version ports t sound =
-    needed version ports key.Mw quantity.Demand t (holds version ports (Event event.Demand) t (rule key.Mw Required (form.Number quantity.Demand)) sound (0, lit< tt, refl))
+    needed version ports key.Mw quantity.Demand t (holds version ports (Event (event.OnPort (Demand tt))) t (rule key.Mw Required (form.Number quantity.Demand)) sound (0, lit< tt, refl))
 
-pub damage_allowed : (version : Version) (ports : ℕ) (t : Members) → is_sound version ports (Event event.Damage) t ≡ true
+pub damage_allowed : (version : Version) (ports : ℕ) (t : Members) → is_sound version ports (Event (event.OnPort (Damage tt))) t ≡ true
     → (allows quantity.DamagePlace (number_at [] key.Place t) ≡ true) × (allows quantity.DamageMask (number_at [] key.Mask t) ≡ true)
 damage_allowed version ports t sound = (
-  needed version ports key.Place quantity.DamagePlace t (holds version ports (Event event.Damage) t (rule key.Place Required (form.Number quantity.DamagePlace)) sound (0, lit< tt, refl)),
-  needed version ports key.Mask quantity.DamageMask t (holds version ports (Event event.Damage) t (rule key.Mask Required (form.Number quantity.DamageMask)) sound (1, lit< tt, refl)),
+  needed version ports key.Place quantity.DamagePlace t (holds version ports (Event (event.OnPort (Damage tt))) t (rule key.Place Required (form.Number quantity.DamagePlace)) sound (0, lit< tt, refl)),
+  needed version ports key.Mask quantity.DamageMask t (holds version ports (Event (event.OnPort (Damage tt))) t (rule key.Mask Required (form.Number quantity.DamageMask)) sound (1, lit< tt, refl)),
 )
 
-pub is_damage : (version : Version) (ports : ℕ) (t : Members) → is_sound version ports (Event event.Damage) t ≡ true → IsDamage (record { place = number_at [] key.Place t; mask = number_at [] key.Mask t })
+pub is_damage : (version : Version) (ports : ℕ) (t : Members) → is_sound version ports (Event (event.OnPort (Damage tt))) t ≡ true → IsDamage (record { place = number_at [] key.Place t; mask = number_at [] key.Mask t })
 is_damage version ports t sound =
     let both = damage_allowed version ports t sound in
     let bits = mask (number_at [] key.Mask t) both.1 in

@@ -1,5 +1,5 @@
 -- What holds of a sound table, rule by rule.
-use Rattle.std.proofs.Common.{◌≡◌, ℕ, zero, suc, ◌<◌, ◌≤◌, ◌^◌, ℤ, pos, negsuc, Bool, true, false, not, ◌&&◌, List, [], ◌∷◌, length, get_or, refl, sym, arith, Some, None}
+use Rattle.std.proofs.Common.{◌≡◌, ℕ, zero, suc, ◌<◌, ◌≤◌, ◌^◌, ℤ, pos, negsuc, Bool, true, false, not, ◌&&◌, List, [], ◌∷◌, ◌++◌, length, get_or, refl, sym, arith, Some, None}
 use Rattle.std.specs.Prelude.{Option, is_none, nat_le, Contains}
 use Rattle.std.specs.List.{list_any}
 use Rattle.std.proofs.lemmas.Bool.{false≢true, and_parts, or_parts, not-false}
@@ -49,6 +49,15 @@ holds version ports kind t r sound (k, below, is) =
       ranged = at_rule (λ (x : Rule). value_fails (passes fault.Range version ports x.form) (value_at x.key t)) rules k r below is parts.1;
       named = at_rule (λ (x : Rule). value_fails (passes fault.Name version ports x.form) (value_at x.key t)) rules k r below is parts.2;
     }
+
+-- the first of a list is in it
+pub first : (r : Rule) (rules : List Rule) → Contains (r ∷ rules) r
+first r rules = (0, omega arith, refl)
+
+-- and what is behind others, given in turn, is in the whole
+pub behind : (r : Rule) (others rules : List Rule) → Contains rules r → Contains (others ++ rules) r
+behind r [] rules h = h
+behind r (s ∷ others) rules h = let (k, below, is) = behind r others rules h in (suc k, omega (arith, below), is)
 
 -- ---- numbers
 

@@ -4,20 +4,22 @@ use Rattle.toml.specs.Data.{Members}
 use Rattle.pd_identity.specs.declared.CablePlug.TheVariants.{Absent}
 use Rattle.pd_identity.specs.declared.Rating.TheVariants.{ThreeAmperes}
 use Rattle.pd_setup.specs.declared.sink.SinkRevision.TheVariants.{Revision3}
+use Rattle.pd_packet.specs.Damage.{DamageData}
+use Rattle.pd_setup.specs.Events.{KindWord, by_kind}
 use Rattle.pd_setup.specs.Settings.{SettingsData}
-use Rattle.pd_scenario.specs.declared.contents.NamedCable.{NamedCable}
-use Rattle.pd_scenario.specs.declared.contents.NamedSink.{NamedSink}
-use Rattle.pd_scenario.specs.declared.contents.ScenarioEventKind.{ScenarioEventKind}
-use Rattle.pd_scenario.specs.declared.contents.ScenarioEventKind.TheVariants as happens
-use Rattle.pd_scenario.specs.declared.contents.ScenarioHappening.{ScenarioHappening}
-use Rattle.pd_scenario.specs.declared.contents.ScenarioHappening.TheVariants.{OnPort, Budget}
-use Rattle.pd_scenario.specs.declared.contents.ScenarioEvent.{ScenarioEvent}
+use Rattle.pd_scenario.specs.declared.named.NamedCable.{NamedCable}
+use Rattle.pd_scenario.specs.declared.named.NamedSink.{NamedSink}
+use Rattle.pd_scenario.specs.Events.{ScenarioEventKind}
+use Rattle.pd_setup.specs.declared.event.EventKind.TheVariants.{Attach, Detach, Demand, Damage}
+use Rattle.pd_scenario.specs.declared.event.ScenarioHappening.{ScenarioHappening}
+use Rattle.pd_scenario.specs.declared.event.ScenarioHappening.TheVariants.{OnPort, Budget}
+use Rattle.pd_scenario.specs.declared.event.ScenarioEvent.{ScenarioEvent}
 use Rattle.pd_scenario_tables.specs.declared.schema.Version.{Version}
 use Rattle.pd_scenario_tables.specs.declared.schema.Version.TheVariants.{Two}
 use Rattle.pd_scenario_tables.specs.declared.schema.EventName.{EventName}
 use Rattle.pd_scenario_tables.specs.declared.schema.EventName.TheVariants as event
 use Rattle.pd_scenario_tables.specs.declared.schema.Key.TheVariants as key
-use Rattle.pd_scenario_tables.specs.Schema.{port_rules, cable_rules, sink_rules, any_event, on_port, event_rules}
+use Rattle.pd_scenario_tables.specs.Schema.{port_rules, cable_rules, sink_rules, any_event, on_port, kind_rules, event_rules}
 use Rattle.pd_scenario.specs.Words.{plug_of, rating_of}
 use Rattle.pd_scenario_tables.specs.Words.{revision_of}
 use Rattle.pd_scenario_tables.specs.Values.{natural, supply_of}
@@ -55,18 +57,25 @@ sink_of t = record {
 abbrev pub on : Members → ScenarioEventKind → ScenarioHappening
 on t kind = OnPort (number_at on_port key.Port t) kind
 
+abbrev pub damage_of : Members → DamageData
+damage_of t = record {
+  place = number_at (kind_rules (Damage tt)) key.Place t;
+  mask = number_at (kind_rules (Damage tt)) key.Mask t;
+}
+
+-- what happens on the port of an event
+abbrev pub kind_in : KindWord → Members → ScenarioEventKind
+kind_in kind t =
+    by_kind (λ cable sink. Attach (word_at key.Cable t) (word_at key.Sink t))
+    (λ power. Demand (number_at (kind_rules (Demand tt)) key.Mw t))
+    (λ harm. Damage (damage_of t))
+    (λ plain. plain) kind
+
 -- what an event says; one of no known kind is refused
 abbrev pub happening_of : EventName → Members → ScenarioHappening
-happening_of event.Attach t = on t (happens.Attach (word_at key.Cable t) (word_at key.Sink t))
-happening_of event.Detach t = on t happens.Detach
-happening_of event.Demand t = on t (happens.Demand (number_at (event_rules event.Demand) key.Mw t))
-happening_of event.Lose t = on t happens.Lose
-happening_of event.Damage t =
-    on t (happens.Damage (record { place = number_at (event_rules event.Damage) key.Place t; mask = number_at (event_rules event.Damage) key.Mask t }))
-happening_of event.GetSource t = on t happens.GetSource
-happening_of event.GetSink t = on t happens.GetSink
+happening_of (event.OnPort kind) t = on t (kind_in kind t)
 happening_of event.Budget t = Budget (number_at (event_rules event.Budget) key.Mw t)
-happening_of event.Unknown t = on t happens.Detach
+happening_of event.Unknown t = on t Detach
 
 abbrev pub event_of : Version → Members → ScenarioEvent
 event_of version t = record {

@@ -1,6 +1,8 @@
 -- The format of a scenario file: one line for each key of each kind of table, with what stands where it is absent and
 -- what its value has to be.
-use Rattle.std.specs.Prelude.{ℕ, pos, false, List, [], ◌∷◌, codes}
+use Rattle.std.specs.Prelude.{ℕ, pos, false, List, [], ◌∷◌, ◌++◌, codes}
+use Rattle.pd_setup.specs.Events.{KindWord}
+use Rattle.pd_setup.specs.declared.event.EventKind.TheVariants.{Attach, Demand, Damage}
 use Rattle.pd_setup.specs.declared.sink.SinkMode.TheVariants.{PowerDelivery}
 use Rattle.pd_scenario.specs.declared.limits.Quantity.TheVariants as quantity
 use Rattle.pd_scenario_tables.specs.declared.schema.Version.{Version}
@@ -104,24 +106,29 @@ any_event =
 abbrev pub on_port : List Rule
 on_port = rule key.Port Required PortNumber ∷ any_event
 
--- [[event]] by its kind; one of no known kind may have all keys of the others
-abbrev pub event_rules : EventName → List Rule
-event_rules event.Attach = rule key.Cable Required Name ∷ rule key.Sink Required Name ∷ on_port
-event_rules event.Detach = on_port
-event_rules event.Demand = rule key.Mw Required (Number quantity.Demand) ∷ on_port
-event_rules event.Lose = on_port
-event_rules event.Damage =
+-- each [[event]] of a port, by its kind
+abbrev pub kind_rules : KindWord → List Rule
+kind_rules (Attach cable sink) = rule key.Cable Required Name ∷ rule key.Sink Required Name ∷ on_port
+kind_rules (Demand power) = rule key.Mw Required (Number quantity.Demand) ∷ on_port
+kind_rules (Damage harm) =
     rule key.Place Required (Number quantity.DamagePlace) ∷ rule key.Mask Required (Number quantity.DamageMask) ∷ on_port
-event_rules event.GetSource = on_port
-event_rules event.GetSink = on_port
-event_rules event.Budget = rule key.Mw Required (Number quantity.Budget) ∷ any_event
-event_rules event.Unknown =
+kind_rules _ = on_port
+
+-- an [[event]] of no known kind may have all keys of the others
+abbrev pub unknown_rules : List Rule
+unknown_rules =
     rule key.Cable Nothing Name
     ∷ rule key.Sink Nothing Name
     ∷ rule key.Mw Nothing (Number quantity.Demand)
     ∷ rule key.Place Nothing (Number quantity.DamagePlace)
     ∷ rule key.Mask Nothing (Number quantity.DamageMask)
-    ∷ on_port
+    ∷ []
+
+-- [[event]] by what its word says
+abbrev pub event_rules : EventName → List Rule
+event_rules (event.OnPort kind) = kind_rules kind
+event_rules event.Budget = rule key.Mw Required (Number quantity.Budget) ∷ any_event
+event_rules event.Unknown = unknown_rules ++ on_port
 
 abbrev pub rules_of : Version → TableKind → List Rule
 rules_of version Top = top_rules

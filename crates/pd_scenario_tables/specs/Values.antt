@@ -11,7 +11,7 @@ use Rattle.pd_scenario.specs.Words.{plug_of, mode_of, rating_of}
 use Rattle.pd_scenario_tables.specs.Words.{revision_of, version_of, event_named}
 use Rattle.pd_scenario_tables.specs.declared.schema.Version.{Version}
 use Rattle.pd_scenario_tables.specs.declared.schema.EventName.{EventName}
-use Rattle.pd_scenario_tables.specs.declared.schema.EventName.TheVariants.{Attach, Detach, Demand, Lose, Damage, GetSource, GetSink, Budget, Unknown}
+use Rattle.pd_scenario_tables.specs.declared.schema.EventName.TheVariants.{OnPort, Budget, Unknown}
 use Rattle.pd_scenario_tables.specs.declared.schema.Form.{Form}
 use Rattle.pd_scenario_tables.specs.declared.schema.Form.TheVariants.{Number, VersionNumber, PortNumber, RatingNumber, RevisionNumber, Name, PlugWord, ModeWord, EventWord, Truth, Supplies, Tables}
 use Rattle.pd_scenario_tables.specs.declared.fault.ScenarioFault.{ScenarioFault}
@@ -114,13 +114,7 @@ abbrev pub is_supply : Data → Bool
 is_supply d = is_within Voltage ((pair_of d).0) && is_within Current ((pair_of d).1)
 
 abbrev pub is_known : EventName → Bool
-is_known Attach = true
-is_known Detach = true
-is_known Demand = true
-is_known Lose = true
-is_known Damage = true
-is_known GetSource = true
-is_known GetSink = true
+is_known (OnPort kind) = true
 is_known Budget = true
 is_known Unknown = false
 

@@ -6,9 +6,12 @@ ghost use Rattle.pd_objects.specs.Supply.{IsSupply};
 ghost use Rattle.pd_scenario_tables.specs.Schema.{port_rules};
 ghost use Rattle.pd_scenario_tables.specs.Values.{small, supply_of};
 ghost use Rattle.pd_scenario_tables.specs.Tables.{value_at, whole_in, number_at as number_of_key, word_at, event_at, IsSound, IsSoundPort};
-ghost use Rattle.pd_scenario_tables.specs.Convert.{settings_of, cable_of, sink_of, on, happening_of, event_of};
+ghost use Rattle.pd_scenario_tables.specs.Convert.{settings_of, cable_of, sink_of, on, damage_of, kind_in, happening_of, event_of};
 
-use crate::schema::{EventName, Key, TableKind, Version};
+use crate::schema::{
+    DEFAULT_MODE, DEFAULT_REVISION, DEFAULT_TRIES, DEFAULT_UNCONSTRAINED, EventName, Key,
+    TableKind, Version,
+};
 use crate::tables::{elements_at, event_at, truth_at, whole_at, word_at};
 use crate::values::{natural, numbers_of, small};
 use crate::words::revision_of;
@@ -20,7 +23,7 @@ use pd_scenario::{
     Name, NamedCable, NamedSink, ScenarioEvent, ScenarioEventKind, ScenarioHappening, mode_of,
     plug_of, rating_of,
 };
-use pd_setup::{Demand, Settings, SinkMode, SinkRevision, SinkSettings};
+use pd_setup::{Demand, EventKind, KindWord, Settings, SinkRevision, SinkSettings, by_kind};
 use toml::{Table, Value};
 
 /// The number at a key; 0 where there is none of 32 bits.
@@ -34,7 +37,7 @@ pub fn number_at(table: &Table, key: Key) -> u32
 fn tries_at(table: &Table) -> u32
     ensures { result ≡ number_of_key port_rules Key.IdentityTries (table_view table.now) }
 {
-    small(whole_at(table, Key::IdentityTries, 3))
+    small(whole_at(table, Key::IdentityTries, DEFAULT_TRIES))
 }
 
 fn supply_of(value: &Value) -> Supply
@@ -65,7 +68,7 @@ pub fn settings_of(table: &Table) -> Settings
     let supplies = supplies_of(table);
     let floor_mw = number_at(table, Key::Floor);
     let tries = tries_at(table);
-    let unconstrained = truth_at(table, Key::Unconstrained, false);
+    let unconstrained = truth_at(table, Key::Unconstrained, DEFAULT_UNCONSTRAINED);
     Settings::new(floor_mw, supplies, tries as u8, unconstrained)
 }
 
@@ -92,8 +95,8 @@ pub fn sink_of(table: &Table) -> NamedSink
     let name = word_at(table, Key::Name);
     let max_mv = number_at(table, Key::Max);
     let demand_mw = number_at(table, Key::Demand);
-    let mode = mode_of(word_at(table, Key::Mode).as_bytes()).unwrap_or(SinkMode::PowerDelivery);
-    let number = whole_at(table, Key::Revision, 3);
+    let mode = mode_of(word_at(table, Key::Mode).as_bytes()).unwrap_or(DEFAULT_MODE);
+    let number = whole_at(table, Key::Revision, DEFAULT_REVISION);
     let revision = revision_of(number).unwrap_or(SinkRevision::Revision3);
     NamedSink {
         name: Name::new(name),
@@ -112,32 +115,45 @@ fn on(table: &Table, kind: ScenarioEventKind) -> ScenarioHappening
 }
 
 fn attach_of(table: &Table) -> ScenarioEventKind
-    requires { IsSound (TableKind.Event EventName.Attach) (table_view table.now) }
-    ensures { result ≡ ScenarioEventKind.Attach (word_at Key.Cable (table_view table.now)) (word_at Key.Sink (table_view table.now)) }
+    requires { IsSound (TableKind.Event (EventName.OnPort (EventKind.Attach tt tt))) (table_view table.now) }
+    ensures { result ≡ kind_in (EventKind.Attach tt tt) (table_view table.now) }
 {
     let cable = word_at(table, Key::Cable);
     let sink = word_at(table, Key::Sink);
-    ScenarioEventKind::Attach {
+    EventKind::Attach {
         cable: Name::new(cable),
         sink: Name::new(sink),
     }
 }
 
-fn demand_of(table: &Table) -> ScenarioEventKind
-    requires { IsSound (TableKind.Event EventName.Demand) (table_view table.now) }
-    ensures { result ≡ ScenarioEventKind.Demand (small (whole_in (value_at Key.Mw (table_view table.now)) (pos 0))) }
+fn demand_of(table: &Table) -> Demand
+    requires { IsSound (TableKind.Event (EventName.OnPort (EventKind.Demand tt))) (table_view table.now) }
+    ensures { result ≡ small (whole_in (value_at Key.Mw (table_view table.now)) (pos 0)) }
 {
     let mw = number_at(table, Key::Mw);
-    ScenarioEventKind::Demand(Demand::new(mw))
+    Demand::new(mw)
 }
 
-fn damage_of(table: &Table) -> ScenarioEventKind
-    requires { IsSound (TableKind.Event EventName.Damage) (table_view table.now) }
-    ensures { result ≡ ScenarioEventKind.Damage (record { place = small (whole_in (value_at Key.Place (table_view table.now)) (pos 0)); mask = small (whole_in (value_at Key.Mask (table_view table.now)) (pos 0)) }) }
+fn damage_of(table: &Table) -> Damage
+    requires { IsSound (TableKind.Event (EventName.OnPort (EventKind.Damage tt))) (table_view table.now) }
+    ensures { result ≡ damage_of (table_view table.now) }
 {
     let place = number_at(table, Key::Place);
     let mask = number_at(table, Key::Mask);
-    ScenarioEventKind::Damage(Damage::new(place as u8, mask as u8))
+    Damage::new(place as u8, mask as u8)
+}
+
+fn kind_in(kind: KindWord, table: &Table) -> ScenarioEventKind
+    requires { IsSound (TableKind.Event (EventName.OnPort kind)) (table_view table.now) }
+    ensures { result ≡ kind_in kind (table_view table.now) }
+{
+    by_kind! {
+        kind;
+        Attach { (), () } => attach_of(table),
+        Demand(()) => EventKind::Demand(demand_of(table)),
+        Damage(()) => EventKind::Damage(damage_of(table)),
+        plain => plain,
+    }
 }
 
 fn happening_of(name: EventName, table: &Table) -> ScenarioHappening
@@ -145,16 +161,11 @@ fn happening_of(name: EventName, table: &Table) -> ScenarioHappening
     ensures { result ≡ happening_of name (table_view table.now) }
 {
     match name {
-        EventName::Attach => on(table, attach_of(table)),
-        EventName::Demand => on(table, demand_of(table)),
-        EventName::Lose => on(table, ScenarioEventKind::Lose),
-        EventName::Damage => on(table, damage_of(table)),
-        EventName::GetSource => on(table, ScenarioEventKind::GetSource),
-        EventName::GetSink => on(table, ScenarioEventKind::GetSink),
+        EventName::OnPort(kind) => on(table, kind_in(kind, table)),
         EventName::Budget => ScenarioHappening::Budget {
             mw: number_at(table, Key::Mw),
         },
-        EventName::Detach | EventName::Unknown => on(table, ScenarioEventKind::Detach),
+        EventName::Unknown => on(table, EventKind::Detach),
     }
 }
 

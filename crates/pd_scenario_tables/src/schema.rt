@@ -2,10 +2,10 @@
 //! that is absent.
 
 ghost use Rattle.std.specs.Prelude.{◌≡◌};
-ghost use Rattle.pd_scenario_tables.specs.Schema.{text_of, event_rules, sink_rules, rules_of};
+ghost use Rattle.pd_scenario_tables.specs.Schema.{text_of, kind_rules, event_rules, sink_rules, rules_of};
 
 use pd_scenario::Quantity;
-use pd_setup::SinkMode;
+use pd_setup::{EventKind, KindWord, SinkMode};
 
 /// The version of a file: events that change the budget, and sinks of Revision 2.0, are known to the second alone.
 #[derive(Clone, Copy, Debug, PartialEq, Eq)]
@@ -17,13 +17,9 @@ pub enum Version {
 /// What the word at the key `kind` of an event says; `Unknown` where it is none of a file's version.
 #[derive(Clone, Copy, Debug, PartialEq, Eq)]
 pub enum EventName {
-    Attach,
-    Detach,
-    Demand,
-    Lose,
-    Damage,
-    GetSource,
-    GetSink,
+    /// Something that happens on a port.
+    OnPort(KindWord),
+    /// A change of the budget.
     Budget,
     Unknown,
 }
@@ -101,6 +97,18 @@ impl Key {
     }
 }
 
+/// How often a cable is asked who it is, where no key says so.
+pub const DEFAULT_TRIES: i64 = 3;
+
+/// Whether a port's power is unconstrained, where no key says so.
+pub const DEFAULT_UNCONSTRAINED: bool = false;
+
+/// How a sink behaves, where no key says so.
+pub const DEFAULT_MODE: SinkMode = SinkMode::PowerDelivery;
+
+/// The revision that a sink speaks, where no key says so: 3.0.
+pub const DEFAULT_REVISION: i64 = 3;
+
 /// What stands where a key is absent.
 #[derive(Clone, Copy)]
 pub enum Need {
@@ -175,24 +183,32 @@ macro_rules! on_port {
     };
 }
 
+/// The keys of an event of a port, by its kind.
+fn kind_rules(kind: KindWord) -> &'static [Rule]
+    ensures { result.now ≡ kind_rules kind }
+{
+    match kind {
+        EventKind::Attach { .. } => on_port! {
+            Cable, Need::Required, Form::Name;
+            Sink, Need::Required, Form::Name;
+        },
+        EventKind::Demand(()) => on_port! {
+            Mw, Need::Required, Form::Number(Quantity::Demand);
+        },
+        EventKind::Damage(()) => on_port! {
+            Place, Need::Required, Form::Number(Quantity::DamagePlace);
+            Mask, Need::Required, Form::Number(Quantity::DamageMask);
+        },
+        _ => on_port! {},
+    }
+}
+
 /// The keys of an event.
 pub fn event_rules(name: EventName) -> &'static [Rule]
     ensures { result.now ≡ event_rules name }
 {
     match name {
-        EventName::Attach => on_port! {
-            Cable, Need::Required, Form::Name;
-            Sink, Need::Required, Form::Name;
-        },
-        EventName::Demand => on_port! {
-            Mw, Need::Required, Form::Number(Quantity::Demand);
-        },
-        EventName::Damage => on_port! {
-            Place, Need::Required, Form::Number(Quantity::DamagePlace);
-            Mask, Need::Required, Form::Number(Quantity::DamageMask);
-        },
-        EventName::Detach | EventName::Lose | EventName::GetSource | EventName::GetSink =>
-            on_port! {},
+        EventName::OnPort(kind) => kind_rules(kind),
         EventName::Budget => any_event! {
             Mw, Need::Required, Form::Number(Quantity::Budget);
         },
@@ -214,14 +230,14 @@ fn sink_rules(version: Version) -> &'static [Rule]
             Name, Need::Required, Form::Name;
             Max, Need::Required, Form::Number(Quantity::Voltage);
             Demand, Need::Required, Form::Number(Quantity::Demand);
-            Mode, Need::Mode(SinkMode::PowerDelivery), Form::ModeWord;
+            Mode, Need::Mode(DEFAULT_MODE), Form::ModeWord;
         },
         Version::Two => rules! {
             Name, Need::Required, Form::Name;
             Max, Need::Required, Form::Number(Quantity::Voltage);
             Demand, Need::Required, Form::Number(Quantity::Demand);
-            Mode, Need::Mode(SinkMode::PowerDelivery), Form::ModeWord;
-            Revision, Need::Number(3), Form::RevisionNumber;
+            Mode, Need::Mode(DEFAULT_MODE), Form::ModeWord;
+            Revision, Need::Number(DEFAULT_REVISION), Form::RevisionNumber;
         },
     }
 }
@@ -243,8 +259,8 @@ pub fn rules_of(version: Version, kind: TableKind) -> &'static [Rule]
         TableKind::Port => rules! {
             Floor, Need::Required, Form::Number(Quantity::Floor);
             Supplies, Need::Required, Form::Supplies;
-            IdentityTries, Need::Number(3), Form::Number(Quantity::IdentityTries);
-            Unconstrained, Need::Truth(false), Form::Truth;
+            IdentityTries, Need::Number(DEFAULT_TRIES), Form::Number(Quantity::IdentityTries);
+            Unconstrained, Need::Truth(DEFAULT_UNCONSTRAINED), Form::Truth;
         },
         TableKind::Cable => rules! {
             Name, Need::Required, Form::Name;

@@ -1,9 +1,10 @@
 //! The words of a scenario file alone, and its numbers that stand for a choice.
 
 ghost use Rattle.std.specs.Prelude.{◌≡◌};
-ghost use Rattle.pd_scenario_tables.specs.Words.{revision_of, version_of, event_named};
+ghost use Rattle.pd_scenario_tables.specs.Words.{revision_of, version_of, event_named, other_event};
 
 use crate::schema::{EventName, Version};
+use pd_scenario::kind_of;
 use pd_setup::SinkRevision;
 
 /// The revision of a number.
@@ -36,18 +37,18 @@ pub fn version_of(number: i64) -> Option<Version>
 pub fn event_named(version: Version, word: &str) -> EventName
     ensures { result ≡ event_named version word.now }
 {
-    match word {
-        "attach" => EventName::Attach,
-        "detach" => EventName::Detach,
-        "demand" => EventName::Demand,
-        "lose" => EventName::Lose,
-        "damage" => EventName::Damage,
-        "get_source" => EventName::GetSource,
-        "get_sink" => EventName::GetSink,
-        "budget" => match version {
-            Version::One => EventName::Unknown,
-            Version::Two => EventName::Budget,
-        },
+    match kind_of(word.as_bytes()) {
+        Some(kind) => EventName::OnPort(kind),
+        None => other_event(version, word),
+    }
+}
+
+/// What a word says that is no kind of event of a port.
+fn other_event(version: Version, word: &str) -> EventName
+    ensures { result ≡ other_event version word.now }
+{
+    match (version, word) {
+        (Version::Two, "budget") => EventName::Budget,
         _ => EventName::Unknown,
     }
 }

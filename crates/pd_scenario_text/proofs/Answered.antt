@@ -3,11 +3,11 @@ use Rattle.std.proofs.Common.{◌≡◌, ℕ, ◌<◌, ◌≤◌, ◌⊎◌, ◌
 use Rattle.std.specs.Prelude.{Option, Result}
 use Rattle.std.proofs.lemmas.Bool.{cases_Bool, false≢true}
 use Rattle.toml.specs.Data.{Members}
-use Rattle.pd_scenario.specs.Contents.{Contents, IsValid}
+use Rattle.pd_scenario.specs.Scenarios.{ScenarioData, IsValid}
 use Rattle.pd_scenario_tables.specs.declared.fault.ScenarioFault.{ScenarioFault}
 use Rattle.pd_scenario_tables.specs.declared.fault.ScenarioFault.TheVariants.{Toml, UnknownKey, WrongType, MissingKey, Range, Name, Duplicate, Supplies, Floors, UnknownName, Limit, Memory}
 use Rattle.pd_scenario_tables.specs.Numbers.{number_of}
-use Rattle.pd_scenario_text.specs.Contents.{Tables, tables_of, contents_of}
+use Rattle.pd_scenario_text.specs.FileTables.{Tables, tables_of, scenario_of}
 use Rattle.pd_scenario_text.specs.Refusals.{applies, refusals, refusal}
 use Rattle.pd_scenario_text.specs.Reading.{answered, reading, Answers, IsTextOf, Reads}
 use Rattle.pd_scenario_text.specs.Laws.{IsLeast}
@@ -16,7 +16,7 @@ use Rattle.pd_scenario_text.proofs.Valid.{valid}
 
 -- ---- an answer over the tables is one over the text
 
-pub read_answer : (ports : ℕ) (text : List ℕ) (t : Members) (answer : Result Contents ScenarioFault) → IsTextOf text t → (reading ports t ≡ Err Toml → ⊥) → Answers answer (reading ports t) → Reads ports text answer
+pub read_answer : (ports : ℕ) (text : List ℕ) (t : Members) (answer : Result ScenarioData ScenarioFault) → IsTextOf text t → (reading ports t ≡ Err Toml → ⊥) → Answers answer (reading ports t) → Reads ports text answer
 read_answer ports text t (Ok c) is refused h = (t, is, h)
 read_answer ports text t (Err Toml) is refused h = absurd (refused h)
 read_answer ports text t (Err UnknownKey) is refused h = (t, is, h)
@@ -56,7 +56,7 @@ above number fault (first ∷ faults) all there =
       | inr later ↦ above number fault faults all.1 later
     ]
 
-least : (test : ScenarioFault → Bool) (faults : List ScenarioFault) (c : Contents) (fault : ScenarioFault) → AreRising faults
+least : (test : ScenarioFault → Bool) (faults : List ScenarioFault) (c : ScenarioData) (fault : ScenarioFault) → AreRising faults
     → ((other : ScenarioFault) → (test other ≡ false) ⊎ IsIn other faults) → answered (find test faults) c ≡ Err fault → IsFirst test fault
 least test [] c fault rising left h = absurd (cc)
 least test (first ∷ faults) c fault rising left h =
@@ -124,9 +124,9 @@ refused_first ports d fault first =
 pub least_refusal : (ports : ℕ) (t : Members) (fault : ScenarioFault) → (reading ports t ≡ Err fault) ↔ IsLeast fault ports (tables_of t)
 least_refusal ports t fault = (
   λ h.
-      let both = least (λ f. applies f ports (tables_of t)) refusals (contents_of (tables_of t)) fault rising (listed ports (tables_of t)) h in
+      let both = least (λ f. applies f ports (tables_of t)) refusals (scenario_of (tables_of t)) fault rising (listed ports (tables_of t)) h in
       record { holds = both.0; lesser = both.1 },
-  λ h. ap (λ (o : Option ScenarioFault). answered o (contents_of (tables_of t))) (refused_first ports (tables_of t) fault (h.holds, h.lesser)),
+  λ h. ap (λ (o : Option ScenarioFault). answered o (scenario_of (tables_of t))) (refused_first ports (tables_of t) fault (h.holds, h.lesser)),
 )
 
 -- ---- accepted
@@ -152,26 +152,26 @@ none_of ports d none fault =
       | inr there ↦ passed_all (λ f. applies f ports d) refusals fault none there
     ]
 
-none_applies : (o : Option ScenarioFault) (c k : Contents) → answered o c ≡ Ok k → (o ≡ None) × (c ≡ k)
+none_applies : (o : Option ScenarioFault) (c k : ScenarioData) → answered o c ≡ Ok k → (o ≡ None) × (c ≡ k)
 none_applies None c k h = (refl, cc)
 none_applies (Some fault) c k h = absurd (cc)
 
-pub accepted_exactly : (ports : ℕ) (t : Members) (c : Contents)
-    → (reading ports t ≡ Ok c) ↔ ((contents_of (tables_of t) ≡ c) × ((fault : ScenarioFault) → applies fault ports (tables_of t) ≡ false))
+pub accepted_exactly : (ports : ℕ) (t : Members) (c : ScenarioData)
+    → (reading ports t ≡ Ok c) ↔ ((scenario_of (tables_of t) ≡ c) × ((fault : ScenarioFault) → applies fault ports (tables_of t) ≡ false))
 accepted_exactly ports t c = (
-  λ h. let both = none_applies (refusal ports (tables_of t)) (contents_of (tables_of t)) c h in (both.1, none_of ports (tables_of t) both.0),
-  λ both. same_answer (refusal ports (tables_of t)) (contents_of (tables_of t)) c (none_found (λ f. applies f ports (tables_of t)) refusals both.1) both.0,
+  λ h. let both = none_applies (refusal ports (tables_of t)) (scenario_of (tables_of t)) c h in (both.1, none_of ports (tables_of t) both.0),
+  λ both. same_answer (refusal ports (tables_of t)) (scenario_of (tables_of t)) c (none_found (λ f. applies f ports (tables_of t)) refusals both.1) both.0,
 )
 
-pub accepted_is_valid : (ports : ℕ) (t : Members) (c : Contents) → 1 ≤ ports → ports ≤ 8 → reading ports t ≡ Ok c → IsValid ports c
+pub accepted_is_valid : (ports : ℕ) (t : Members) (c : ScenarioData) → 1 ≤ ports → ports ≤ 8 → reading ports t ≡ Ok c → IsValid ports c
 accepted_is_valid ports t c some few h =
     let d = tables_of t in
-    let both = none_applies (refusal ports d) (contents_of d) c h in
+    let both = none_applies (refusal ports d) (scenario_of d) c h in
     let none = none_of ports d both.0 in
     let tables : Clean ports d = record { keys = none UnknownKey; types = none WrongType; complete = none MissingKey; ranged = none Range; named = none Name } in
     let later : Later ports d = record { tables = tables; single = none Duplicate; supplied = none Supplies } in
     let last : Last ports d = record { later = later; funded = none Floors; known = none UnknownName } in
-    same_valid ports (contents_of d) c both.1 (valid ports d some few last (none Limit))
+    same_valid ports (scenario_of d) c both.1 (valid ports d some few last (none Limit))
 
 -- a file of tables is never answered to be no TOML
 pub not_toml : (ports : ℕ) (t : Members) → reading ports t ≡ Err Toml → ⊥

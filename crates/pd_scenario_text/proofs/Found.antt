@@ -11,14 +11,14 @@ use Rattle.std.proofs.lemmas.Bool.Decides.{nat_tests}
 use Rattle.std.proofs.lemmas.List.{take_more, map-append, take-append-drop}
 use Rattle.std.proofs.lemmas.Map.Text.{is_eq-slice_cmp}
 use Rattle.std.proofs.lemmas.Slice.Eq.{bytes_eq-Decides}
-use Rattle.pd_scenario.specs.Contents.{names_differ, has_id, ids_differ, cable_named, sink_named, kind_is_known, names_are_known}
-use Rattle.pd_scenario.specs.declared.contents.NamedCable.{NamedCable}
-use Rattle.pd_scenario.specs.declared.contents.NamedSink.{NamedSink}
-use Rattle.pd_scenario.specs.declared.contents.ScenarioEventKind.{ScenarioEventKind}
-use Rattle.pd_scenario.specs.declared.contents.ScenarioEventKind.TheVariants.{Attach, Detach, Demand, Lose, Damage, GetSource, GetSink}
-use Rattle.pd_scenario.specs.declared.contents.ScenarioHappening.{ScenarioHappening}
-use Rattle.pd_scenario.specs.declared.contents.ScenarioHappening.TheVariants.{OnPort, Budget}
-use Rattle.pd_scenario.specs.declared.contents.ScenarioEvent.{ScenarioEvent}
+use Rattle.pd_scenario.specs.Scenarios.{names_differ, has_id, ids_differ, cable_named, sink_named, kind_is_known, names_are_known}
+use Rattle.pd_scenario.specs.declared.named.NamedCable.{NamedCable}
+use Rattle.pd_scenario.specs.declared.named.NamedSink.{NamedSink}
+use Rattle.pd_scenario.specs.Events.{ScenarioEventKind}
+use Rattle.pd_setup.specs.declared.event.EventKind.TheVariants.{Attach}
+use Rattle.pd_scenario.specs.declared.event.ScenarioHappening.{ScenarioHappening}
+use Rattle.pd_scenario.specs.declared.event.ScenarioHappening.TheVariants.{OnPort, Budget}
+use Rattle.pd_scenario.specs.declared.event.ScenarioEvent.{ScenarioEvent}
 use Rattle.pd_scenario_text.specs.Names.{texts, cable_names, sink_names, Has, kind_is_in, is_in, name_check}
 use Rattle.pd_scenario_text.proofs.Differing.{list_any-last, list_any-same, differ, differ-part, differ-last, turn_from, insert_has}
 use Rattle.pd_scenario_tables.proofs.Members.{list_any-map}
@@ -135,12 +135,7 @@ sink_there (sink ∷ sinks) name =
 known_kind : (cables : List NamedCable) (sinks : List NamedSink) (in_cables in_sinks : BTreeSet (Bor (List ℕ))) → Has (cable_names cables) in_cables → Has (sink_names sinks) in_sinks
     → (kind : ScenarioEventKind) → kind_is_in in_cables in_sinks kind ≡ kind_is_known cables sinks kind
 known_kind cables sinks in_cables in_sinks c s (Attach cable sink) = rw (c cable, s sink, cable_there cables cable, sink_there sinks sink)
-known_kind cables sinks in_cables in_sinks c s Detach = refl
-known_kind cables sinks in_cables in_sinks c s (Demand mw) = refl
-known_kind cables sinks in_cables in_sinks c s Lose = refl
-known_kind cables sinks in_cables in_sinks c s (Damage damage) = refl
-known_kind cables sinks in_cables in_sinks c s GetSource = refl
-known_kind cables sinks in_cables in_sinks c s GetSink = refl
+known_kind cables sinks in_cables in_sinks c s _ = refl
 
 known_happening : (cables : List NamedCable) (sinks : List NamedSink) (in_cables in_sinks : BTreeSet (Bor (List ℕ))) → Has (cable_names cables) in_cables → Has (sink_names sinks) in_sinks
     → (h : ScenarioHappening) → is_in in_cables in_sinks h ≡ names_are_known cables sinks h

@@ -2,7 +2,7 @@
 use Rattle.std.proofs.Common.{◌≡◌, ℕ, ◌==◌, ◌⊎◌, cond, List, refl, sym, ap, ◌∙◌, inl, inr, Err}
 use Rattle.std.specs.Prelude.{Result}
 use Rattle.toml.specs.Data.{Members}
-use Rattle.pd_scenario.specs.Contents.{Contents}
+use Rattle.pd_scenario.specs.Scenarios.{ScenarioData}
 use Rattle.pd_scenario_tables.specs.declared.fault.ScenarioFault.{ScenarioFault}
 use Rattle.pd_scenario_tables.specs.declared.fault.ScenarioFault.TheVariants.{Toml, UnknownKey, WrongType, MissingKey, Range, Name, Duplicate, Supplies, Floors, UnknownName, Limit, Memory}
 use Rattle.pd_scenario_tables.specs.Numbers.{number_of}
@@ -45,7 +45,7 @@ one f text a b x y =
           ]
     ]
 
-told_reading : (ports : ℕ) (text : List ℕ) (a : Result Contents ScenarioFault) → Reads ports text a → Told (reading ports) text a
+told_reading : (ports : ℕ) (text : List ℕ) (a : Result ScenarioData ScenarioFault) → Reads ports text a → Told (reading ports) text a
 told_reading ports text (Err Memory) h = inl refl
 told_reading ports text (Err Toml) h = inr (inl (refl, h))
 told_reading ports text a h = inr (inr h)
@@ -55,7 +55,7 @@ told_count text (Err Memory) h = inl refl
 told_count text (Err Toml) h = inr (inl (refl, h))
 told_count text a h = inr (inr h)
 
-pub one_answer : (ports : ℕ) (text : List ℕ) (a b : Result Contents ScenarioFault) → Reads ports text a → Reads ports text b → (a ≡ b) ⊎ ((a ≡ Err Memory) ⊎ (b ≡ Err Memory))
+pub one_answer : (ports : ℕ) (text : List ℕ) (a b : Result ScenarioData ScenarioFault) → Reads ports text a → Reads ports text b → (a ≡ b) ⊎ ((a ≡ Err Memory) ⊎ (b ≡ Err Memory))
 one_answer ports text a b x y = one (reading ports) text a b (told_reading ports text a x) (told_reading ports text b y)
 
 pub one_count : (text : List ℕ) (a b : Result ℕ ScenarioFault) → Counts text a → Counts text b → (a ≡ b) ⊎ ((a ≡ Err Memory) ⊎ (b ≡ Err Memory))

@@ -11,11 +11,11 @@ use Rattle.toml.specs.declared.value.Value.{Value}
 use Rattle.pd_setup.specs.Sinks.{IsSink}
 use Rattle.pd_setup.specs.Settings.{IsSettings}
 use Rattle.pd_scenario.specs.Names.{is_name}
-use Rattle.pd_scenario.specs.Contents.{Contents, IsValid, event_fits, names_differ, ids_differ, names_are_known, least_budget, floors_mw, is_funded}
+use Rattle.pd_scenario.specs.Scenarios.{ScenarioData, IsValid, event_fits, names_differ, ids_differ, names_are_known, least_budget, floors_mw, is_funded}
 use Rattle.pd_scenario.specs.declared.limits.Quantity.TheVariants as quantity
-use Rattle.pd_scenario.specs.declared.contents.NamedCable.{NamedCable}
-use Rattle.pd_scenario.specs.declared.contents.NamedSink.{NamedSink}
-use Rattle.pd_scenario.specs.declared.contents.ScenarioEvent.{ScenarioEvent}
+use Rattle.pd_scenario.specs.declared.named.NamedCable.{NamedCable}
+use Rattle.pd_scenario.specs.declared.named.NamedSink.{NamedSink}
+use Rattle.pd_scenario.specs.declared.event.ScenarioEvent.{ScenarioEvent}
 use Rattle.pd_scenario_tables.specs.declared.schema.Version.{Version}
 use Rattle.pd_scenario_tables.specs.declared.schema.TableKind.{TableKind}
 use Rattle.pd_scenario_tables.specs.declared.schema.TableKind.TheVariants.{Top, Port, Cable, Sink, Event}
@@ -28,7 +28,7 @@ use Rattle.pd_scenario_tables.specs.Schema.{rule}
 use Rattle.pd_scenario_tables.specs.Tables.{event_at, fails, event_fails, is_sound, is_sound_event, is_sound_port, IsSound, IsSoundPort}
 use Rattle.pd_scenario_tables.specs.Seen.{views}
 use Rattle.pd_scenario_tables.specs.Convert.{settings_of, cable_of, sink_of, event_of}
-use Rattle.pd_scenario_text.specs.Contents.{Tables, contents_of}
+use Rattle.pd_scenario_text.specs.FileTables.{Tables, scenario_of}
 use Rattle.pd_scenario_text.specs.Refusals.{fails_somewhere, has_duplicate, has_unknown_name, exceeds_budget, exceed_limits, exceeds_limit}
 use Rattle.pd_scenario_tables.proofs.Sound.{holds, needed}
 use Rattle.pd_scenario_tables.proofs.Parts.{cable_named, sink_named, sink_fits, port_fits}
@@ -146,7 +146,7 @@ every p Q f each (x ∷ xs) h =
 
 -- ---- the whole
 
-record Few (ports : ℕ) (c : Contents) : Type 0 where
+record Few (ports : ℕ) (c : ScenarioData) : Type 0 where
   settings : length c.settings ≡ ports
   events : length c.events ≤ 4096
   cables : length c.cables ≤ 64
@@ -163,18 +163,18 @@ few_of ports p e c s h =
     let w = d.1 in
     (grind (arith, nat_tests), grind (arith, nat_tests), grind (arith, nat_tests), grind (arith, nat_tests))
 
-few_is : (ports : ℕ) (c : Contents) → exceeds_limit ports c ≡ false → Few ports c
+few_is : (ports : ℕ) (c : ScenarioData) → exceeds_limit ports c ≡ false → Few ports c
 unfolding exceed_limits
 few_is ports c h =
     let all = few_of ports (length c.settings) (length c.events) (length c.cables) (length c.sinks) h in
     record { settings = all.0; events = all.1; cables = all.2; sinks = all.3 }
 
-record Single (c : Contents) : Type 0 where
+record Single (c : ScenarioData) : Type 0 where
   cables : names_differ (map (λ (cable : NamedCable). cable.name) c.cables) ≡ true
   sinks : names_differ (map (λ (sink : NamedSink). sink.name) c.sinks) ≡ true
   events : ids_differ c.events ≡ true
 
-single_is : (c : Contents) → has_duplicate c ≡ false → Single c
+single_is : (c : ScenarioData) → has_duplicate c ≡ false → Single c
 unfolding has_duplicate
 single_is c h =
     let x = names_differ (map (λ (cable : NamedCable). cable.name) c.cables) in
@@ -184,22 +184,22 @@ single_is c h =
     let b = or_parts (not y) (not z) a.1 in
     record { cables = not-false x a.0; sinks = not-false y b.0; events = not-false z b.1 }
 
-known_is : (c : Contents) → has_unknown_name c ≡ false → list_all (λ (e : ScenarioEvent). names_are_known c.cables c.sinks e.happening) c.events ≡ true
+known_is : (c : ScenarioData) → has_unknown_name c ≡ false → list_all (λ (e : ScenarioEvent). names_are_known c.cables c.sinks e.happening) c.events ≡ true
 unfolding has_unknown_name
 known_is c h = not-false (list_all (λ (e : ScenarioEvent). names_are_known c.cables c.sinks e.happening) c.events) h
 
 reached : (a b : ℕ) → nat_le a b ≡ true → a ≤ b
 reached a b h = grind (arith, nat_tests)
 
-funded_is : (c : Contents) → exceeds_budget c ≡ false → floors_mw c.settings ≤ least_budget c.budget_mw c.events
+funded_is : (c : ScenarioData) → exceeds_budget c ≡ false → floors_mw c.settings ≤ least_budget c.budget_mw c.events
 unfolding exceeds_budget
 funded_is c h = reached (floors_mw c.settings) (least_budget c.budget_mw c.events) (not-false (is_funded c) h)
 
-pub valid : (ports : ℕ) (d : Tables) → 1 ≤ ports → ports ≤ 8 → Last ports d → exceeds_limit ports (contents_of d) ≡ false → IsValid ports (contents_of d)
+pub valid : (ports : ℕ) (d : Tables) → 1 ≤ ports → ports ≤ 8 → Last ports d → exceeds_limit ports (scenario_of d) ≡ false → IsValid ports (scenario_of d)
 valid ports d some eight l limits =
     let h = l.later.tables in
-    let few = few_is ports (contents_of d) limits in
-    let single = single_is (contents_of d) l.later.single in
+    let few = few_is ports (scenario_of d) limits in
+    let single = single_is (scenario_of d) l.later.single in
     let cables = sound_cables ports d h in
     let sinks = sound_sinks ports d h in
     let top = sound_top ports d h in
@@ -218,8 +218,8 @@ valid ports d some eight l limits =
       sinks_differ = single.sinks;
       events_differ = single.events;
       events_fit = all_of (is_sound_event d.version ports) (event_fits ports) (event_of d.version) (λ t s. event_fit d.version ports t eight s) d.events (sound_events ports d h);
-      names_known = known_is (contents_of d) l.known;
+      names_known = known_is (scenario_of d) l.known;
       budget_fits = needed d.version ports key.Budget quantity.Budget d.top (holds d.version ports Top d.top (rule key.Budget Required (form.Number quantity.Budget)) top (2, lit< tt, refl));
-      funded = funded_is (contents_of d) l.funded;
+      funded = funded_is (scenario_of d) l.funded;
       end_fits = needed d.version ports key.End quantity.Time d.top (holds d.version ports Top d.top (rule key.End Required (form.Number quantity.Time)) top (1, lit< tt, refl));
     }

@@ -1,7 +1,7 @@
 -- The tables that the code keeps of a file.
 use Rattle.toml.specs.View.{table_view}
 use Rattle.pd_scenario_tables.specs.Seen.{views}
-use Rattle.pd_scenario_text.specs.Contents.{Tables}
+use Rattle.pd_scenario_text.specs.FileTables.{Tables}
 use Rattle.pd_scenario_text.specs.declared.document.Document.{Document}
 
 abbrev pub seen : Document → Tables

@@ -1,11 +1,11 @@
 -- What is proved of the definitions alone.
 use Rattle.std.specs.Prelude.{◌≡◌, ◌⊎◌, ◌↔◌, ℕ, ◌<◌, ◌≤◌, true, false, List, Result, Ok, Err}
 use Rattle.toml.specs.Data.{Members}
-use Rattle.pd_scenario.specs.Contents.{Contents, IsValid}
+use Rattle.pd_scenario.specs.Scenarios.{ScenarioData, IsValid}
 use Rattle.pd_scenario_tables.specs.declared.fault.ScenarioFault.{ScenarioFault}
 use Rattle.pd_scenario_tables.specs.declared.fault.ScenarioFault.TheVariants.{Memory}
 use Rattle.pd_scenario_tables.specs.Numbers.{number_of}
-use Rattle.pd_scenario_text.specs.Contents.{Tables, tables_of, contents_of}
+use Rattle.pd_scenario_text.specs.FileTables.{Tables, tables_of, scenario_of}
 use Rattle.pd_scenario_text.specs.Refusals.{applies}
 use Rattle.pd_scenario_text.specs.Reading.{reading, Reads, Counts}
 
@@ -21,18 +21,18 @@ LeastRefusal = (ports : ℕ) (t : Members) (fault : ScenarioFault) → (reading 
 -- a file is accepted exactly where no refusal applies, and then as what its tables say
 abbrev pub AcceptedExactly : Type 0
 AcceptedExactly =
-    (ports : ℕ) (t : Members) (c : Contents)
-    → (reading ports t ≡ Ok c) ↔ ((contents_of (tables_of t) ≡ c) × ((fault : ScenarioFault) → applies fault ports (tables_of t) ≡ false))
+    (ports : ℕ) (t : Members) (c : ScenarioData)
+    → (reading ports t ≡ Ok c) ↔ ((scenario_of (tables_of t) ≡ c) × ((fault : ScenarioFault) → applies fault ports (tables_of t) ≡ false))
 
 -- what is accepted is a valid scenario
 abbrev pub AcceptedIsValid : Type 0
 AcceptedIsValid =
-    (ports : ℕ) (t : Members) (c : Contents) → 1 ≤ ports → ports ≤ 8 → reading ports t ≡ Ok c → IsValid ports c
+    (ports : ℕ) (t : Members) (c : ScenarioData) → 1 ≤ ports → ports ≤ 8 → reading ports t ≡ Ok c → IsValid ports c
 
 -- two answers to a text are the same, but where memory was wanting
 abbrev pub OneAnswer : Type 0
 OneAnswer =
-    (ports : ℕ) (text : List ℕ) (a b : Result Contents ScenarioFault) → Reads ports text a → Reads ports text b
+    (ports : ℕ) (text : List ℕ) (a b : Result ScenarioData ScenarioFault) → Reads ports text a → Reads ports text b
     → (a ≡ b) ⊎ ((a ≡ Err Memory) ⊎ (b ≡ Err Memory))
 
 abbrev pub OneCount : Type 0

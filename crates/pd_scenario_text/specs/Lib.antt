@@ -1,4 +1,4 @@
-pub mod Contents
+pub mod FileTables
 pub mod Document
 pub mod Laws
 pub mod Names

@@ -3,14 +3,14 @@ use Rattle.std.specs.Prelude.{◌≡◌, ℕ, Bool, true, ◌&&◌, List, map, O
 use Rattle.std.specs.Borrow.{Bor}
 use Rattle.std.specs.List.{list_any, list_all}
 use Rattle.std.specs.BTreeSet.{BTreeSet}
-use Rattle.pd_scenario.specs.Contents.{names_differ, ids_differ, names_are_known}
-use Rattle.pd_scenario.specs.declared.contents.NamedCable.{NamedCable}
-use Rattle.pd_scenario.specs.declared.contents.NamedSink.{NamedSink}
-use Rattle.pd_scenario.specs.declared.contents.ScenarioEventKind.{ScenarioEventKind}
-use Rattle.pd_scenario.specs.declared.contents.ScenarioEventKind.TheVariants.{Attach, Detach, Demand, Lose, Damage, GetSource, GetSink}
-use Rattle.pd_scenario.specs.declared.contents.ScenarioHappening.{ScenarioHappening}
-use Rattle.pd_scenario.specs.declared.contents.ScenarioHappening.TheVariants.{OnPort, Budget}
-use Rattle.pd_scenario.specs.declared.contents.ScenarioEvent.{ScenarioEvent}
+use Rattle.pd_scenario.specs.Scenarios.{names_differ, ids_differ, names_are_known}
+use Rattle.pd_scenario.specs.declared.named.NamedCable.{NamedCable}
+use Rattle.pd_scenario.specs.declared.named.NamedSink.{NamedSink}
+use Rattle.pd_scenario.specs.Events.{ScenarioEventKind}
+use Rattle.pd_setup.specs.declared.event.EventKind.TheVariants.{Attach}
+use Rattle.pd_scenario.specs.declared.event.ScenarioHappening.{ScenarioHappening}
+use Rattle.pd_scenario.specs.declared.event.ScenarioHappening.TheVariants.{OnPort, Budget}
+use Rattle.pd_scenario.specs.declared.event.ScenarioEvent.{ScenarioEvent}
 
 abbrev pub texts : List (Bor (List ℕ)) → List (List ℕ)
 texts names = map (λ (name : Bor (List ℕ)). name.now) names
@@ -31,12 +31,7 @@ Has names set = (name : List ℕ) → has_text set name ≡ list_any (λ other. 
 
 abbrev pub kind_is_in : BTreeSet (Bor (List ℕ)) → BTreeSet (Bor (List ℕ)) → ScenarioEventKind → Bool
 kind_is_in cables sinks (Attach cable sink) = has_text cables cable && has_text sinks sink
-kind_is_in cables sinks Detach = true
-kind_is_in cables sinks (Demand mw) = true
-kind_is_in cables sinks Lose = true
-kind_is_in cables sinks (Damage damage) = true
-kind_is_in cables sinks GetSource = true
-kind_is_in cables sinks GetSink = true
+kind_is_in cables sinks _ = true
 
 abbrev pub is_in : BTreeSet (Bor (List ℕ)) → BTreeSet (Bor (List ℕ)) → ScenarioHappening → Bool
 is_in cables sinks (OnPort port kind) = kind_is_in cables sinks kind

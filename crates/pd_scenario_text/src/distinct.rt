@@ -2,10 +2,11 @@
 
 ghost use Rattle.std.specs.Prelude.{◌≡◌, is_some, IfOk, IfSome};
 ghost use Rattle.std.specs.List.{list_all};
-ghost use Rattle.pd_scenario.specs.Contents.{names_differ, ids_differ};
+ghost use Rattle.pd_scenario.specs.Scenarios.{names_differ, ids_differ};
 ghost use Rattle.pd_scenario_text.specs.Names.{texts, cable_names, sink_names, has_text, Has, kind_is_in, is_in, name_check};
 
 use pd_scenario::{NamedCable, NamedSink, ScenarioEvent, ScenarioEventKind, ScenarioHappening};
+use pd_setup::EventKind;
 use std::alloc::{AllocError, Global};
 use std::collections::BTreeSet;
 
@@ -68,15 +69,10 @@ fn kind_is_in(cables: &BTreeSet<&str>, sinks: &BTreeSet<&str>, kind: &ScenarioEv
     ensures { result ≡ kind_is_in cables.now sinks.now kind.now }
 {
     match kind {
-        ScenarioEventKind::Attach { cable, sink } => {
+        EventKind::Attach { cable, sink } => {
             has_text(cables, cable.as_str()) && has_text(sinks, sink.as_str())
         }
-        ScenarioEventKind::Detach => true,
-        ScenarioEventKind::Demand(_) => true,
-        ScenarioEventKind::Lose => true,
-        ScenarioEventKind::Damage(_) => true,
-        ScenarioEventKind::GetSource => true,
-        ScenarioEventKind::GetSink => true,
+        _ => true,
     }
 }
 

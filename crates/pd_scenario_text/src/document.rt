@@ -4,7 +4,7 @@ ghost use Rattle.std.specs.Prelude.{◌≡◌, ◌≤◌, pos, find, IfOk};
 ghost use Rattle.toml.specs.View.{table_view};
 ghost use Rattle.pd_scenario_tables.specs.Values.{small};
 ghost use Rattle.pd_scenario_tables.specs.Tables.{value_at, whole_in};
-ghost use Rattle.pd_scenario_text.specs.Contents.{tables_of, contents_of};
+ghost use Rattle.pd_scenario_text.specs.FileTables.{tables_of, scenario_of};
 ghost use Rattle.pd_scenario_text.specs.Refusals.{fails_somewhere, table_refusals, refusal, exceed_limits};
 ghost use Rattle.pd_scenario_text.specs.Reading.{answered, Answers};
 
@@ -103,7 +103,7 @@ impl<'a> Document<'a> {
     pub fn scenario<const N: usize>(&self, alloc: Global) -> Result<Scenario<N>, ScenarioFault>
         requires from_one { 1 ≤ N }
         requires to_eight { N ≤ 8 }
-        ensures { Answers result (answered (refusal N (seen self.now)) (contents_of (seen self.now))) }
+        ensures { Answers result (answered (refusal N (seen self.now)) (scenario_of (seen self.now))) }
     {
         let ports = N as u64;
         if let Some(fault) = self.first_refusal(ports) {

@@ -8,28 +8,73 @@ use pd_identity::Cable;
 use pd_packet::Damage;
 use std::marker::Model;
 
-/// What an event does to its port.
-#[derive(Clone, Copy, Debug)]
-pub enum EventKind {
+/// The kinds of events of a port. What a kind carries is said in the terms of whoever speaks of it, its parameters: the
+/// cable and the sink that are attached, the demand, and the damage.
+#[derive(Clone, Copy, Debug, Drop, PartialEq, Eq)]
+pub enum EventKind<C, S, D, M> {
     /// A sink is attached through a cable.
-    Attach { cable: Cable, sink: SinkSettings },
+    Attach { cable: C, sink: S },
     /// The cable is pulled out.
     Detach,
     /// The sink wants another power from now on.
-    Demand(Demand),
+    Demand(D),
     /// The next packet that starts is lost.
     Lose,
     /// The next packet that starts is damaged.
-    Damage(Damage),
+    Damage(M),
     /// The sink is to ask for the source's capabilities.
     GetSource,
     /// The source is to ask for the sink's capabilities.
     GetSink,
 }
 
-impl EventKind {
+/// What becomes of a kind: one arm for each kind that carries something, and one for all that carry nothing, in which a
+/// variable stands for the kind in the terms that are wanted.
+#[macro_export]
+macro_rules! by_kind {
+    (
+        $kind:expr;
+        Attach { $cable:pat, $sink:pat } => $attach:expr,
+        Demand($power:pat) => $demand:expr,
+        Damage($harm:pat) => $damage:expr,
+        $plain:ident => $other:expr $(,)?
+    ) => {
+        match $kind {
+            $crate::EventKind::Attach {
+                cable: $cable,
+                sink: $sink,
+            } => $attach,
+            $crate::EventKind::Demand($power) => $demand,
+            $crate::EventKind::Damage($harm) => $damage,
+            $crate::EventKind::Detach => {
+                let $plain = $crate::EventKind::Detach;
+                $other
+            }
+            $crate::EventKind::Lose => {
+                let $plain = $crate::EventKind::Lose;
+                $other
+            }
+            $crate::EventKind::GetSource => {
+                let $plain = $crate::EventKind::GetSource;
+                $other
+            }
+            $crate::EventKind::GetSink => {
+                let $plain = $crate::EventKind::GetSink;
+                $other
+            }
+        }
+    };
+}
+
+/// The kind alone, which a word stands for.
+pub type KindWord = EventKind<(), (), (), ()>;
+
+/// A kind at a port, with the cable and the sink themselves.
+pub type PortEventKind = EventKind<Cable, SinkSettings, Demand, Damage>;
+
+impl PortEventKind {
     /// Whether both are the same.
-    pub fn same(&self, other: &EventKind) -> bool
+    pub fn same(&self, other: &PortEventKind) -> bool
         ensures { IsTrue result ↔ (self.now ≡ other.now) }
     {
         match (self, other) {
@@ -55,7 +100,7 @@ impl EventKind {
 /// share.
 #[derive(Clone, Copy, Debug)]
 pub enum Happening {
-    Port { id: u32, kind: EventKind },
+    Port { id: u32, kind: PortEventKind },
     Budget,
 }
 

@@ -5,6 +5,6 @@ mod event;
 mod settings;
 mod sink;
 
-pub use event::{Event, EventKind, Happening};
+pub use event::{Event, EventKind, Happening, KindWord, PortEventKind};
 pub use settings::Settings;
 pub use sink::{Demand, SinkMode, SinkRevision, SinkSettings};

@@ -1,5 +1,5 @@
 use Rattle.std.proofs.Common.{◌≡◌, ◌+◌, take}
-use Rattle.pd_scenario.specs.Contents.{floors_mw}
+use Rattle.pd_scenario.specs.Scenarios.{floors_mw}
 use Rattle.pd_scenario.proofs.floors.are_funded.Given as goal
 
 abbrev pub invariant-loop-port : goal.invariant-loop-port

@@ -1,5 +1,5 @@
 use Rattle.std.proofs.Common.{◌≡◌, take}
-use Rattle.pd_scenario.specs.Contents.{least_budget}
+use Rattle.pd_scenario.specs.Scenarios.{least_budget}
 use Rattle.pd_scenario.proofs.floors.least_budget.Given as goal
 
 abbrev pub invariant-loop-event : goal.invariant-loop-event

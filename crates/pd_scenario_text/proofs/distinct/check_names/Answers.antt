@@ -1,5 +1,5 @@
 use Rattle.std.proofs.Common.{◌≡◌, ◌∙◌, sym, ap, true}
-use Rattle.pd_scenario.specs.Contents.{names_differ}
+use Rattle.pd_scenario.specs.Scenarios.{names_differ}
 use Rattle.pd_scenario_text.specs.Names.{texts, cable_names, sink_names, Has}
 use Rattle.pd_scenario_text.proofs.Found.{checked}
 use Rattle.pd_scenario_text.proofs.distinct.check_names.Goals as goal

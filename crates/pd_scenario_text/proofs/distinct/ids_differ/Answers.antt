@@ -1,5 +1,5 @@
 use Rattle.std.proofs.Common.{◌∙◌, ◌+◌, sym, ap, drop, take}
-use Rattle.pd_scenario.specs.Contents.{ids_differ, has_id}
+use Rattle.pd_scenario.specs.Scenarios.{ids_differ, has_id}
 use Rattle.pd_scenario_text.proofs.Found.{id_differs, id_found, ids_part, events_more, events_whole}
 use Rattle.pd_scenario_text.proofs.distinct.ids_differ.Goals as goal
 

@@ -1,7 +1,7 @@
 use Rattle.std.proofs.Common.{◌∙◌, ◌+◌, sym, ap, drop, take, get_or}
 use Rattle.std.specs.List.{list_any}
 use Rattle.std.specs.Prelude.{bytes_eq}
-use Rattle.pd_scenario.specs.Contents.{names_differ}
+use Rattle.pd_scenario.specs.Scenarios.{names_differ}
 use Rattle.pd_scenario_text.specs.Names.{texts}
 use Rattle.pd_scenario_text.proofs.Found.{name_differs, name_found, names_part, texts_next, texts_whole, no_text}
 use Rattle.pd_scenario_text.proofs.distinct.set_of.Goals as goal

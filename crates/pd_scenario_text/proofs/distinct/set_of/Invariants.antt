@@ -1,5 +1,5 @@
 use Rattle.std.proofs.Common.{◌≡◌, take, true}
-use Rattle.pd_scenario.specs.Contents.{names_differ}
+use Rattle.pd_scenario.specs.Scenarios.{names_differ}
 use Rattle.pd_scenario_text.specs.Names.{texts, Has}
 use Rattle.pd_scenario_text.proofs.distinct.set_of.Given as goal
 

@@ -1,7 +1,7 @@
 -- What the tables of a file say together.
 use Rattle.std.specs.Prelude.{List, map}
 use Rattle.toml.specs.Data.{Members}
-use Rattle.pd_scenario.specs.Contents.{Contents}
+use Rattle.pd_scenario.specs.Scenarios.{ScenarioData}
 use Rattle.pd_scenario_tables.specs.declared.schema.Version.{Version}
 use Rattle.pd_scenario_tables.specs.declared.schema.Key.TheVariants as key
 use Rattle.pd_scenario_tables.specs.Schema.{top_rules}
@@ -27,8 +27,8 @@ tables_of t = record {
   events = tables_at key.Event t;
 }
 
-abbrev pub contents_of : Tables → Contents
-contents_of d = record {
+abbrev pub scenario_of : Tables → ScenarioData
+scenario_of d = record {
   settings = map settings_of d.ports;
   cables = map cable_of d.cables;
   sinks = map sink_of d.sinks;

@@ -7,17 +7,17 @@ use Rattle.pd_setup.specs.Settings.{SettingsData, IsSettings}
 use Rattle.pd_scenario.specs.Names.{is_name}
 use Rattle.pd_scenario.specs.Limits.{allows, is_port, most_ports, most_names, most_events}
 use Rattle.pd_scenario.specs.declared.limits.Quantity.TheVariants as quantity
-use Rattle.pd_scenario.specs.declared.contents.NamedCable.{NamedCable}
-use Rattle.pd_scenario.specs.declared.contents.NamedSink.{NamedSink}
-use Rattle.pd_scenario.specs.declared.contents.ScenarioEventKind.{ScenarioEventKind}
-use Rattle.pd_scenario.specs.declared.contents.ScenarioEventKind.TheVariants.{Attach, Detach, Demand, Lose, Damage, GetSource, GetSink}
-use Rattle.pd_scenario.specs.declared.contents.ScenarioHappening.{ScenarioHappening}
-use Rattle.pd_scenario.specs.declared.contents.ScenarioHappening.TheVariants.{OnPort, Budget}
-use Rattle.pd_scenario.specs.declared.contents.ScenarioEvent.{ScenarioEvent}
+use Rattle.pd_scenario.specs.declared.named.NamedCable.{NamedCable}
+use Rattle.pd_scenario.specs.declared.named.NamedSink.{NamedSink}
+use Rattle.pd_scenario.specs.Events.{ScenarioEventKind}
+use Rattle.pd_setup.specs.declared.event.EventKind.TheVariants.{Attach, Demand, Damage}
+use Rattle.pd_scenario.specs.declared.event.ScenarioHappening.{ScenarioHappening}
+use Rattle.pd_scenario.specs.declared.event.ScenarioHappening.TheVariants.{OnPort, Budget}
+use Rattle.pd_scenario.specs.declared.event.ScenarioEvent.{ScenarioEvent}
 
 -- the settings of the ports, cables, sinks and events in the order of their making, the budget in mW and the end in
 -- microseconds
-pub record Contents : Type 0 where
+pub record ScenarioData : Type 0 where
   pub settings : List SettingsData
   pub cables : List NamedCable
   pub sinks : List NamedSink
@@ -49,12 +49,7 @@ ids_differ (e ∷ events) = not (has_id events e.id) && ids_differ events
 -- the cable and the sink that an attach names are there
 abbrev pub kind_is_known : List NamedCable → List NamedSink → ScenarioEventKind → Bool
 kind_is_known cables sinks (Attach cable sink) = is_some (cable_named cables cable) && is_some (sink_named sinks sink)
-kind_is_known cables sinks Detach = true
-kind_is_known cables sinks (Demand mw) = true
-kind_is_known cables sinks Lose = true
-kind_is_known cables sinks (Damage damage) = true
-kind_is_known cables sinks GetSource = true
-kind_is_known cables sinks GetSink = true
+kind_is_known cables sinks _ = true
 
 abbrev pub names_are_known : List NamedCable → List NamedSink → ScenarioHappening → Bool
 names_are_known cables sinks (OnPort port kind) = kind_is_known cables sinks kind
@@ -63,12 +58,9 @@ names_are_known cables sinks (Budget mw) = true
 -- the numbers of an event are within their limits, and its port is one of n
 abbrev pub kind_fits : ScenarioEventKind → Bool
 kind_fits (Attach cable sink) = is_name cable && is_name sink
-kind_fits Detach = true
 kind_fits (Demand mw) = allows quantity.Demand mw
-kind_fits Lose = true
 kind_fits (Damage damage) = allows quantity.DamagePlace damage.place && allows quantity.DamageMask damage.mask
-kind_fits GetSource = true
-kind_fits GetSink = true
+kind_fits _ = true
 
 abbrev pub happening_fits : ℕ → ScenarioHappening → Bool
 happening_fits n (OnPort port kind) = is_port n port && kind_fits kind
@@ -98,11 +90,11 @@ abbrev pub are_funded : List SettingsData → ℕ → Bool
 are_funded settings mw = nat_le (floors_mw settings) mw
 
 -- the floors add to no more than the least of the budget and its changes
-abbrev pub is_funded : Contents → Bool
+abbrev pub is_funded : ScenarioData → Bool
 is_funded c = are_funded c.settings (least_budget c.budget_mw c.events)
 
 -- what every scenario of n ports keeps
-pub record IsValid (n : ℕ) (c : Contents) : Type 0 where
+pub record IsValid (n : ℕ) (c : ScenarioData) : Type 0 where
   pub some_port : 1 ≤ n
   pub few_ports : n ≤ most_ports
   pub settings_count : length c.settings ≡ n
