@@ -20,19 +20,19 @@ row number name senders = record { number = number; name = name; senders = sende
 
 -- the table: first the control messages, which have no objects, then the data messages, which have one at the least
 abbrev pub message_row : Kind → MessageRow
-message_row GoodCrc = row 1 (codes "GoodCRC") (Source ∷ Sink ∷ Plug ∷ [])
-message_row Accept = row 3 (codes "Accept") (Source ∷ Sink ∷ [])
-message_row Reject = row 4 (codes "Reject") (Source ∷ [])
-message_row PsRdy = row 6 (codes "PS_RDY") (Source ∷ [])
-message_row GetSourceCap = row 7 (codes "Get_Source_Cap") (Sink ∷ [])
-message_row GetSinkCap = row 8 (codes "Get_Sink_Cap") (Source ∷ [])
-message_row Wait = row 12 (codes "Wait") (Source ∷ [])
-message_row SoftReset = row 13 (codes "Soft_Reset") (Source ∷ Sink ∷ [])
+message_row GoodCrc = row 1 (codes "GoodCRC") (Source ∷ Sink ∷ Plug ∷ [])  -- answers each message but GoodCRC
+message_row Accept = row 3 (codes "Accept") (Source ∷ Sink ∷ [])  -- answers Request and Soft_Reset
+message_row Reject = row 4 (codes "Reject") (Source ∷ [])  -- answers Request
+message_row PsRdy = row 6 (codes "PS_RDY") (Source ∷ [])  -- comes after Accept, when the power is as agreed
+message_row GetSourceCap = row 7 (codes "Get_Source_Cap") (Sink ∷ [])  -- asks for Source_Capabilities
+message_row GetSinkCap = row 8 (codes "Get_Sink_Cap") (Source ∷ [])  -- asks for Sink_Capabilities
+message_row Wait = row 12 (codes "Wait") (Source ∷ [])  -- answers Request
+message_row SoftReset = row 13 (codes "Soft_Reset") (Source ∷ Sink ∷ [])  -- asks for Accept
 message_row NotSupported = row 16 (codes "Not_Supported") []
-message_row SourceCapabilities = row 1 (codes "Source_Capabilities") (Source ∷ [])
-message_row Request = row 2 (codes "Request") (Sink ∷ [])
-message_row SinkCapabilities = row 4 (codes "Sink_Capabilities") (Sink ∷ [])
-message_row VendorDefined = row 15 (codes "Vendor_Defined") (Source ∷ Plug ∷ [])
+message_row SourceCapabilities = row 1 (codes "Source_Capabilities") (Source ∷ [])  -- answers Get_Source_Cap, asks for Request
+message_row Request = row 2 (codes "Request") (Sink ∷ [])  -- answers Source_Capabilities, asks for Accept, Reject or Wait
+message_row SinkCapabilities = row 4 (codes "Sink_Capabilities") (Sink ∷ [])  -- answers Get_Sink_Cap
+message_row VendorDefined = row 15 (codes "Vendor_Defined") (Source ∷ Plug ∷ [])  -- Discover Identity and its answer
 message_row (Other number) = row number (codes "Type" ++ decimal number) []
 
 abbrev pub number_of : Kind → ℕ

@@ -102,7 +102,7 @@ none_line cable (GoodCrc side p a fate end) h = none_on cable side p h
 none_line cable (NoAnswer side p end) h = none_on cable side p h
 none_line cable (HardReset side end) h = tt
 
--- no message of the sink's is of type 15
+-- no message of the sink's is of the type of Vendor_Defined
 pub sink_tells : (cable : Option Cable) (s : SinkSending) → WaitsToTell cable (waits.Message (sink_message s))
 sink_tells cable (sink_sending.Request object) e = absurd (cc)
 sink_tells cable sink_sending.GetSourceCap e = absurd (cc)

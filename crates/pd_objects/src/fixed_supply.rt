@@ -137,6 +137,7 @@ impl FixedSupply {
         ensures value { result ≡ self.now.voltage }
         ensures is_fixed_supply { IsFixedSupply self.now }
     {
+        // Read for the proof alone, which then knows its range.
         let _current = self.current;
         self.voltage
     }
@@ -146,6 +147,7 @@ impl FixedSupply {
         ensures value { result ≡ self.now.current }
         ensures is_fixed_supply { IsFixedSupply self.now }
     {
+        // Read for the proof alone, which then knows its range.
         let _voltage = self.voltage;
         self.current
     }

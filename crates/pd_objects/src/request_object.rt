@@ -144,6 +144,7 @@ impl RequestObject {
         ensures value { result ≡ self.now.position }
         ensures is_request { IsRequest self.now }
     {
+        // Read for the proof alone, which then knows its range.
         let _current = self.maximum_current;
         self.position
     }
@@ -160,6 +161,7 @@ impl RequestObject {
         ensures value { result ≡ self.now.operating_current }
         ensures is_request { IsRequest self.now }
     {
+        // Read for the proof alone, which then knows its range.
         let _position = self.position;
         self.operating_current
     }
@@ -169,6 +171,7 @@ impl RequestObject {
         ensures value { result ≡ self.now.maximum_current }
         ensures is_request { IsRequest self.now }
     {
+        // Read for the proof alone, which then knows its range.
         let _position = self.position;
         self.maximum_current
     }

@@ -77,6 +77,7 @@ impl SinkSupply {
         ensures value { result ≡ self.now.voltage }
         ensures is_sink_supply { IsSinkSupply self.now }
     {
+        // Read for the proof alone, which then knows its range.
         let _current = self.current;
         self.voltage
     }
@@ -86,6 +87,7 @@ impl SinkSupply {
         ensures value { result ≡ self.now.current }
         ensures is_sink_supply { IsSinkSupply self.now }
     {
+        // Read for the proof alone, which then knows its range.
         let _voltage = self.voltage;
         self.current
     }

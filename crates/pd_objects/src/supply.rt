@@ -37,6 +37,7 @@ impl Supply {
         ensures value { result ≡ self.now.mv }
         ensures is_supply { IsSupply self.now }
     {
+        // Read for the proof alone, which then knows its range.
         let _ma = self.ma;
         self.mv
     }
@@ -46,6 +47,7 @@ impl Supply {
         ensures value { result ≡ self.now.ma }
         ensures is_supply { IsSupply self.now }
     {
+        // Read for the proof alone, which then knows its range.
         let _mv = self.mv;
         self.ma
     }

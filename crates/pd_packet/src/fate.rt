@@ -37,6 +37,7 @@ impl Damage {
         ensures value { result ≡ self.now.place }
         ensures is_damage { IsDamage self.now }
     {
+        // Read for the proof alone, which then knows its range.
         let _mask = self.mask;
         self.place
     }
@@ -46,6 +47,7 @@ impl Damage {
         ensures value { result ≡ self.now.mask }
         ensures is_damage { IsDamage self.now }
     {
+        // Read for the proof alone, which then knows its range.
         let _place = self.place;
         self.mask
     }

@@ -66,6 +66,7 @@ impl Message {
         ensures objects { result.now ≡ self.now.objects }
         ensures is_message { IsMessage self.now }
     {
+        // Read for the proof alone, which then knows its range.
         let _kind = self.kind;
         let objects = self.objects.as_slice();
         objects
