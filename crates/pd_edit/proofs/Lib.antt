@@ -5,6 +5,7 @@ pub mod Floors
 pub mod Least
 pub mod Listed
 pub mod Named
+pub mod Outcome
 pub mod Parts
 pub mod Ports
 pub mod Settings

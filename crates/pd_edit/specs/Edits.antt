@@ -1,5 +1,5 @@
 -- What a scenario is after an edit: this product's own, the lines and kinds of docs/FORMATS.md, "Edit script".
-use Rattle.std.specs.Prelude.{◌≡◌, ℕ, ◌≤◌, ◌+◌, Bool, not, ◌==◌, List, [], ◌∷◌, ◌++◌, filter, map, length, slice_get, option_map, Some, unwrap_or, bytes_eq, is_some, if◌then◌else◌}
+use Rattle.std.specs.Prelude.{◌≡◌, ℕ, ◌≤◌, ◌+◌, Bool, true, not, ◌==◌, List, [], ◌∷◌, ◌++◌, filter, map, length, slice_get, option_map, Some, unwrap_or, bytes_eq, is_some, if◌then◌else◌}
 use Rattle.pd_objects.specs.Supply.{SupplyData}
 use Rattle.pd_identity.specs.declared.CablePlug.{CablePlug}
 use Rattle.pd_identity.specs.declared.Rating.TheVariants.{ThreeAmperes}
@@ -16,6 +16,7 @@ use Rattle.pd_setup.specs.declared.event.EventKind.TheVariants.{Attach, Demand, 
 use Rattle.pd_scenario.specs.declared.event.ScenarioHappening.{ScenarioHappening}
 use Rattle.pd_scenario.specs.declared.event.ScenarioHappening.TheVariants as scenario_happening
 use Rattle.pd_scenario.specs.Scenarios.{ScenarioData, cable_named, sink_named}
+use Rattle.pd_scenario.specs.Names.{is_name}
 use Rattle.pd_scenario.specs.Words.{rating_of}
 use Rattle.pd_edit_lines.specs.Kinds.{EditKind}
 use Rattle.pd_edit_lines.specs.declared.edit.WrittenDamage.{WrittenDamage}
@@ -119,6 +120,12 @@ abbrev pub with_floor : ℕ → SettingsData → SettingsData
 with_floor mw s = record s { floor_mw = mw }
 
 -- ---- the whole
+
+-- the names of what an edit makes new are names
+abbrev pub HasNames : Edit → Type 0
+HasNames (Cable name plug rating) = is_name name ≡ true
+HasNames (Sink name max_mv demand_mw mode revision) = is_name name ≡ true
+HasNames _ = Unit {0}
 
 -- the scenario after an edit: what is new stands last
 abbrev pub outcome : ScenarioData → Edit → ScenarioData

@@ -4,7 +4,7 @@ ghost use Rattle.std.specs.Prelude.{◌≡◌, ◌≤◌, ◌==◌, ℕ, true, n
 ghost use Rattle.pd_edit.specs.Edits.{moved_event, changed_event, event_kind_of, without_cable, without_sink, changed_port, with_floor, AreSupplies};
 ghost use Rattle.pd_edit.specs.Refusals.{kind_in_range};
 
-use crate::made::{changed_event, with_floor_at, with_supplies_at};
+use crate::made::{changed_event, event_kind_of, moved_event, with_floor_at, with_supplies_at};
 use arrayvec::ArrayVec;
 use pd_edit_lines::EditKind;
 use pd_objects::Supply;
@@ -20,10 +20,7 @@ pub(crate) fn with_event(
 ) -> Result<Vec<ScenarioEvent>, AllocError>
     ensures { IfOk result (λ v. v.items ≡ events.now ++ event ∷ []) }
 {
-    let mut copies = Vec::new(alloc);
-    for other in events {
-        copies.push(other.copy())?;
-    }
+    let mut copies: Vec<_> = events.iter().map(|old| old.copy()).collect(alloc)?;
     copies.push(event)?;
     Ok(copies)
 }
@@ -36,13 +33,8 @@ pub(crate) fn without_event(
 ) -> Result<Vec<ScenarioEvent>, AllocError>
     ensures { IfOk result (λ v. v.items ≡ filter (λ e. not (e.id == id)) events.now) }
 {
-    let mut others = Vec::new(alloc);
-    for event in events {
-        if u64::from(event.id) != id {
-            others.push(event.copy())?;
-        }
-    }
-    Ok(others)
+    let others = events.iter().filter(|event| u64::from(event.id) != id);
+    others.map(|event| event.copy()).collect(alloc)
 }
 
 /// The events with the one of an id at another time, in microseconds.
@@ -54,15 +46,10 @@ pub(crate) fn with_time(
 ) -> Result<Vec<ScenarioEvent>, AllocError>
     ensures { IfOk result (λ v. v.items ≡ map (moved_event id at) events.now) }
 {
-    let mut copies = Vec::new(alloc);
-    for event in events {
-        let mut copy = event.copy();
-        if u64::from(event.id) == id {
-            copy.at = at;
-        }
-        copies.push(copy)?;
-    }
-    Ok(copies)
+    events
+        .iter()
+        .map(|event| moved_event(id, at, event))
+        .collect(alloc)
 }
 
 /// The events with another kind of the one of an id.
@@ -75,11 +62,11 @@ pub(crate) fn with_kind(
     requires { kind_in_range kind.now ≡ true }
     ensures { IfOk result (λ v. v.items ≡ map (changed_event id (event_kind_of kind.now)) events.now) }
 {
-    let mut copies = Vec::new(alloc);
-    for event in events {
-        copies.push(changed_event(id, kind, event))?;
-    }
-    Ok(copies)
+    let kind = event_kind_of(kind);
+    events
+        .iter()
+        .map(|event| changed_event(id, &kind, event))
+        .collect(alloc)
 }
 
 /// The cables and one more.
@@ -90,10 +77,7 @@ pub(crate) fn with_new_cable(
 ) -> Result<Vec<NamedCable>, AllocError>
     ensures { IfOk result (λ v. v.items ≡ cables.now ++ cable ∷ []) }
 {
-    let mut copies = Vec::new(alloc);
-    for other in cables {
-        copies.push(other.copy())?;
-    }
+    let mut copies: Vec<_> = cables.iter().map(|old| old.copy()).collect(alloc)?;
     copies.push(cable)?;
     Ok(copies)
 }
@@ -106,12 +90,14 @@ pub(crate) fn with_other_cable(
 ) -> Result<Vec<NamedCable>, AllocError>
     ensures { IfOk result (λ v. v.items ≡ map (λ old. if bytes_eq old.name new.now.name then new.now else old) cables.now) }
 {
-    let mut copies = Vec::new(alloc);
-    for old in cables {
-        let is_old = old.name.as_str() == new.name.as_str();
-        copies.push(if is_old { new.copy() } else { old.copy() })?;
-    }
-    Ok(copies)
+    cables
+        .iter()
+        .map(|old| if old.name.as_str() == new.name.as_str() {
+            new.copy()
+        } else {
+            old.copy()
+        })
+        .collect(alloc)
 }
 
 /// The cables without the one of a name.
@@ -122,13 +108,10 @@ pub(crate) fn without_cable(
 ) -> Result<Vec<NamedCable>, AllocError>
     ensures { IfOk result (λ v. v.items ≡ without_cable name.now cables.now) }
 {
-    let mut others = Vec::new(alloc);
-    for cable in cables {
-        if cable.name.as_str() != name.as_str() {
-            others.push(cable.copy())?;
-        }
-    }
-    Ok(others)
+    let others = cables
+        .iter()
+        .filter(|cable| cable.name.as_str() != name.as_str());
+    others.map(|cable| cable.copy()).collect(alloc)
 }
 
 /// The sinks and one more.
@@ -139,10 +122,7 @@ pub(crate) fn with_new_sink(
 ) -> Result<Vec<NamedSink>, AllocError>
     ensures { IfOk result (λ v. v.items ≡ sinks.now ++ sink ∷ []) }
 {
-    let mut copies = Vec::new(alloc);
-    for other in sinks {
-        copies.push(other.copy())?;
-    }
+    let mut copies: Vec<_> = sinks.iter().map(|old| old.copy()).collect(alloc)?;
     copies.push(sink)?;
     Ok(copies)
 }
@@ -155,12 +135,14 @@ pub(crate) fn with_other_sink(
 ) -> Result<Vec<NamedSink>, AllocError>
     ensures { IfOk result (λ v. v.items ≡ map (λ old. if bytes_eq old.name new.now.name then new.now else old) sinks.now) }
 {
-    let mut copies = Vec::new(alloc);
-    for old in sinks {
-        let is_old = old.name.as_str() == new.name.as_str();
-        copies.push(if is_old { new.copy() } else { old.copy() })?;
-    }
-    Ok(copies)
+    sinks
+        .iter()
+        .map(|old| if old.name.as_str() == new.name.as_str() {
+            new.copy()
+        } else {
+            old.copy()
+        })
+        .collect(alloc)
 }
 
 /// The sinks without the one of a name.
@@ -171,13 +153,10 @@ pub(crate) fn without_sink(
 ) -> Result<Vec<NamedSink>, AllocError>
     ensures { IfOk result (λ v. v.items ≡ without_sink name.now sinks.now) }
 {
-    let mut others = Vec::new(alloc);
-    for sink in sinks {
-        if sink.name.as_str() != name.as_str() {
-            others.push(sink.copy())?;
-        }
-    }
-    Ok(others)
+    let others = sinks
+        .iter()
+        .filter(|sink| sink.name.as_str() != name.as_str());
+    others.map(|sink| sink.copy()).collect(alloc)
 }
 
 /// The settings with another floor of one port, in mW.

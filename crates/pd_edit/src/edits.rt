@@ -2,8 +2,7 @@
 
 ghost use Rattle.std.specs.Prelude.{◌≡◌, IfOk};
 ghost use Rattle.pd_scenario.specs.Scenarios.{ScenarioData, IsValid};
-ghost use Rattle.pd_edit_lines.specs.declared.edit.Edit.TheVariants as edits;
-ghost use Rattle.pd_edit.specs.Edits.{outcome, with_cable, with_sink, written_cable, written_sink};
+ghost use Rattle.pd_edit.specs.Edits.{outcome, with_cable, with_sink, HasNames};
 ghost use Rattle.pd_edit.specs.Refusals.{Applies, IsAccepted, edited};
 
 use crate::change::{
@@ -12,68 +11,28 @@ use crate::change::{
 };
 use crate::made::{inserted_event, supplies_of, written_cable, written_sink};
 use crate::refusals::first_refusal;
-use arrayvec::ArrayVec;
-use pd_edit_lines::{Edit, EditFault, EditHappening, EditKind, WrittenSupply};
-use pd_identity::CablePlug;
-use pd_scenario::{Name, NamedCable, NamedSink, Scenario};
-use pd_setup::{SinkMode, SinkRevision};
+use pd_edit_lines::{Edit, EditFault};
+use pd_scenario::{NamedCable, NamedSink, Scenario, ScenarioEvent};
+use pd_setup::Settings;
 use std::alloc::{AllocError, Global};
 
-fn insert<const N: usize>(
+/// What the ports are set to after an edit.
+fn settings_after<const N: usize>(
     alloc: Global,
     scenario: &Scenario<N>,
-    id: u64,
-    at: u64,
-    happening: &EditHappening,
-) -> Result<Scenario<N>, AllocError>
-    requires { IsAccepted N scenario.now (edits.Insert id at happening.now) }
-    ensures { IfOk result (λ s. s ≡ outcome scenario.now (edits.Insert id at happening.now)) }
+    edit: &Edit,
+) -> Result<Vec<Settings>, AllocError>
+    requires { IsAccepted N scenario.now edit.now }
+    ensures { IfOk result (λ v. v.items ≡ (outcome scenario.now edit.now).settings) }
 {
-    let events = scenario.events();
-    let event = inserted_event(N, id, at, happening);
-    let edited = with_event(alloc, events, event)?;
-    scenario.with_events(alloc, edited)
-}
-
-fn remove<const N: usize>(
-    alloc: Global,
-    scenario: &Scenario<N>,
-    id: u64,
-) -> Result<Scenario<N>, AllocError>
-    requires { IsAccepted N scenario.now (edits.Remove id) }
-    ensures { IfOk result (λ s. s ≡ outcome scenario.now (edits.Remove id)) }
-{
-    let events = scenario.events();
-    let edited = without_event(alloc, events, id)?;
-    scenario.with_events(alloc, edited)
-}
-
-fn move_event<const N: usize>(
-    alloc: Global,
-    scenario: &Scenario<N>,
-    id: u64,
-    at: u64,
-) -> Result<Scenario<N>, AllocError>
-    requires { IsAccepted N scenario.now (edits.Move id at) }
-    ensures { IfOk result (λ s. s ≡ outcome scenario.now (edits.Move id at)) }
-{
-    let events = scenario.events();
-    let edited = with_time(alloc, events, id, at as u32)?;
-    scenario.with_events(alloc, edited)
-}
-
-fn change<const N: usize>(
-    alloc: Global,
-    scenario: &Scenario<N>,
-    id: u64,
-    kind: &EditKind,
-) -> Result<Scenario<N>, AllocError>
-    requires { IsAccepted N scenario.now (edits.Change id kind.now) }
-    ensures { IfOk result (λ s. s ≡ outcome scenario.now (edits.Change id kind.now)) }
-{
-    let events = scenario.events();
-    let edited = with_kind(alloc, events, id, kind)?;
-    scenario.with_events(alloc, edited)
+    let settings = scenario.ports();
+    match edit {
+        Edit::Caps { port, supplies } => {
+            with_port_supplies(alloc, settings, *port, &supplies_of(supplies))
+        }
+        Edit::Floor { port, mw } => with_port_floor(alloc, settings, *port, *mw as u32),
+        _ => settings.iter().map(|port| port.copy()).collect(alloc),
+    }
 }
 
 /// The cables of a scenario with a new one, or with another in place of the one of its name.
@@ -92,35 +51,23 @@ fn put_cable<const N: usize>(
     }
 }
 
-fn cable<const N: usize>(
+/// The cables after an edit.
+fn cables_after<const N: usize>(
     alloc: Global,
     scenario: &Scenario<N>,
-    name: &Name,
-    plug: CablePlug,
-    rating: u64,
-) -> Result<Scenario<N>, AllocError>
-    requires { IsAccepted N scenario.now (edits.Cable name.now plug rating) }
-    ensures { IfOk result (λ s. s ≡ outcome scenario.now (edits.Cable name.now plug rating)) }
-{
-    // Read for the prover alone: that the scenario is valid, and the name a name.
-    let _cables = scenario.cables();
-    let _text = name.as_str();
-    let new = written_cable(name, plug, rating);
-    let edited = put_cable(alloc, scenario, new)?;
-    scenario.with_cables(alloc, edited)
-}
-
-fn drop_cable<const N: usize>(
-    alloc: Global,
-    scenario: &Scenario<N>,
-    name: &Name,
-) -> Result<Scenario<N>, AllocError>
-    requires { IsAccepted N scenario.now (edits.DropCable name.now) }
-    ensures { IfOk result (λ s. s ≡ outcome scenario.now (edits.DropCable name.now)) }
+    edit: &Edit,
+) -> Result<Vec<NamedCable>, AllocError>
+    requires { IsAccepted N scenario.now edit.now }
+    ensures { IfOk result (λ v. v.items ≡ (outcome scenario.now edit.now).cables) }
 {
     let cables = scenario.cables();
-    let edited = without_cable(alloc, cables, name)?;
-    scenario.with_cables(alloc, edited)
+    match edit {
+        Edit::Cable { name, plug, rating } => {
+            put_cable(alloc, scenario, written_cable(name, *plug, *rating))
+        }
+        Edit::DropCable { name } => without_cable(alloc, cables, name),
+        _ => cables.iter().map(|cable| cable.copy()).collect(alloc),
+    }
 }
 
 /// The sinks of a scenario with a new one, or with another in place of the one of its name.
@@ -139,92 +86,86 @@ fn put_sink<const N: usize>(
     }
 }
 
-fn sink<const N: usize>(
+/// The sinks after an edit.
+fn sinks_after<const N: usize>(
     alloc: Global,
     scenario: &Scenario<N>,
-    name: &Name,
-    max_mv: u64,
-    demand_mw: u64,
-    mode: SinkMode,
-    revision: SinkRevision,
-) -> Result<Scenario<N>, AllocError>
-    requires { IsAccepted N scenario.now (edits.Sink name.now max_mv demand_mw mode revision) }
-    ensures { IfOk result (λ s. s ≡ outcome scenario.now (edits.Sink name.now max_mv demand_mw mode revision)) }
-{
-    // Read for the prover alone: that the scenario is valid, and the name a name.
-    let _sinks = scenario.sinks();
-    let _text = name.as_str();
-    let new = written_sink(name, max_mv, demand_mw, mode, revision);
-    let edited = put_sink(alloc, scenario, new)?;
-    scenario.with_sinks(alloc, edited)
-}
-
-fn drop_sink<const N: usize>(
-    alloc: Global,
-    scenario: &Scenario<N>,
-    name: &Name,
-) -> Result<Scenario<N>, AllocError>
-    requires { IsAccepted N scenario.now (edits.DropSink name.now) }
-    ensures { IfOk result (λ s. s ≡ outcome scenario.now (edits.DropSink name.now)) }
+    edit: &Edit,
+) -> Result<Vec<NamedSink>, AllocError>
+    requires { IsAccepted N scenario.now edit.now }
+    ensures { IfOk result (λ v. v.items ≡ (outcome scenario.now edit.now).sinks) }
 {
     let sinks = scenario.sinks();
-    let edited = without_sink(alloc, sinks, name)?;
-    scenario.with_sinks(alloc, edited)
+    match edit {
+        Edit::Sink {
+            name,
+            max_mv,
+            demand_mw,
+            mode,
+            revision,
+        } => put_sink(
+            alloc,
+            scenario,
+            written_sink(name, *max_mv, *demand_mw, *mode, *revision),
+        ),
+        Edit::DropSink { name } => without_sink(alloc, sinks, name),
+        _ => sinks.iter().map(|sink| sink.copy()).collect(alloc),
+    }
 }
 
-fn caps<const N: usize>(
+/// The events after an edit.
+fn events_after<const N: usize>(
     alloc: Global,
     scenario: &Scenario<N>,
-    port: u64,
-    supplies: &ArrayVec<WrittenSupply, 7>,
-) -> Result<Scenario<N>, AllocError>
-    requires { IsAccepted N scenario.now (edits.Caps port supplies.now) }
-    ensures { IfOk result (λ s. s ≡ outcome scenario.now (edits.Caps port supplies.now)) }
+    edit: &Edit,
+) -> Result<Vec<ScenarioEvent>, AllocError>
+    requires { IsAccepted N scenario.now edit.now }
+    ensures { IfOk result (λ v. v.items ≡ (outcome scenario.now edit.now).events) }
 {
-    let settings = scenario.ports();
-    let supplies = supplies_of(supplies);
-    let edited = with_port_supplies(alloc, settings, port, &supplies)?;
-    scenario.with_settings(alloc, edited)
+    let events = scenario.events();
+    match edit {
+        Edit::Insert { id, at, happening } => {
+            with_event(alloc, events, inserted_event(N, *id, *at, happening))
+        }
+        Edit::Remove { id } => without_event(alloc, events, *id),
+        Edit::Move { id, at } => with_time(alloc, events, *id, *at as u32),
+        Edit::Change { id, kind } => with_kind(alloc, events, *id, kind),
+        _ => events.iter().map(|event| event.copy()).collect(alloc),
+    }
 }
 
-fn floor<const N: usize>(
-    alloc: Global,
-    scenario: &Scenario<N>,
-    port: u64,
-    mw: u64,
-) -> Result<Scenario<N>, AllocError>
-    requires { IsAccepted N scenario.now (edits.Floor port mw) }
-    ensures { IfOk result (λ s. s ≡ outcome scenario.now (edits.Floor port mw)) }
+/// The budget after an edit, in mW.
+fn budget_after<const N: usize>(scenario: &Scenario<N>, edit: &Edit) -> u32
+    requires { IsAccepted N scenario.now edit.now }
+    ensures { result ≡ (outcome scenario.now edit.now).budget_mw }
 {
-    let settings = scenario.ports();
-    let edited = with_port_floor(alloc, settings, port, mw as u32)?;
-    scenario.with_settings(alloc, edited)
+    match edit {
+        Edit::Budget { mw } => *mw as u32,
+        _ => scenario.budget_mw(),
+    }
 }
 
-fn budget<const N: usize>(
-    alloc: Global,
-    scenario: &Scenario<N>,
-    mw: u64,
-) -> Result<Scenario<N>, AllocError>
-    requires { IsAccepted N scenario.now (edits.Budget mw) }
-    ensures { IfOk result (λ s. s ≡ outcome scenario.now (edits.Budget mw)) }
+/// The end after an edit, in microseconds.
+fn end_after<const N: usize>(scenario: &Scenario<N>, edit: &Edit) -> u32
+    requires { IsAccepted N scenario.now edit.now }
+    ensures { result ≡ (outcome scenario.now edit.now).end_us }
 {
-    // Read for the prover alone: that the scenario is valid.
-    let _settings = scenario.ports();
-    scenario.with_numbers(alloc, mw as u32, scenario.end_us())
+    match edit {
+        Edit::End { at } => *at as u32,
+        _ => scenario.end_us(),
+    }
 }
 
-fn end<const N: usize>(
-    alloc: Global,
-    scenario: &Scenario<N>,
-    at: u64,
-) -> Result<Scenario<N>, AllocError>
-    requires { IsAccepted N scenario.now (edits.End at) }
-    ensures { IfOk result (λ s. s ≡ outcome scenario.now (edits.End at)) }
+/// For the prover alone: the names of a new cable or sink are names.
+fn read_names(edit: &Edit)
+    ensures { HasNames edit.now }
 {
-    // Read for the prover alone: that the scenario is valid.
-    let _settings = scenario.ports();
-    scenario.with_numbers(alloc, scenario.budget_mw(), at as u32)
+    match edit {
+        Edit::Cable { name, .. } | Edit::Sink { name, .. } => {
+            let _text = name.as_str();
+        }
+        _ => {}
+    }
 }
 
 /// The scenario after an edit for which no refusal applies.
@@ -236,26 +177,16 @@ fn edited<const N: usize>(
     requires { IsAccepted N scenario.now edit.now }
     ensures { IfOk result (λ s. s ≡ outcome scenario.now edit.now) }
 {
-    match edit {
-        Edit::Insert { id, at, happening } => insert(alloc, scenario, *id, *at, happening),
-        Edit::Remove { id } => remove(alloc, scenario, *id),
-        Edit::Move { id, at } => move_event(alloc, scenario, *id, *at),
-        Edit::Change { id, kind } => change(alloc, scenario, *id, kind),
-        Edit::Cable { name, plug, rating } => cable(alloc, scenario, name, *plug, *rating),
-        Edit::DropCable { name } => drop_cable(alloc, scenario, name),
-        Edit::Sink {
-            name,
-            max_mv,
-            demand_mw,
-            mode,
-            revision,
-        } => sink(alloc, scenario, name, *max_mv, *demand_mw, *mode, *revision),
-        Edit::DropSink { name } => drop_sink(alloc, scenario, name),
-        Edit::Caps { port, supplies } => caps(alloc, scenario, *port, supplies),
-        Edit::Floor { port, mw } => floor(alloc, scenario, *port, *mw),
-        Edit::Budget { mw } => budget(alloc, scenario, *mw),
-        Edit::End { at } => end(alloc, scenario, *at),
-    }
+    read_names(edit);
+    // Read for the prover alone: that the scenario is valid.
+    let _ports = scenario.ports();
+    let settings = settings_after(alloc, scenario, edit)?;
+    let cables = cables_after(alloc, scenario, edit)?;
+    let sinks = sinks_after(alloc, scenario, edit)?;
+    let events = events_after(alloc, scenario, edit)?;
+    let budget_mw = budget_after(scenario, edit);
+    let end_us = end_after(scenario, edit);
+    Ok(Scenario::new(settings, cables, sinks, events, budget_mw, end_us))
 }
 
 /// The scenario after an edit; the old one is as it was.

@@ -6,7 +6,7 @@ ghost use Rattle.pd_setup.specs.Sinks.{IsSink};
 ghost use Rattle.pd_scenario.specs.Limits.{allows};
 ghost use Rattle.pd_scenario.specs.declared.limits.Quantity.TheVariants as quantity;
 ghost use Rattle.pd_scenario.specs.Words.{rating_of};
-ghost use Rattle.pd_edit.specs.Edits.{damage_of, event_kind_of, event_happening_of, inserted_event, changed_event, written_cable, written_sink, with_floor, supply_of, AreSupplies};
+ghost use Rattle.pd_edit.specs.Edits.{damage_of, event_kind_of, event_happening_of, inserted_event, moved_event, changed_event, with_kind, written_cable, written_sink, with_floor, supply_of, AreSupplies};
 ghost use Rattle.pd_edit.specs.Refusals.{kind_in_range, happening_in_range, happens_on_port, supply_in_range};
 
 use arrayvec::ArrayVec;
@@ -15,7 +15,8 @@ use pd_identity::{Cable, CablePlug};
 use pd_objects::Supply;
 use pd_packet::Damage;
 use pd_scenario::{
-    Name, NamedCable, NamedSink, ScenarioEvent, ScenarioEventKind, ScenarioHappening, rating_of,
+    Name, NamedCable, NamedSink, ScenarioEvent, ScenarioEventKind, ScenarioHappening, copy_kind,
+    rating_of,
 };
 use pd_setup::{Demand, EventKind, Settings, SinkMode, SinkRevision, SinkSettings, by_kind};
 
@@ -26,7 +27,8 @@ fn damage_of(written: WrittenDamage) -> Damage
     Damage::new(written.place as u8, written.mask as u8)
 }
 
-fn event_kind_of(kind: &EditKind) -> ScenarioEventKind
+/// The kind of event that was written.
+pub(crate) fn event_kind_of(kind: &EditKind) -> ScenarioEventKind
     requires { kind_in_range kind.now ≡ true }
     ensures { result ≡ event_kind_of kind.now }
 {
@@ -75,24 +77,42 @@ pub(crate) fn inserted_event(
     }
 }
 
-/// An event, of another kind where it has the id.
-pub(crate) fn changed_event(id: u64, kind: &EditKind, event: &ScenarioEvent) -> ScenarioEvent
-    requires { kind_in_range kind.now ≡ true }
-    ensures { result ≡ changed_event id (event_kind_of kind.now) event.now }
+/// An event, at another time in microseconds where it has the id.
+pub(crate) fn moved_event(id: u64, at: u32, event: &ScenarioEvent) -> ScenarioEvent
+    ensures { result ≡ moved_event id at event.now }
 {
-    if u64::from(event.id) != id {
-        return event.copy();
+    let mut moved = event.copy();
+    if u64::from(event.id) == id {
+        moved.at = at;
     }
-    match &event.happening {
-        ScenarioHappening::OnPort { port, .. } => ScenarioEvent {
-            id: event.id,
-            at: event.at,
-            happening: ScenarioHappening::OnPort {
-                port: *port,
-                kind: event_kind_of(kind),
-            },
+    moved
+}
+
+/// An event, of another kind where it has the id.
+pub(crate) fn changed_event(
+    id: u64,
+    kind: &ScenarioEventKind,
+    event: &ScenarioEvent,
+) -> ScenarioEvent
+    ensures { result ≡ changed_event id kind.now event.now }
+{
+    let mut changed = event.copy();
+    if u64::from(event.id) == id {
+        changed.happening = with_kind(kind, &event.happening);
+    }
+    changed
+}
+
+/// The same port with another kind of event; a change of the budget stays as it is.
+fn with_kind(kind: &ScenarioEventKind, happening: &ScenarioHappening) -> ScenarioHappening
+    ensures { result ≡ with_kind kind.now happening.now }
+{
+    match happening {
+        ScenarioHappening::OnPort { port, .. } => ScenarioHappening::OnPort {
+            port: *port,
+            kind: copy_kind(kind),
         },
-        ScenarioHappening::Budget { .. } => event.copy(),
+        ScenarioHappening::Budget { mw } => ScenarioHappening::Budget { mw: *mw },
     }
 }
 

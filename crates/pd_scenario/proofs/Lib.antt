@@ -1,4 +1,5 @@
 pub mod Entries
+pub mod First
 pub mod Forces
 pub mod Least
 pub mod Lists

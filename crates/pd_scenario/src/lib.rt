@@ -9,7 +9,6 @@ mod limits;
 mod name;
 mod named;
 mod order;
-mod parts;
 mod scenario;
 mod words;
 

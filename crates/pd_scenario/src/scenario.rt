@@ -19,12 +19,12 @@ use std::marker::Model;
 /// than the least of the budget and its changes.
 #[derive(Drop)]
 pub struct Scenario<const N: usize> {
-    pub(crate) settings: Vec<Settings>,
-    pub(crate) cables: Vec<NamedCable>,
-    pub(crate) sinks: Vec<NamedSink>,
-    pub(crate) events: Vec<ScenarioEvent>,
-    pub(crate) budget_mw: u32,
-    pub(crate) end_us: u32,
+    settings: Vec<Settings>,
+    cables: Vec<NamedCable>,
+    sinks: Vec<NamedSink>,
+    events: Vec<ScenarioEvent>,
+    budget_mw: u32,
+    end_us: u32,
 }
 
 impl<const N: usize> Model for Scenario<N> {

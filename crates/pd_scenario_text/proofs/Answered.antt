@@ -1,9 +1,10 @@
 -- The refusal that is answered is the least that applies, and what is accepted is valid.
 use Rattle.std.proofs.Common.{◌≡◌, ℕ, ◌<◌, ◌≤◌, ◌⊎◌, ◌↔◌, Bool, true, false, List, [], ◌∷◌, find, refl, sym, ap, ◌∙◌, inl, inr, arith, lit<, Some, None, Ok, Err}
 use Rattle.std.specs.Prelude.{Option, Result}
-use Rattle.std.proofs.lemmas.Bool.{cases_Bool, false≢true}
+use Rattle.std.proofs.lemmas.Bool.{false≢true}
 use Rattle.toml.specs.Data.{Members}
 use Rattle.pd_scenario.specs.Scenarios.{ScenarioData, IsValid}
+use Rattle.pd_scenario.proofs.First.{IsIn, IsFirst, least, found, passed_all, none_found}
 use Rattle.pd_scenario_tables.specs.declared.fault.ScenarioFault.{ScenarioFault}
 use Rattle.pd_scenario_tables.specs.declared.fault.ScenarioFault.TheVariants.{Toml, UnknownKey, WrongType, MissingKey, Range, Name, Duplicate, Supplies, Floors, UnknownName, Limit, Memory}
 use Rattle.pd_scenario_tables.specs.Numbers.{number_of}
@@ -33,61 +34,9 @@ read_answer ports text t (Err Memory) is refused h = tt
 
 -- ---- the least
 
-abbrev IsIn : ScenarioFault → List ScenarioFault → Type 0
-IsIn fault [] = ⊥
-IsIn fault (first ∷ faults) = (fault ≡ first) ⊎ IsIn fault faults
-
-abbrev AllAbove : ℕ → List ScenarioFault → Type 0
-AllAbove number [] = Unit {0}
-AllAbove number (fault ∷ faults) = (number < number_of fault) × AllAbove number faults
-
-abbrev AreRising : List ScenarioFault → Type 0
-AreRising [] = Unit {0}
-AreRising (fault ∷ faults) = AllAbove (number_of fault) faults × AreRising faults
-
-abbrev IsFirst : (ScenarioFault → Bool) → ScenarioFault → Type 0
-IsFirst test fault = (test fault ≡ true) × ((other : ScenarioFault) → number_of other < number_of fault → test other ≡ false)
-
-above : (number : ℕ) (fault : ScenarioFault) (faults : List ScenarioFault) → AllAbove number faults → IsIn fault faults → number < number_of fault
-above number fault [] all there = absurd there
-above number fault (first ∷ faults) all there =
-    elim there [
-      | inl here ↦ let same = ap number_of here in omega (arith, all.0, same)
-      | inr later ↦ above number fault faults all.1 later
-    ]
-
-least : (test : ScenarioFault → Bool) (faults : List ScenarioFault) (c : ScenarioData) (fault : ScenarioFault) → AreRising faults
-    → ((other : ScenarioFault) → (test other ≡ false) ⊎ IsIn other faults) → answered (find test faults) c ≡ Err fault → IsFirst test fault
-least test [] c fault rising left h = absurd (cc)
-least test (first ∷ faults) c fault rising left h =
-    elim (cases_Bool (test first)) [
-      | inl chosen ↦
-          let e : answered (Some first) c ≡ Err fault = rw chosen at h in
-          let same : first ≡ fault = cc in
-          rw (← same) (
-            chosen,
-            λ other below.
-                elim (left other) [
-                  | inl passes ↦ passes
-                  | inr there ↦
-                      elim there [
-                        | inl here ↦ let equal = ap number_of here in absurd (omega (arith, equal))
-                        | inr later ↦ let more = above (number_of first) other faults rising.0 later in absurd (omega (arith, more))
-                      ]
-                ],
-          )
-      | inr passed ↦
-          least test faults c fault rising.1
-          (λ other.
-          elim (left other) [
-            | inl passes ↦ inl passes
-            | inr there ↦ elim there [ inl here ↦ inl (rw here passed) | inr later ↦ inr later ]
-          ])
-          (rw passed at h)
-    ]
-
-rising : AreRising refusals
-rising = ((lit< tt, (lit< tt, (lit< tt, (lit< tt, (lit< tt, (lit< tt, (lit< tt, (lit< tt, (lit< tt, tt))))))))), ((lit< tt, (lit< tt, (lit< tt, (lit< tt, (lit< tt, (lit< tt, (lit< tt, (lit< tt, tt)))))))), ((lit< tt, (lit< tt, (lit< tt, (lit< tt, (lit< tt, (lit< tt, (lit< tt, tt))))))), ((lit< tt, (lit< tt, (lit< tt, (lit< tt, (lit< tt, (lit< tt, tt)))))), ((lit< tt, (lit< tt, (lit< tt, (lit< tt, (lit< tt, tt))))), ((lit< tt, (lit< tt, (lit< tt, (lit< tt, tt)))), ((lit< tt, (lit< tt, (lit< tt, tt))), ((lit< tt, (lit< tt, tt)), ((lit< tt, tt), (tt, tt))))))))))
+refused_for : (o : Option ScenarioFault) (c : ScenarioData) (fault : ScenarioFault) → answered o c ≡ Err fault → o ≡ Some fault
+refused_for None c fault h = absurd (cc)
+refused_for (Some first) c fault h = let same : first ≡ fault = cc in ap (λ (f : ScenarioFault). Some f) same
 
 listed : (ports : ℕ) (d : Tables) (fault : ScenarioFault) → (applies fault ports d ≡ false) ⊎ IsIn fault refusals
 listed ports d Toml = inl refl
@@ -103,47 +52,23 @@ listed ports d UnknownName = inr (inr (inr (inr (inr (inr (inr (inr (inr (inl re
 listed ports d Limit = inr (inr (inr (inr (inr (inr (inr (inr (inr (inr (inl refl))))))))))
 listed ports d Memory = inl refl
 
--- and the other way round
-found : (test : ScenarioFault → Bool) (faults : List ScenarioFault) (fault : ScenarioFault) → AreRising faults → IsIn fault faults → IsFirst test fault → find test faults ≡ Some fault
-found test [] fault rising there first = absurd there
-found test (x ∷ faults) fault rising there first =
-    elim there [
-      | inl here ↦ let chosen : test x ≡ true = rw here at first.0 in rw chosen (ap (λ (f : ScenarioFault). Some f) (sym here))
-      | inr later ↦
-          let passed : test x ≡ false = first.1 x (above (number_of x) fault faults rising.0 later) in
-          rw passed (found test faults fault rising.1 later first)
-    ]
-
-refused_first : (ports : ℕ) (d : Tables) (fault : ScenarioFault) → IsFirst (λ f. applies f ports d) fault → refusal ports d ≡ Some fault
+refused_first : (ports : ℕ) (d : Tables) (fault : ScenarioFault) → IsFirst number_of (λ f. applies f ports d) fault → refusal ports d ≡ Some fault
 refused_first ports d fault first =
     elim (listed ports d fault) [
       | inl passes ↦ absurd (false≢true (sym passes ∙ first.0))
-      | inr there ↦ found (λ f. applies f ports d) refusals fault rising there first
+      | inr there ↦ found number_of (λ f. applies f ports d) refusals fault refl there first
     ]
 
 pub least_refusal : (ports : ℕ) (t : Members) (fault : ScenarioFault) → (reading ports t ≡ Err fault) ↔ IsLeast fault ports (tables_of t)
 least_refusal ports t fault = (
   λ h.
-      let both = least (λ f. applies f ports (tables_of t)) refusals (scenario_of (tables_of t)) fault rising (listed ports (tables_of t)) h in
+      let d = tables_of t in
+      let both = least number_of (λ f. applies f ports d) refusals fault refl (listed ports d) (refused_for (refusal ports d) (scenario_of d) fault h) in
       record { holds = both.0; lesser = both.1 },
   λ h. ap (λ (o : Option ScenarioFault). answered o (scenario_of (tables_of t))) (refused_first ports (tables_of t) fault (h.holds, h.lesser)),
 )
 
 -- ---- accepted
-
-passed_all : (test : ScenarioFault → Bool) (faults : List ScenarioFault) (fault : ScenarioFault) → find test faults ≡ None → IsIn fault faults → test fault ≡ false
-passed_all test [] fault none there = absurd there
-passed_all test (x ∷ faults) fault none there =
-    elim (cases_Bool (test x)) [
-      | inl chosen ↦ let e : Some x ≡ None = rw chosen at none in absurd (cc)
-      | inr passed ↦
-          let rest : find test faults ≡ None = rw passed at none in
-          elim there [ inl here ↦ rw here passed | inr later ↦ passed_all test faults fault rest later ]
-    ]
-
-none_found : (test : ScenarioFault → Bool) (faults : List ScenarioFault) → ((fault : ScenarioFault) → test fault ≡ false) → find test faults ≡ None
-none_found test [] passes = refl
-none_found test (x ∷ faults) passes = rw (passes x) (none_found test faults passes)
 
 none_of : (ports : ℕ) (d : Tables) → refusal ports d ≡ None → (fault : ScenarioFault) → applies fault ports d ≡ false
 none_of ports d none fault =
