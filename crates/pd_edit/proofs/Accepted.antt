@@ -4,7 +4,8 @@ use Rattle.std.specs.Prelude.{Option}
 use Rattle.pd_scenario.specs.Scenarios.{ScenarioData}
 use Rattle.pd_edit_lines.specs.declared.fault.EditFault.{EditFault}
 use Rattle.pd_edit_lines.specs.declared.edit.Edit.{Edit}
-use Rattle.pd_edit.specs.Refusals.{refuses, refusals, IsAccepted, id_is_free, id_is_known, port_is_known, name_is_known, is_unused, in_range, supplies_rise, stays_funded, has_room}
+use Rattle.pd_edit.specs.Refusals.{refuses, refusals, IsAccepted, id_is_free, id_is_known, port_is_known, name_is_known, is_unused}
+use Rattle.pd_edit.specs.Refusals.{in_range, supplies_rise, stays_funded, has_room}
 
 passed : (b : Bool) (fault : EditFault) (rest : Option EditFault) → cond (not b) (Some fault) rest ≡ None → (b ≡ true) × (rest ≡ None)
 passed true fault rest h = (refl, h)

@@ -4,7 +4,8 @@ use Rattle.std.specs.Prelude.{Option}
 use Rattle.pd_scenario.specs.Scenarios.{ScenarioData}
 use Rattle.pd_scenario.proofs.First.{IsIn, least}
 use Rattle.pd_edit_lines.specs.declared.fault.EditFault.{EditFault}
-use Rattle.pd_edit_lines.specs.declared.fault.EditFault.TheVariants.{Syntax, IdTaken, NoSuchId, NoSuchPort, NoSuchName, InUse, Range, Supplies, Floors, Limit, Memory}
+use Rattle.pd_edit_lines.specs.declared.fault.EditFault.TheVariants.{Syntax, IdTaken, NoSuchId, NoSuchPort, NoSuchName, InUse, Range}
+use Rattle.pd_edit_lines.specs.declared.fault.EditFault.TheVariants.{Supplies, Floors, Limit, Memory}
 use Rattle.pd_edit_lines.specs.declared.edit.Edit.{Edit}
 use Rattle.pd_edit_lines.specs.Numbers.{number_of}
 use Rattle.pd_edit.specs.Edits.{outcome}

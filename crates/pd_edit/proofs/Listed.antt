@@ -36,14 +36,16 @@ list_all-last p (y ∷ ys) x h here =
     let (first, more) = and_parts (p y) (list_all p ys) h in
     rw (first, list_all-last p ys x more here)
 
-pub list_all-implies : {X : Type 0} (p q : X → Bool) → ((x : X) → p x ≡ true → q x ≡ true) → (xs : List X) → list_all p xs ≡ true → list_all q xs ≡ true
+pub list_all-implies : {X : Type 0} (p q : X → Bool) → ((x : X) → p x ≡ true → q x ≡ true) → (xs : List X) → list_all p xs ≡ true
+    → list_all q xs ≡ true
 list_all-implies p q step [] h = refl
 list_all-implies p q step (x ∷ xs) h =
     let (first, more) = and_parts (p x) (list_all p xs) h in
     rw (step x first, list_all-implies p q step xs more)
 
 -- the same of the elements of which another test doesn't hold
-pub list_all-without : {X : Type 0} (p q r : X → Bool) → ((x : X) → r x ≡ false → p x ≡ true → q x ≡ true) → (xs : List X) → list_any r xs ≡ false → list_all p xs ≡ true
+pub list_all-without : {X : Type 0} (p q r : X → Bool) → ((x : X) → r x ≡ false → p x ≡ true → q x ≡ true) → (xs : List X)
+    → list_any r xs ≡ false → list_all p xs ≡ true
     → list_all q xs ≡ true
 list_all-without p q r step [] none h = refl
 list_all-without p q r step (x ∷ xs) none h =

@@ -1,5 +1,6 @@
 -- Lists of what has a name.
-use Rattle.std.proofs.Common.{◌≡◌, ℕ, Bool, true, false, not, cond, List, [], ◌∷◌, ◌++◌, filter, map, find, refl, sym, ◌∙◌, inl, inr, Some, None}
+use Rattle.std.proofs.Common.{◌≡◌, ℕ, Bool, true, false, not, cond, List, [], ◌∷◌, ◌++◌, filter, map, find, refl, sym, ◌∙◌, inl, inr, Some}
+use Rattle.std.proofs.Common.{None}
 use Rattle.std.specs.Prelude.{Option, bytes_eq, is_some, option_map}
 use Rattle.std.specs.List.{list_any, list_all}
 use Rattle.std.proofs.lemmas.Bool.{cases_Bool, false≢true, and_parts, or_parts}
@@ -71,7 +72,8 @@ module _ {X : Type 0} (name : X → List ℕ) where
         | inr other ↦ rw (other, names-replaced new xs)
       ]
 
-  pub not_among-filter : (k : List ℕ) (q : X → Bool) (xs : List X) → is_among k (map name xs) ≡ false → is_among k (map name (filter q xs)) ≡ false
+  pub not_among-filter : (k : List ℕ) (q : X → Bool) (xs : List X) → is_among k (map name xs) ≡ false
+      → is_among k (map name (filter q xs)) ≡ false
   not_among-filter k q [] h = refl
   not_among-filter k q (x ∷ xs) h =
       let (first, more) = or_parts (bytes_eq (name x) k) (is_among k (map name xs)) h in
@@ -107,7 +109,8 @@ module _ {X : Type 0} (name : X → List ℕ) where
             ]
       ]
 
-  pub name_of : (k : List ℕ) (p : List ℕ → Bool) (xs : List X) → list_all (λ x. p (name x)) xs ≡ true → is_among k (map name xs) ≡ true → p k ≡ true
+  pub name_of : (k : List ℕ) (p : List ℕ → Bool) (xs : List X) → list_all (λ x. p (name x)) xs ≡ true → is_among k (map name xs) ≡ true
+      → p k ≡ true
   name_of k p [] h there = absurd (false≢true there)
   name_of k p (x ∷ xs) h there =
       let (first, more) = and_parts (p (name x)) (list_all (λ y. p (name y)) xs) h in

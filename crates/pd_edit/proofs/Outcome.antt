@@ -33,7 +33,8 @@ is_sink max_mv demand_mw mode revision h =
     let power = demand demand_mw both.1 in
     record { least_mv = volts.0; most_mv = volts.1; steps_mv = volts.2; least_mw = power.0; most_mw = power.1 }
 
-pub valid_outcome : (n : ℕ) (c : ScenarioData) (edit : Edit) → HasNames edit → IsValid n c → IsAccepted n c edit → IsValid n (outcome c edit)
+pub valid_outcome : (n : ℕ) (c : ScenarioData) (edit : Edit) → HasNames edit → IsValid n c → IsAccepted n c edit
+    → IsValid n (outcome c edit)
 valid_outcome n c (Insert id at happening) names v a = valid_insert n c id at happening v a
 valid_outcome n c (Remove id) names v a = valid_remove n c id v
 valid_outcome n c (Move id at) names v a = valid_move n c id at v a

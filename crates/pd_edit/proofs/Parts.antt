@@ -10,7 +10,8 @@ use Rattle.pd_scenario.specs.declared.named.NamedSink.{NamedSink}
 use Rattle.pd_scenario.specs.declared.event.ScenarioEvent.{ScenarioEvent}
 use Rattle.pd_scenario.specs.Names.{is_name}
 use Rattle.pd_scenario.specs.Limits.{allows, most_ports, most_names, most_events}
-use Rattle.pd_scenario.specs.Scenarios.{ScenarioData, IsValid, floors_mw, ids_differ, event_fits, names_differ, names_are_known, least_budget}
+use Rattle.pd_scenario.specs.Scenarios.{ScenarioData, IsValid, floors_mw, ids_differ, event_fits, names_differ, names_are_known}
+use Rattle.pd_scenario.specs.Scenarios.{least_budget}
 
 -- ---- what a scenario keeps, part by part
 
@@ -136,12 +137,18 @@ pub valid_budget : (n : ℕ) (c : ScenarioData) (mw : ℕ) → allows quantity.B
     → floors_mw c.settings ≤ least_budget mw c.events → IsValid n c → IsValid n (record c { budget_mw = mw })
 valid_budget n c mw fits funded v =
     let p = parts n c v in
-    let numbers : Numbers n (record c { budget_mw = mw }) = record { some_port = v.some_port; few_ports = v.few_ports; budget = fits; end = v.end_fits } in
+    let numbers : Numbers n (record c { budget_mw = mw }) =
+    record { some_port = v.some_port; few_ports = v.few_ports; budget = fits; end = v.end_fits } in
     by_parts n (record c { budget_mw = mw }) numbers p.ports p.cables p.sinks p.events v.names_known funded
 
 pub valid_end : (n : ℕ) (c : ScenarioData) (at : ℕ) → allows quantity.Time at ≡ true → IsValid n c
     → IsValid n (record c { end_us = at })
 valid_end n c at fits v =
     let p = parts n c v in
-    let numbers : Numbers n (record c { end_us = at }) = record { some_port = v.some_port; few_ports = v.few_ports; budget = v.budget_fits; end = fits } in
+    let numbers : Numbers n (record c { end_us = at }) = record {
+      some_port = v.some_port;
+      few_ports = v.few_ports;
+      budget = v.budget_fits;
+      end = fits;
+    } in
     by_parts n (record c { end_us = at }) numbers p.ports p.cables p.sinks p.events v.names_known v.funded

@@ -1,5 +1,6 @@
 -- An edit of a port, the budget or the end that isn't refused leaves a valid scenario.
-use Rattle.std.proofs.Common.{◌≡◌, ℕ, ◌+◌, ◌<◌, ◌≤◌, Bool, true, false, ◌&&◌, ◌==◌, cond, List, [], ◌∷◌, length, map, refl, ap, ◌∙◌, arith, Some}
+use Rattle.std.proofs.Common.{◌≡◌, ℕ, ◌+◌, ◌<◌, ◌≤◌, Bool, true, false, ◌&&◌, ◌==◌, cond, List, [], ◌∷◌, length, map, refl, ap, ◌∙◌, arith}
+use Rattle.std.proofs.Common.{Some}
 use Rattle.std.specs.Prelude.{All, nat_le, nat_lt, slice_get, option_map}
 use Rattle.std.proofs.lemmas.Bool.{false≢true, and_parts}
 use Rattle.std.proofs.lemmas.Bool.Decides.{nat_tests}
@@ -23,7 +24,8 @@ at_most a b h = grind (arith, nat_tests)
 
 -- ---- one port
 
-length-changed : (first port : ℕ) (f : SettingsData → SettingsData) (ss : List SettingsData) → length (changed_from first port f ss) ≡ length ss
+length-changed : (first port : ℕ) (f : SettingsData → SettingsData) (ss : List SettingsData)
+    → length (changed_from first port f ss) ≡ length ss
 length-changed first port f [] = refl
 length-changed first port f (s ∷ ss) = let rest = length-changed (first + 1) port f ss in omega (arith, rest)
 
@@ -31,19 +33,23 @@ one_kept : (b : Bool) (f : SettingsData → SettingsData) (s : SettingsData) →
 one_kept true f s changed same = changed
 one_kept false f s changed same = same
 
-all_changed : (f : SettingsData → SettingsData) → ((s : SettingsData) → IsSettings s → IsSettings (f s)) → (first port : ℕ) (ss : List SettingsData) → All IsSettings ss
+all_changed : (f : SettingsData → SettingsData) → ((s : SettingsData) → IsSettings s → IsSettings (f s))
+    → (first port : ℕ) (ss : List SettingsData) → All IsSettings ss
     → All IsSettings (changed_from first port f ss)
 all_changed f kept first port [] h = All-nil IsSettings
 all_changed f kept first port (s ∷ ss) h =
     let here = All-head IsSettings s ss h in
-    All-cons IsSettings (cond (first == port) (f s) s) (changed_from (first + 1) port f ss) (one_kept (first == port) f s (kept s here) here)
+    All-cons IsSettings (cond (first == port) (f s) s) (changed_from (first + 1) port f ss)
+    (one_kept (first == port) f s (kept s here) here)
     (all_changed f kept (first + 1) port ss (All-tail IsSettings s ss h))
 
-same_floor : (b : Bool) (f : SettingsData → SettingsData) (s : SettingsData) → (f s).floor_mw ≡ s.floor_mw → (cond b (f s) s).floor_mw ≡ s.floor_mw
+same_floor : (b : Bool) (f : SettingsData → SettingsData) (s : SettingsData) → (f s).floor_mw ≡ s.floor_mw
+    → (cond b (f s) s).floor_mw ≡ s.floor_mw
 same_floor true f s h = h
 same_floor false f s h = refl
 
-same_floors : (f : SettingsData → SettingsData) → ((s : SettingsData) → (f s).floor_mw ≡ s.floor_mw) → (first port : ℕ) (ss : List SettingsData)
+same_floors : (f : SettingsData → SettingsData) → ((s : SettingsData) → (f s).floor_mw ≡ s.floor_mw)
+    → (first port : ℕ) (ss : List SettingsData)
     → floors_mw (changed_from first port f ss) ≡ floors_mw ss
 same_floors f same first port [] = refl
 same_floors f same first port (s ∷ ss) =
@@ -68,7 +74,8 @@ floor_kept mw range s h =
       most_tries = h.most_tries;
     }
 
-pub valid_floor : (n : ℕ) (c : ScenarioData) (port mw : ℕ) → IsValid n c → IsAccepted n c (Floor port mw) → IsValid n (outcome c (Floor port mw))
+pub valid_floor : (n : ℕ) (c : ScenarioData) (port mw : ℕ) → IsValid n c → IsAccepted n c (Floor port mw)
+    → IsValid n (outcome c (Floor port mw))
 valid_floor n c port mw v a =
     valid_settings n c (changed_port port (with_floor mw) c.settings) (length-changed 1 port (with_floor mw) c.settings ∙ v.settings_count)
     (all_changed (with_floor mw) (floor_kept mw a.in_range) 1 port c.settings v.settings_fit) (at_most _ _ a.funded) v
@@ -81,7 +88,8 @@ equal m n h = grind (arith, nat_tests)
 less : (m n : ℕ) → nat_lt m n ≡ true → m < n
 less m n h = grind (arith, nat_tests)
 
-first_of : (mv : ℕ) (ws : List WrittenSupply) → begin_at mv ws ≡ true → option_map (λ (supply : SupplyData). supply.mv) (slice_get (map supply_of ws) 0) ≡ Some mv
+first_of : (mv : ℕ) (ws : List WrittenSupply) → begin_at mv ws ≡ true
+    → option_map (λ (supply : SupplyData). supply.mv) (slice_get (map supply_of ws) 0) ≡ Some mv
 first_of mv [] h = absurd (false≢true h)
 first_of mv (w ∷ ws) h = ap (λ m. Some m) (equal w.mv mv h)
 
@@ -101,9 +109,15 @@ supplies_kept ws h =
     let (begins, few) = and_parts (begin_at 5000 ws && voltages_rise ws) (nat_le (length ws) 7) h in
     let (first, rise) = and_parts (begin_at 5000 ws) (voltages_rise ws) begins in
     let count = at_most (length ws) 7 few in
-    record { some = some_of 5000 ws first; few = omega (arith, length-map ws supply_of, count); first = first_of 5000 ws first; rising = rising ws rise }
+    record {
+      some = some_of 5000 ws first;
+      few = omega (arith, length-map ws supply_of, count);
+      first = first_of 5000 ws first;
+      rising = rising ws rise;
+    }
 
-caps_kept : (supplies : List SupplyData) → AreSupplies supplies → (s : SettingsData) → IsSettings s → IsSettings (record s { supplies = supplies })
+caps_kept : (supplies : List SupplyData) → AreSupplies supplies → (s : SettingsData) → IsSettings s
+    → IsSettings (record s { supplies = supplies })
 caps_kept supplies are s h = record {
   least_floor = h.least_floor;
   most_floor = h.most_floor;
@@ -114,7 +128,8 @@ caps_kept supplies are s h = record {
   most_tries = h.most_tries;
 }
 
-pub valid_caps : (n : ℕ) (c : ScenarioData) (port : ℕ) (supplies : ArrayVec WrittenSupply) → IsValid n c → IsAccepted n c (Caps port supplies) → IsValid n (outcome c (Caps port supplies))
+pub valid_caps : (n : ℕ) (c : ScenarioData) (port : ℕ) (supplies : ArrayVec WrittenSupply) → IsValid n c
+    → IsAccepted n c (Caps port supplies) → IsValid n (outcome c (Caps port supplies))
 valid_caps n c port supplies v a =
     let f : SettingsData → SettingsData = with_supplies supplies.items in
     valid_settings n c (changed_port port f c.settings) (length-changed 1 port f c.settings ∙ v.settings_count)

@@ -1,5 +1,6 @@
 -- What a scenario is after an edit: this product's own, the lines and kinds of docs/FORMATS.md, "Edit script".
-use Rattle.std.specs.Prelude.{◌≡◌, ℕ, ◌≤◌, ◌+◌, Bool, true, not, ◌==◌, List, [], ◌∷◌, ◌++◌, filter, map, length, slice_get, option_map, Some, unwrap_or, bytes_eq, is_some, if◌then◌else◌}
+use Rattle.std.specs.Prelude.{◌≡◌, ℕ, ◌≤◌, ◌+◌, Bool, true, not, ◌==◌, List, [], ◌∷◌, ◌++◌, filter, map, length, slice_get, option_map}
+use Rattle.std.specs.Prelude.{Some, unwrap_or, bytes_eq, is_some, if◌then◌else◌}
 use Rattle.pd_objects.specs.Supply.{SupplyData}
 use Rattle.pd_identity.specs.declared.CablePlug.{CablePlug}
 use Rattle.pd_identity.specs.declared.Rating.TheVariants.{ThreeAmperes}
@@ -24,7 +25,8 @@ use Rattle.pd_edit_lines.specs.declared.edit.EditHappening.{EditHappening}
 use Rattle.pd_edit_lines.specs.declared.edit.EditHappening.TheVariants as happens
 use Rattle.pd_edit_lines.specs.declared.edit.WrittenSupply.{WrittenSupply}
 use Rattle.pd_edit_lines.specs.declared.edit.Edit.{Edit}
-use Rattle.pd_edit_lines.specs.declared.edit.Edit.TheVariants.{Insert, Remove, Move, Change, Cable, DropCable, Sink, DropSink, Caps, Floor, Budget, End}
+use Rattle.pd_edit_lines.specs.declared.edit.Edit.TheVariants.{Insert, Remove, Move, Change, Cable, DropCable, Sink, DropSink, Caps, Floor}
+use Rattle.pd_edit_lines.specs.declared.edit.Edit.TheVariants.{Budget, End}
 
 -- ---- events: the lines `insert`, `move` and `change`
 
@@ -72,12 +74,14 @@ abbrev pub written_cable : List ℕ → CablePlug → ℕ → NamedCable
 written_cable name plug rating = record { name = name; cable = record { plug = plug; rating = unwrap_or (rating_of rating) ThreeAmperes } }
 
 abbrev pub written_sink : List ℕ → ℕ → ℕ → SinkMode → SinkRevision → NamedSink
-written_sink name max_mv demand_mw mode revision = record { name = name; sink = record { max_mv = max_mv; demand_mw = demand_mw; mode = mode; revision = revision } }
+written_sink name max_mv demand_mw mode revision =
+    record { name = name; sink = record { max_mv = max_mv; demand_mw = demand_mw; mode = mode; revision = revision } }
 
 -- a new one in place of the one of its name, else behind the others
 abbrev pub with_cable : NamedCable → List NamedCable → List NamedCable
 with_cable new cables =
-    if has_cable cables new.name then map (λ (old : NamedCable). if bytes_eq old.name new.name then new else old) cables else cables ++ new ∷ []
+    if has_cable cables new.name then map (λ (old : NamedCable). if bytes_eq old.name new.name then new else old) cables
+    else cables ++ new ∷ []
 
 abbrev pub with_sink : NamedSink → List NamedSink → List NamedSink
 with_sink new sinks =
@@ -135,7 +139,8 @@ outcome c (Move id at) = record c { events = map (moved_event id at) c.events }
 outcome c (Change id kind) = record c { events = map (changed_event id (event_kind_of kind)) c.events }
 outcome c (Cable name plug rating) = record c { cables = with_cable (written_cable name plug rating) c.cables }
 outcome c (DropCable name) = record c { cables = without_cable name c.cables }
-outcome c (Sink name max_mv demand_mw mode revision) = record c { sinks = with_sink (written_sink name max_mv demand_mw mode revision) c.sinks }
+outcome c (Sink name max_mv demand_mw mode revision) =
+    record c { sinks = with_sink (written_sink name max_mv demand_mw mode revision) c.sinks }
 outcome c (DropSink name) = record c { sinks = without_sink name c.sinks }
 outcome c (Caps port supplies) = record c { settings = changed_port port (with_supplies supplies.items) c.settings }
 outcome c (Floor port mw) = record c { settings = changed_port port (with_floor mw) c.settings }

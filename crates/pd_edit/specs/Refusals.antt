@@ -1,6 +1,7 @@
 -- What an edit is refused for: this product's own, the table of numbers in docs/FORMATS.md, "Edit script". A heading below
 -- has a row's number; the ranges are those of Limits.antt of pd_scenario.
-use Rattle.std.specs.Prelude.{◌≡◌, ℕ, Bool, true, false, not, ◌||◌, ◌&&◌, ◌==◌, nat_le, nat_lt, List, [], ◌∷◌, length, find, Option, Some, None, Result, Ok, Err, IsOk, is_some, bytes_eq}
+use Rattle.std.specs.Prelude.{◌≡◌, ℕ, Bool, true, false, not, ◌||◌, ◌&&◌, ◌==◌, nat_le, nat_lt, List, [], ◌∷◌, length, find, Option, Some}
+use Rattle.std.specs.Prelude.{None, Result, Ok, Err, IsOk, is_some, bytes_eq}
 use Rattle.std.specs.List.{list_any, list_all}
 use Rattle.pd_scenario.specs.declared.limits.Quantity.TheVariants as quantity
 use Rattle.pd_scenario.specs.declared.event.ScenarioEvent.{ScenarioEvent}
@@ -11,13 +12,15 @@ use Rattle.pd_scenario.specs.declared.event.ScenarioHappening.TheVariants as sce
 use Rattle.pd_scenario.specs.Scenarios.{ScenarioData, has_id, is_funded}
 use Rattle.pd_scenario.specs.Limits.{allows, is_port, most_names, most_events, most_supplies, first_mv}
 use Rattle.pd_edit_lines.specs.declared.fault.EditFault.{EditFault}
-use Rattle.pd_edit_lines.specs.declared.fault.EditFault.TheVariants.{Syntax, IdTaken, NoSuchId, NoSuchPort, NoSuchName, InUse, Range, Supplies, Floors, Limit, Memory}
+use Rattle.pd_edit_lines.specs.declared.fault.EditFault.TheVariants.{Syntax, IdTaken, NoSuchId, NoSuchPort, NoSuchName, InUse, Range}
+use Rattle.pd_edit_lines.specs.declared.fault.EditFault.TheVariants.{Supplies, Floors, Limit, Memory}
 use Rattle.pd_edit_lines.specs.Kinds.{EditKind}
 use Rattle.pd_edit_lines.specs.declared.edit.EditHappening.{EditHappening}
 use Rattle.pd_edit_lines.specs.declared.edit.EditHappening.TheVariants as happens
 use Rattle.pd_edit_lines.specs.declared.edit.WrittenSupply.{WrittenSupply}
 use Rattle.pd_edit_lines.specs.declared.edit.Edit.{Edit}
-use Rattle.pd_edit_lines.specs.declared.edit.Edit.TheVariants.{Insert, Remove, Move, Change, Cable, DropCable, Sink, DropSink, Caps, Floor, Budget, End}
+use Rattle.pd_edit_lines.specs.declared.edit.Edit.TheVariants.{Insert, Remove, Move, Change, Cable, DropCable, Sink, DropSink, Caps, Floor}
+use Rattle.pd_edit_lines.specs.declared.edit.Edit.TheVariants.{Budget, End}
 use Rattle.pd_scenario.specs.Words.{rating_of}
 use Rattle.pd_edit.specs.Edits.{has_cable, has_sink, outcome}
 

@@ -1,7 +1,8 @@
 //! Lists of events, cables, sinks and settings with one changed.
 
 ghost use Rattle.std.specs.Prelude.{◌≡◌, ◌≤◌, ◌==◌, ℕ, true, not, [], ◌∷◌, ◌++◌, filter, map, bytes_eq, IfOk, if◌then◌else◌};
-ghost use Rattle.pd_edit.specs.Edits.{moved_event, changed_event, event_kind_of, without_cable, without_sink, changed_port, with_floor, AreSupplies};
+ghost use Rattle.pd_edit.specs.Edits.{moved_event, changed_event, event_kind_of, without_cable, without_sink, changed_port, with_floor};
+ghost use Rattle.pd_edit.specs.Edits.{AreSupplies};
 ghost use Rattle.pd_edit.specs.Refusals.{kind_in_range};
 
 use crate::made::{changed_event, event_kind_of, moved_event, with_floor_at, with_supplies_at};

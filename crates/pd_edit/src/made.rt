@@ -6,7 +6,8 @@ ghost use Rattle.pd_setup.specs.Sinks.{IsSink};
 ghost use Rattle.pd_scenario.specs.Limits.{allows};
 ghost use Rattle.pd_scenario.specs.declared.limits.Quantity.TheVariants as quantity;
 ghost use Rattle.pd_scenario.specs.Words.{rating_of};
-ghost use Rattle.pd_edit.specs.Edits.{damage_of, event_kind_of, event_happening_of, inserted_event, moved_event, changed_event, with_kind, written_cable, written_sink, with_floor, supply_of, AreSupplies};
+ghost use Rattle.pd_edit.specs.Edits.{damage_of, event_kind_of, event_happening_of, inserted_event, moved_event, changed_event, with_kind};
+ghost use Rattle.pd_edit.specs.Edits.{written_cable, written_sink, with_floor, supply_of, AreSupplies};
 ghost use Rattle.pd_edit.specs.Refusals.{kind_in_range, happening_in_range, happens_on_port, supply_in_range};
 
 use arrayvec::ArrayVec;

@@ -5,7 +5,10 @@ ghost use Rattle.std.specs.List.{list_all, list_any};
 ghost use Rattle.pd_scenario.specs.Scenarios.{floors_mw};
 ghost use Rattle.pd_scenario.specs.Limits.{is_port};
 ghost use Rattle.pd_edit.specs.Edits.{changed_from, with_floor, has_cable, has_sink};
-ghost use Rattle.pd_edit.specs.Refusals.{id_is_free, id_is_known, happens_on_port, is_on_port, port_is_known, kind_is_known, happening_is_known, name_is_known, names_cable, names_sink, is_unused, kind_in_range, happening_in_range, supply_in_range, in_range, begin_at, follows, voltages_rise, are_supplies, supplies_rise, stays_funded, has_room, refuses, refusals};
+ghost use Rattle.pd_edit.specs.Refusals.{id_is_free, id_is_known, happens_on_port, is_on_port, port_is_known, kind_is_known};
+ghost use Rattle.pd_edit.specs.Refusals.{happening_is_known, name_is_known, names_cable, names_sink, is_unused, kind_in_range};
+ghost use Rattle.pd_edit.specs.Refusals.{happening_in_range, supply_in_range, in_range, begin_at, follows, voltages_rise, are_supplies};
+ghost use Rattle.pd_edit.specs.Refusals.{supplies_rise, stays_funded, has_room, refuses, refusals};
 
 use pd_edit_lines::{Edit, EditFault, EditHappening, EditKind, WrittenSupply};
 use pd_scenario::{

@@ -13,7 +13,8 @@ pub record BeginsWith (ws : Words) (n : ℕ) (others : Words) : Type 0 where
 abbrev pub with_others : Words → ℕ → Option (ℕ × Words)
 with_others ws n = Some (n, ws)
 
-of_word : (o : Option ℕ) (ws : Words) (n : ℕ) (others : Words) → with_others others n ≡ option_and_then (with_others ws) o → (o ≡ Some n) × (ws ≡ others)
+of_word : (o : Option ℕ) (ws : Words) (n : ℕ) (others : Words) → with_others others n ≡ option_and_then (with_others ws) o → (o ≡ Some n)
+    × (ws ≡ others)
 of_word None ws n others h = absurd (cc)
 of_word (Some m) ws n others h =
     let number_is = ap (λ (o : Option (ℕ × Words)). option_map (λ (p : ℕ × Words). p.0) o) h in

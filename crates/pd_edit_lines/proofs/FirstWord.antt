@@ -32,7 +32,8 @@ positive zero [] found front some = absurd (false≢true (sym some))
 positive zero (c ∷ cs) found front some = absurd (front (found (omega arith)))
 positive (suc n) s found front some = omega arith
 
-pub words-first : (bs : List ℕ) (n : ℕ) → n ≤ length bs → ((k : ℕ) → k < n → get_or bs k 0 ≡ 32 → ⊥) → (n < length bs → get_or bs n 0 ≡ 32) → 0 < n
+pub words-first : (bs : List ℕ) (n : ℕ) → n ≤ length bs → ((k : ℕ) → k < n → get_or bs k 0 ≡ 32 → ⊥) → (n < length bs → get_or bs n 0 ≡ 32)
+    → 0 < n
     → words bs ≡ take n bs ∷ words (drop n bs)
 words-first bs zero within before found some = absurd (omega arith)
 words-first [] (suc n) within before found some = absurd (omega arith)

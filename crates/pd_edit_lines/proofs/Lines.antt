@@ -6,7 +6,8 @@ use Rattle.pd_edit_lines.specs.declared.edit.EditHappening.{EditHappening}
 use Rattle.pd_edit_lines.specs.declared.edit.Edit.TheVariants.{Insert}
 use Rattle.pd_edit_lines.proofs.FirstNumber.{begins}
 
-pub inserts : (ws xs ys : Words) (i t : ℕ) (h : EditHappening) → Some (i, xs) ≡ number_at ws → Some (t, ys) ≡ number_at xs → Some h ≡ happening_of ys
+pub inserts : (ws xs ys : Words) (i t : ℕ) (h : EditHappening) → Some (i, xs) ≡ number_at ws → Some (t, ys) ≡ number_at xs
+    → Some h ≡ happening_of ys
     → Some (Insert i t h) ≡ insert_of ws
 inserts ws xs ys i t h id at happening =
     let first = begins ws i xs id in

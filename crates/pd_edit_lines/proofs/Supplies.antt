@@ -1,5 +1,6 @@
 -- The supplies of a line, read two words at a time.
-use Rattle.std.proofs.Common.{◌≡◌, ℕ, ◌<◌, ◌≤◌, true, false, ◌&&◌, ◌==◌, List, [], ◌∷◌, ◌++◌, length, refl, arith, append_assoc, length-append, Some, None}
+use Rattle.std.proofs.Common.{◌≡◌, ℕ, ◌<◌, ◌≤◌, true, false, ◌&&◌, ◌==◌, List, [], ◌∷◌, ◌++◌, length, refl, arith, append_assoc}
+use Rattle.std.proofs.Common.{length-append, Some, None}
 use Rattle.std.specs.Prelude.{Option, nat_le, option_and_then, is_some}
 use Rattle.std.proofs.lemmas.List.{append-nil}
 use Rattle.std.proofs.lemmas.Bool.{false≢true}
@@ -10,7 +11,8 @@ use Rattle.pd_edit_lines.specs.declared.edit.WrittenSupply.{WrittenSupply}
 use Rattle.pd_edit_lines.proofs.FirstNumber.{with_others, begins}
 
 joined : (read : List WrittenSupply) (s : WrittenSupply) (o : Option (List WrittenSupply))
-    → option_and_then (λ supplies. few_supplies ((read ++ s ∷ []) ++ supplies)) o ≡ option_and_then (λ supplies. few_supplies (read ++ supplies)) (option_and_then (λ supplies. Some (s ∷ supplies)) o)
+    → option_and_then (λ supplies. few_supplies ((read ++ s ∷ []) ++ supplies)) o ≡ option_and_then
+    (λ supplies. few_supplies (read ++ supplies)) (option_and_then (λ supplies. Some (s ∷ supplies)) o)
 joined read s None = refl
 joined read s (Some supplies) = rw append_assoc
 
@@ -36,7 +38,8 @@ no_voltage read [] some h = absurd (cc)
 no_voltage read (v ∷ []) some h = refl
 no_voltage read (v ∷ w ∷ ws) some h = rw (not_first (number v) (w ∷ ws) h)
 
-pub no_current : (read : List WrittenSupply) (ws xs : Words) (m : ℕ) → Some (m, xs) ≡ number_at ws → None ≡ number_at xs → None ≡ with_supplies read ws
+pub no_current : (read : List WrittenSupply) (ws xs : Words) (m : ℕ) → Some (m, xs) ≡ number_at ws → None ≡ number_at xs
+    → None ≡ with_supplies read ws
 no_current read ws [] m mv h =
     let first = begins ws m [] mv in
     rw first.are
@@ -54,9 +57,11 @@ too_many read s (Some supplies) full =
     let long : 7 < length ((read ++ s ∷ []) ++ supplies) = simp length-append (omega arith) in
     rw (many (length ((read ++ s ∷ []) ++ supplies)) long)
 
-pub full : (read : List WrittenSupply) (ws xs ys : Words) (m a : ℕ) → Some (m, xs) ≡ number_at ws → Some (a, ys) ≡ number_at xs → 7 ≤ length read
+pub full : (read : List WrittenSupply) (ws xs ys : Words) (m a : ℕ) → Some (m, xs) ≡ number_at ws → Some (a, ys) ≡ number_at xs
+    → 7 ≤ length read
     → None ≡ with_supplies read ws
-full read ws xs ys m a mv ma many = rw (← one_more read ws xs ys m a mv ma) (too_many read (record { mv = m; ma = a }) (supplies_of ys) many)
+full read ws xs ys m a mv ma many =
+    rw (← one_more read ws xs ys m a mv ma) (too_many read (record { mv = m; ma = a }) (supplies_of ys) many)
 
 few : (n : ℕ) → 1 ≤ n → n ≤ 7 → (nat_le 1 n && nat_le n 7) ≡ true
 few n some h = grind (arith, nat_tests)
@@ -64,7 +69,8 @@ few n some h = grind (arith, nat_tests)
 pub some_read : (n : ℕ) → false ≡ (n == 0) → 1 ≤ n
 some_read n h = grind (arith, nat_tests)
 
-pub at_end : (read : List WrittenSupply) (ws : Words) → is_some (end_of ws) ≡ true → 1 ≤ length read → length read ≤ 7 → Some (record { items = read }) ≡ with_supplies read ws
+pub at_end : (read : List WrittenSupply) (ws : Words) → is_some (end_of ws) ≡ true → 1 ≤ length read → length read ≤ 7
+    → Some (record { items = read }) ≡ with_supplies read ws
 at_end read [] over some h = rw (append-nil read, few (length read) some h)
 at_end read (w ∷ ws) over some h = absurd (false≢true over)
 

@@ -6,7 +6,8 @@
 --     caps PORT MV MA [MV MA]..      floor PORT MW      budget MW      end AT
 --     show transcript PORT      show contracts      show faults      show margins
 -- KIND is attach CABLE SINK, detach, demand MW, lose, damage PLACE MASK, get_source or get_sink.
-use Rattle.std.specs.Prelude.{ℕ, Bool, false, ◌&&◌, ◌==◌, ◌||◌, nat_lt, nat_le, List, [], ◌∷◌, ◌++◌, length, codes, Option, Some, None, option_map, ok_or, Result, Ok, Err, bytes_eq, if◌then◌else◌}
+use Rattle.std.specs.Prelude.{ℕ, Bool, false, ◌&&◌, ◌==◌, ◌||◌, nat_lt, nat_le, List, [], ◌∷◌, ◌++◌, length, codes, Option, Some, None}
+use Rattle.std.specs.Prelude.{option_map, ok_or, Result, Ok, Err, bytes_eq, if◌then◌else◌}
 use Rattle.std.specs.List.{list_all}
 use Rattle.arrayvec.specs.ArrayVec.{ArrayVec}
 use Rattle.pd_setup.specs.Events.{KindWord, by_kind}
@@ -68,7 +69,8 @@ damage_of ws = two_numbers (λ place mask. Damage (record { place = place; mask 
 
 -- what stands after the word of a kind
 abbrev pub kind_from : KindWord → Words → Option EditKind
-kind_from word ws = by_kind (λ cable sink. attach_of ws) (λ power. one_number Demand ws) (λ harm. damage_of ws) (λ plain. alone plain ws) word
+kind_from word ws =
+    by_kind (λ cable sink. attach_of ws) (λ power. one_number Demand ws) (λ harm. damage_of ws) (λ plain. alone plain ws) word
 
 -- KIND
 abbrev pub kind_at : Words → Option EditKind

@@ -1,7 +1,8 @@
 -- The numbers that refused lines are shown by: this product's own.
 use Rattle.std.specs.Prelude.{ℕ}
 use Rattle.pd_edit_lines.specs.declared.fault.EditFault.{EditFault}
-use Rattle.pd_edit_lines.specs.declared.fault.EditFault.TheVariants.{Syntax, IdTaken, NoSuchId, NoSuchPort, NoSuchName, InUse, Range, Supplies, Floors, Limit, Memory}
+use Rattle.pd_edit_lines.specs.declared.fault.EditFault.TheVariants.{Syntax, IdTaken, NoSuchId, NoSuchPort, NoSuchName, InUse, Range}
+use Rattle.pd_edit_lines.specs.declared.fault.EditFault.TheVariants.{Supplies, Floors, Limit, Memory}
 
 abbrev pub number_of : EditFault → ℕ
 number_of Syntax = 20

@@ -2,7 +2,8 @@
 
 ghost use Rattle.std.specs.Prelude.{◌≡◌};
 ghost use Rattle.pd_edit_lines.specs.Words.{words};
-ghost use Rattle.pd_edit_lines.specs.Grammar.{attach_of, damage_of, kind_from, kind_at, on_port_of, happening_of, insert_of, change_of, one_number, two_numbers};
+ghost use Rattle.pd_edit_lines.specs.Grammar.{attach_of, damage_of, kind_from, kind_at, on_port_of, happening_of, insert_of, change_of};
+ghost use Rattle.pd_edit_lines.specs.Grammar.{one_number, two_numbers};
 ghost use Rattle.pd_edit_lines.specs.declared.edit.EditHappening.TheVariants as happenings;
 ghost use Rattle.pd_edit_lines.specs.declared.edit.Edit.TheVariants as edits;
 

@@ -2,7 +2,8 @@
 
 ghost use Rattle.std.specs.Prelude.{◌≡◌, []};
 ghost use Rattle.pd_edit_lines.specs.Words.{words};
-ghost use Rattle.pd_edit_lines.specs.Grammar.{cable_from, cable_of, revision_of, sink_from, sink_of, with_supplies, caps_of, one_number, two_numbers};
+ghost use Rattle.pd_edit_lines.specs.Grammar.{cable_from, cable_of, revision_of, sink_from, sink_of, with_supplies, caps_of, one_number};
+ghost use Rattle.pd_edit_lines.specs.Grammar.{two_numbers};
 ghost use Rattle.pd_edit_lines.specs.declared.edit.Edit.TheVariants as edits;
 
 use crate::keywords::revision_word;

@@ -38,13 +38,15 @@ pub put_entry : (es : List EventData) (e : EventData) → insert_entry by_place 
 put_entry [] e = refl
 put_entry (f ∷ es) e =
     elim (cases_Bool (is_before f e)) [
-      | inl first ↦ rw (first, greater f.at e.at (number_of f.happening) (number_of e.happening) first) (ap (λ rest. entry f ∷ rest) (put_entry es e))
+      | inl first ↦ rw (first, greater f.at e.at (number_of f.happening) (number_of e.happening) first)
+          (ap (λ rest. entry f ∷ rest) (put_entry es e))
       | inr later ↦
           elim (cases_Bool (is_before e f)) [
             | inl first ↦ rw (later, first, less e.at f.at (number_of e.happening) (number_of f.happening) first)
             | inr tie ↦
                 let alike = same e f tie later in
-                let found : by_place (place e) (place f) ≡ Equal = equal e.at f.at (number_of e.happening) (number_of f.happening) alike.at alike.number in
+                let found : by_place (place e) (place f) ≡ Equal = equal e.at f.at (number_of e.happening) (number_of f.happening)
+                alike.at alike.number in
                 let places : place e ≡ place f = rw (alike.at, alike.number) in
                 rw (later, tie, found) (ap (λ (p : ℕ × ℕ). (p, e) ∷ map entry es) (sym places))
           ]
@@ -55,7 +57,8 @@ values-entries [] = refl
 values-entries (e ∷ es) = ap (λ rest. e ∷ rest) (values-entries es)
 
 -- one more event, or none
-pub each-more : (es : List EventData) (o : Option EventData) (e : EventData) → o ≡ Some e → fold put [] (es ++ option_to_list o) ≡ put (fold put [] es) e
+pub each-more : (es : List EventData) (o : Option EventData) (e : EventData) → o ≡ Some e
+    → fold put [] (es ++ option_to_list o) ≡ put (fold put [] es) e
 each-more es o e is = rw is (fold-append put [] es (e ∷ []))
 
 pub each-same : (es : List EventData) (o : Option EventData) → o ≡ None → fold put [] (es ++ option_to_list o) ≡ fold put [] es

@@ -1,5 +1,6 @@
 -- What a list contains, and what is left of it by a call that gives nothing for some.
-use Rattle.std.proofs.Common.{◌≡◌, ℕ, zero, suc, ◌<◌, ◌≤◌, ◌+◌, ◌⊎◌, Bool, true, List, [], ◌∷◌, ◌++◌, length, get_or, take, refl, sym, ap, ◌∙◌, inl, inr, arith, Some, None}
+use Rattle.std.proofs.Common.{◌≡◌, ℕ, zero, suc, ◌<◌, ◌≤◌, ◌+◌, ◌⊎◌, Bool, true, List, [], ◌∷◌, ◌++◌, length, get_or, take, refl, sym, ap}
+use Rattle.std.proofs.Common.{◌∙◌, inl, inr, arith, Some, None}
 use Rattle.std.specs.Prelude.{Option, Contains, min, fold}
 use Rattle.std.specs.List.{filter_map, cons_option, list_all}
 use Rattle.std.specs.Option.{option_to_list}
@@ -45,7 +46,8 @@ pub record From {X Y : Type 0} (f : X → Option Y) (xs : List X) (y : Y) : Type
 from_later : {X Y : Type 0} (f : X → Option Y) (x : X) (xs : List X) (y : Y) → From f xs y → From f (x ∷ xs) y
 from_later f x xs y h = record { of = h.of; there = there x h.of xs h.there; is = h.is }
 
-from_first : {X Y : Type 0} (f : X → Option Y) (x : X) (xs : List X) (o : Option Y) (y : Y) → f x ≡ o → (Contains (filter_map f xs) y → From f xs y) → Contains (cons_option o (filter_map f xs)) y
+from_first : {X Y : Type 0} (f : X → Option Y) (x : X) (xs : List X) (o : Option Y) (y : Y) → f x ≡ o
+    → (Contains (filter_map f xs) y → From f xs y) → Contains (cons_option o (filter_map f xs)) y
     → From f (x ∷ xs) y
 from_first f x xs None y is rest h = from_later f x xs y (rest h)
 from_first f x xs (Some z) y is rest h =
@@ -65,7 +67,8 @@ later_too (Some z) ys y h = there z y ys h
 first_too : {Y : Type 0} (o : Option Y) (ys : List Y) (y : Y) → o ≡ Some y → Contains (cons_option o ys) y
 first_too o ys y is = rw is (here y ys)
 
-pub filter_map_has : {X Y : Type 0} (f : X → Option Y) (xs : List X) (x : X) (y : Y) → Contains xs x → f x ≡ Some y → Contains (filter_map f xs) y
+pub filter_map_has : {X Y : Type 0} (f : X → Option Y) (xs : List X) (x : X) (y : Y) → Contains xs x → f x ≡ Some y
+    → Contains (filter_map f xs) y
 filter_map_has f [] x y h is = absurd (none x h)
 filter_map_has f (z ∷ zs) x y h is =
     elim (cases z x zs h) [
@@ -102,6 +105,8 @@ one None = refl
 one (Some y) = refl
 
 -- one more element
-pub filter_map-more : {X Y : Type 0} (f : X → Option Y) (xs : List X) (i : ℕ) (x : X) → i < length xs → x ≡ get_or xs i x → filter_map f (take (i + 1) xs) ≡ filter_map f (take i xs) ++ option_to_list (f x)
+pub filter_map-more : {X Y : Type 0} (f : X → Option Y) (xs : List X) (i : ℕ) (x : X) → i < length xs → x ≡ get_or xs i x
+    → filter_map f (take (i + 1) xs) ≡ filter_map f (take i xs) ++ option_to_list (f x)
 filter_map-more f xs i x below is =
-    ap (filter_map f) (take_more xs i x below) ∙ filter_map-append f (take i xs) (get_or xs i x ∷ []) ∙ ap (λ ys. filter_map f (take i xs) ++ ys) (one (f (get_or xs i x)) ∙ ap (λ y. option_to_list (f y)) (sym is))
+    ap (filter_map f) (take_more xs i x below) ∙ filter_map-append f (take i xs) (get_or xs i x ∷ [])
+    ∙ ap (λ ys. filter_map f (take i xs) ++ ys) (one (f (get_or xs i x)) ∙ ap (λ y. option_to_list (f y)) (sym is))

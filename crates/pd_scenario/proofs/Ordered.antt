@@ -1,5 +1,6 @@
 -- The events of a port stand in the order of their times and numbers, and are exactly its events.
-use Rattle.std.proofs.Common.{◌≡◌, ℕ, zero, suc, ◌+◌, ◌<◌, ◌≤◌, ◌⊎◌, true, false, ◌||◌, ◌&&◌, ◌==◌, List, [], ◌∷◌, length, fold, refl, sym, ◌∙◌, inl, inr, arith, add-one, Some}
+use Rattle.std.proofs.Common.{◌≡◌, ℕ, zero, suc, ◌+◌, ◌<◌, ◌≤◌, ◌⊎◌, true, false, ◌||◌, ◌&&◌, ◌==◌, List, [], ◌∷◌, length, fold, refl, sym}
+use Rattle.std.proofs.Common.{◌∙◌, inl, inr, arith, add-one, Some}
 use Rattle.std.specs.Prelude.{slice_get, nat_lt, Contains}
 use Rattle.std.proofs.lemmas.Bool.{cases_Bool}
 use Rattle.std.proofs.lemmas.Bool.Decides.{nat_tests}
@@ -18,7 +19,8 @@ pub record SamePlace (e f : EventData) : Type 0 where
 before_numbers : (a b m n : ℕ) → (nat_lt a b || ((a == b) && nat_lt m n)) ≡ true → (a < b) ⊎ ((a ≡ b) × (m < n))
 before_numbers a b m n h = grind (arith, nat_tests)
 
-same_numbers : (a b m n : ℕ) → (nat_lt a b || ((a == b) && nat_lt m n)) ≡ false → (nat_lt b a || ((b == a) && nat_lt n m)) ≡ false → (a ≡ b) × (m ≡ n)
+same_numbers : (a b m n : ℕ) → (nat_lt a b || ((a == b) && nat_lt m n)) ≡ false → (nat_lt b a || ((b == a) && nat_lt n m)) ≡ false
+    → (a ≡ b) × (m ≡ n)
 same_numbers a b m n h k = grind (arith, nat_tests)
 
 before : (e f : EventData) → is_before e f ≡ true → ComesBefore e f
@@ -33,7 +35,8 @@ through : (a b c m n o : ℕ) → (a < b) ⊎ ((a ≡ b) × (m < n)) → (b < c)
 through a b c m n o h k =
     elim h [
       | inl less ↦ elim k [ inl more ↦ inl (omega arith) | inr tie ↦ inl (omega (arith, tie.0)) ]
-      | inr tie ↦ elim k [ inl more ↦ inl (omega (arith, tie.0)) | inr other ↦ inr (omega (arith, tie.0, other.0), omega (arith, tie.1, other.1)) ]
+      | inr tie ↦
+          elim k [ inl more ↦ inl (omega (arith, tie.0)) | inr other ↦ inr (omega (arith, tie.0, other.0), omega (arith, tie.1, other.1)) ]
     ]
 
 ComesBefore-trans : (e f g : EventData) → ComesBefore e f → ComesBefore f g → ComesBefore e g
@@ -107,12 +110,14 @@ each_only acc (e ∷ es) x h =
     ]
 
 -- where two events of one place are the same event, none is lost
-pub each_all : (Known : EventData → Type 0) → ((e f : EventData) → Known e → Known f → SamePlace e f → e ≡ f) → (acc es : List EventData) → ((x : EventData) → Contains acc x → Known x)
+pub each_all : (Known : EventData → Type 0) → ((e f : EventData) → Known e → Known f → SamePlace e f → e ≡ f) → (acc es : List EventData)
+    → ((x : EventData) → Contains acc x → Known x)
     → ((x : EventData) → Contains es x → Known x) → (x : EventData) → Contains acc x ⊎ Contains es x → Contains (fold put acc es) x
 each_all Known alike acc [] old new x h = elim h [ inl early ↦ early | inr later ↦ absurd (none x later) ]
 each_all Known alike acc (e ∷ es) old new x h =
     let first : Known e = new e (here e es) in
-    let kept : (y : EventData) → Contains (put acc e) y → Known y = λ y at. elim (put_only acc e y at) [ inl is ↦ rw (← is) first | inr early ↦ old y early ] in
+    let kept : (y : EventData) → Contains (put acc e) y
+    → Known y = λ y at. elim (put_only acc e y at) [ inl is ↦ rw (← is) first | inr early ↦ old y early ] in
     each_all Known alike (put acc e) es kept (λ y at. new y (there e y es at)) x (
     elim h [
       | inl early ↦ inl (put_old acc e x (alike x e (old x early) first) early)
@@ -125,7 +130,11 @@ length-put [] e = omega arith
 length-put (f ∷ es) e =
     elim (cases_Bool (is_before f e)) [
       | inl first ↦ rw first (let rest = length-put es e in omega arith)
-      | inr later ↦ elim (cases_Bool (is_before e f)) [ inl first ↦ rw (later, first) (omega arith) | inr tie ↦ rw (later, tie) (omega arith) ]
+      | inr later ↦ elim (cases_Bool (is_before e f)) [
+        | inl first ↦ rw (later, first) (omega arith)
+        | inr tie ↦
+            rw (later, tie) (omega arith)
+      ]
     ]
 
 pub length-each : (acc es : List EventData) → length (fold put acc es) ≤ length acc + length es
@@ -143,7 +152,8 @@ InOrder [] = Unit {0}
 InOrder (e ∷ []) = Unit {0}
 InOrder (e ∷ (f ∷ es)) = ComesBefore e f × InOrder (f ∷ es)
 
-in_front : (f g : EventData) (es : List EventData) (e : EventData) → ComesBefore f g → ComesBefore f e → InOrder (put (g ∷ es) e) → InOrder (f ∷ put (g ∷ es) e)
+in_front : (f g : EventData) (es : List EventData) (e : EventData) → ComesBefore f g → ComesBefore f e → InOrder (put (g ∷ es) e)
+    → InOrder (f ∷ put (g ∷ es) e)
 in_front f g es e fg fe order =
     elim (cases_Bool (is_before g e)) [
       | inl first ↦ rw first (fg, rw first at order)
@@ -183,7 +193,8 @@ pub InOrder-each : (acc es : List EventData) → InOrder acc → InOrder (fold p
 InOrder-each acc [] order = order
 InOrder-each acc (e ∷ es) order = InOrder-each (put acc e) es (InOrder-put acc e order)
 
-pub adjacent : (es : List EventData) (i : ℕ) (e f : EventData) → InOrder es → slice_get es i ≡ Some e → slice_get es (suc i) ≡ Some f → ComesBefore e f
+pub adjacent : (es : List EventData) (i : ℕ) (e f : EventData) → InOrder es → slice_get es i ≡ Some e → slice_get es (suc i) ≡ Some f
+    → ComesBefore e f
 adjacent [] i e f order a b = absurd (cc)
 adjacent (x ∷ []) zero e f order a b = absurd (cc)
 adjacent (x ∷ []) (suc i) e f order a b = absurd (cc)
@@ -193,7 +204,8 @@ adjacent (x ∷ (y ∷ es)) zero e f order a b =
     rw (← first, ← second) order.0
 adjacent (x ∷ (y ∷ es)) (suc i) e f order a b = adjacent (y ∷ es) i e f order.1 a b
 
-pub from_adjacent : (es : List EventData) → ((i : ℕ) (e f : EventData) → slice_get es i ≡ Some e → slice_get es (i + 1) ≡ Some f → ComesBefore e f) → InOrder es
+pub from_adjacent : (es : List EventData) → ((i : ℕ) (e f : EventData) → slice_get es i ≡ Some e → slice_get es (i + 1) ≡ Some f
+    → ComesBefore e f) → InOrder es
 from_adjacent [] each = tt
 from_adjacent (e ∷ []) each = tt
 from_adjacent (e ∷ (f ∷ es)) each =
@@ -213,7 +225,8 @@ tail_order : (e : EventData) (es : List EventData) → InOrder (e ∷ es) → In
 tail_order e [] order = tt
 tail_order e (f ∷ es) order = order.1
 
-first_same : (e f : EventData) (es fs : List EventData) → InOrder (e ∷ es) → InOrder (f ∷ fs) → Contains (f ∷ fs) e → Contains (e ∷ es) f → e ≡ f
+first_same : (e f : EventData) (es fs : List EventData) → InOrder (e ∷ es) → InOrder (f ∷ fs) → Contains (f ∷ fs) e → Contains (e ∷ es) f
+    → e ≡ f
 first_same e f es fs eo fo e_there f_there =
     elim (cases f e fs e_there) [
       | inl is ↦ sym is
@@ -224,18 +237,21 @@ first_same e f es fs eo fo e_there f_there =
           ]
     ]
 
-rest_there : (e f : EventData) (es fs : List EventData) → e ≡ f → InOrder (e ∷ es) → ((x : EventData) → Contains (e ∷ es) x → Contains (f ∷ fs) x) → (x : EventData) → Contains es x → Contains fs x
+rest_there : (e f : EventData) (es fs : List EventData) → e ≡ f → InOrder (e ∷ es)
+    → ((x : EventData) → Contains (e ∷ es) x → Contains (f ∷ fs) x) → (x : EventData) → Contains es x → Contains fs x
 rest_there e f es fs is order all x h =
     elim (cases f x fs (all x (there e x es h))) [
       | inl first ↦ absurd (not_itself e (let last = all_after e es x order h in rw (is ∙ first) (rw (is ∙ first) at last)))
       | inr later ↦ later
     ]
 
-pub one_order : (es fs : List EventData) → InOrder es → InOrder fs → ((x : EventData) → Contains es x → Contains fs x) → ((x : EventData) → Contains fs x → Contains es x) → es ≡ fs
+pub one_order : (es fs : List EventData) → InOrder es → InOrder fs → ((x : EventData) → Contains es x → Contains fs x)
+    → ((x : EventData) → Contains fs x → Contains es x) → es ≡ fs
 one_order [] [] eo fo left right = refl
 one_order [] (f ∷ fs) eo fo left right = absurd (none f (right f (here f fs)))
 one_order (e ∷ es) [] eo fo left right = absurd (none e (left e (here e es)))
 one_order (e ∷ es) (f ∷ fs) eo fo left right =
     let first = first_same e f es fs eo fo (left e (here e es)) (right f (here f fs)) in
-    let rest = one_order es fs (tail_order e es eo) (tail_order f fs fo) (rest_there e f es fs first eo left) (rest_there f e fs es (sym first) fo right) in
+    let rest = one_order es fs (tail_order e es eo) (tail_order f fs fo) (rest_there e f es fs first eo left)
+    (rest_there f e fs es (sym first) fo right) in
     rw (first, rest)

@@ -1,5 +1,6 @@
 -- The plan of a valid scenario is a plan.
-use Rattle.std.proofs.Common.{◌≡◌, ℕ, ◌+◌, ◌*◌, ◌<◌, ◌≤◌, Bool, true, false, not, ◌&&◌, cond, List, [], ◌∷◌, length, map, fold, refl, sym, ap, ◌∙◌, inl, inr, arith, add-one, Some, None}
+use Rattle.std.proofs.Common.{◌≡◌, ℕ, ◌+◌, ◌*◌, ◌<◌, ◌≤◌, Bool, true, false, not, ◌&&◌, cond, List, [], ◌∷◌, length, map, fold, refl, sym}
+use Rattle.std.proofs.Common.{ap, ◌∙◌, inl, inr, arith, add-one, Some, None}
 use Rattle.std.specs.Prelude.{Option, option_map, sum, sum_by, slice_get, ◌==◌, nat_le, Contains}
 use Rattle.std.specs.List.{range_with_len, filter_map}
 use Rattle.std.proofs.lemmas.Bool.{cases_Bool, cases_lt, false≢true, and_parts, not-true}
@@ -64,7 +65,8 @@ unwrapped : {X : Type 0} (x y : X) → Some x ≡ Some y → x ≡ y
 unwrapped x y h = cc
 
 -- what a port is shown
-shown : (b : Bool) (what : Happening) (at : ℕ) (x : EventData) → option_map (λ (happening : Happening). record { at = at; happening = happening }) (cond b (Some what) None) ≡ Some x
+shown : (b : Bool) (what : Happening) (at : ℕ) (x : EventData)
+    → option_map (λ (happening : Happening). record { at = at; happening = happening }) (cond b (Some what) None) ≡ Some x
     → record { at = at; happening = what } ≡ x
 shown true what at x is = unwrapped (record { at = at; happening = what }) x is
 shown false what at x is = absurd (nothing_is x is)
@@ -73,25 +75,30 @@ same_kind : (p q : ℕ) (k l : ScenarioEventKind) → OnPort p k ≡ OnPort q l 
 same_kind p q k l is = cc
 
 -- two events of one time and number are the same, where one id has one happening
-alike : (cables : List NamedCable) (sinks : List NamedSink) (port id other at also : ℕ) (h k : ScenarioHappening) (x y : EventData) → 1 ≤ id → 1 ≤ other → (id ≡ other → h ≡ k)
+alike : (cables : List NamedCable) (sinks : List NamedSink) (port id other at also : ℕ) (h k : ScenarioHappening) (x y : EventData)
+    → 1 ≤ id → 1 ≤ other → (id ≡ other → h ≡ k)
     → option_map (λ (happening : Happening). record { at = at; happening = happening }) (seen_by cables sinks port id h) ≡ Some x
-    → option_map (λ (happening : Happening). record { at = also; happening = happening }) (seen_by cables sinks port other k) ≡ Some y → SamePlace x y → x ≡ y
+    → option_map (λ (happening : Happening). record { at = also; happening = happening }) (seen_by cables sinks port other k) ≡ Some y
+    → SamePlace x y → x ≡ y
 alike cables sinks port id other at also (OnPort p k) (OnPort q l) x y first second same a b place =
     let left = shown (p == port) (Port id (resolved cables sinks k)) at x a in
     let right = shown (q == port) (Port other (resolved cables sinks l)) also y b in
     let times : at ≡ also = ap (λ (e : EventData). e.at) left ∙ place.at ∙ sym (ap (λ (e : EventData). e.at) right) in
-    let ids : id ≡ other = ap (λ (e : EventData). number_of e.happening) left ∙ place.number ∙ sym (ap (λ (e : EventData). number_of e.happening) right) in
+    let ids : id ≡ other = ap (λ (e : EventData). number_of e.happening) left ∙ place.number
+    ∙ sym (ap (λ (e : EventData). number_of e.happening) right) in
     let kinds = same_kind p q k l (same ids) in
     sym left ∙ rw (times, ids, kinds) right
 alike cables sinks port id other at also (OnPort p k) (Budget mw) x y first second same a b place =
     let left = shown (p == port) (Port id (resolved cables sinks k)) at x a in
     let right = shown true happens.Budget also y b in
-    let number : id ≡ 0 = ap (λ (e : EventData). number_of e.happening) left ∙ place.number ∙ sym (ap (λ (e : EventData). number_of e.happening) right) in
+    let number : id ≡ 0 = ap (λ (e : EventData). number_of e.happening) left ∙ place.number
+    ∙ sym (ap (λ (e : EventData). number_of e.happening) right) in
     absurd (omega arith)
 alike cables sinks port id other at also (Budget mw) (OnPort q l) x y first second same a b place =
     let left = shown true happens.Budget at x a in
     let right = shown (q == port) (Port other (resolved cables sinks l)) also y b in
-    let number : 0 ≡ other = ap (λ (e : EventData). number_of e.happening) left ∙ place.number ∙ sym (ap (λ (e : EventData). number_of e.happening) right) in
+    let number : 0 ≡ other = ap (λ (e : EventData). number_of e.happening) left ∙ place.number
+    ∙ sym (ap (λ (e : EventData). number_of e.happening) right) in
     absurd (omega arith)
 alike cables sinks port id other at also (Budget mw) (Budget nw) x y first second same a b place =
     let left = shown true happens.Budget at x a in
@@ -106,7 +113,9 @@ from_one n e h =
     let least = (and_parts (nat_le 1 e.id) (nat_le e.id 1000000) id).0 in
     grind (arith, nat_tests)
 
-made_alike : (n : ℕ) (c : ScenarioData) → IsValid n c → (port : ℕ) (x y : EventData) → Contains (events_for c.cables c.sinks port c.events) x → Contains (events_for c.cables c.sinks port c.events) y → SamePlace x y → x ≡ y
+made_alike : (n : ℕ) (c : ScenarioData) → IsValid n c → (port : ℕ) (x y : EventData)
+    → Contains (events_for c.cables c.sinks port c.events) x → Contains (events_for c.cables c.sinks port c.events) y → SamePlace x y
+    → x ≡ y
 made_alike n c valid port x y a b place =
     let left = filter_map_from (event_for c.cables c.sinks port) c.events x a in
     let right = filter_map_from (event_for c.cables c.sinks port) c.events y b in
@@ -123,7 +132,8 @@ script_is n c valid port =
     record {
       all = λ x. (
         λ h. elim (each_only [] made x h) [ inl early ↦ absurd (none x early) | inr later ↦ later ],
-        λ h. each_all (λ e. Contains made e) (made_alike n c valid port) [] made (λ e nowhere. absurd (none e nowhere)) (λ e at. at) x (inr h),
+        λ h. each_all (λ e. Contains made e) (made_alike n c valid port) [] made (λ e nowhere. absurd (none e nowhere)) (λ e at. at) x
+            (inr h),
       );
       in_order = λ i e f a b. adjacent (fold put [] made) i e f (InOrder-each [] made tt) a (rw (← add-one) b);
     }
@@ -138,7 +148,8 @@ sum-floors (x ∷ xs) =
     let right = sum_by-cons (λ (s : SettingsData). s.floor_mw) x xs in
     omega (arith, rest, left, right)
 
-pub script_of-plan_of : (c : ScenarioData) (p : ℕ) → p < length c.settings → script_of (plan_of c) p ≡ script c.cables c.sinks c.events (p + 1)
+pub script_of-plan_of : (c : ScenarioData) (p : ℕ) → p < length c.settings → script_of (plan_of c) p ≡ script c.cables c.sinks c.events
+    (p + 1)
 unfolding plan_of
 script_of-plan_of c p h = get_or-map-range_with_len (script c.cables c.sinks c.events) 1 (length c.settings) p (p + 1) [] h (omega arith)
 
@@ -146,9 +157,11 @@ pub script_is_in_order : (n : ℕ) (c : ScenarioData) → IsValid n c → (p : �
 script_is_in_order n c valid p h =
     rw (script_of-plan_of c p (omega (arith, valid.settings_count))) (script_is n c valid (p + 1))
 
-pub one_script : (c : ScenarioData) (port : ℕ) (events others : List EventData) → IsScript c port events → IsScript c port others → events ≡ others
+pub one_script : (c : ScenarioData) (port : ℕ) (events others : List EventData) → IsScript c port events → IsScript c port others
+    → events ≡ others
 one_script c port events others left right =
-    one_order events others (from_adjacent events left.in_order) (from_adjacent others right.in_order) (λ x h. (right.all x).1 ((left.all x).0 h)) (λ x h. (left.all x).1 ((right.all x).0 h))
+    one_order events others (from_adjacent events left.in_order) (from_adjacent others right.in_order)
+    (λ x h. (right.all x).1 ((left.all x).0 h)) (λ x h. (left.all x).1 ((right.all x).0 h))
 
 length-script : (n : ℕ) (c : ScenarioData) → IsValid n c → (port : ℕ) → length (script c.cables c.sinks c.events port) ≤ 4096
 unfolding script
@@ -161,7 +174,8 @@ no_script : (n : ℕ) (c : ScenarioData) → IsValid n c → (p : ℕ) → n ≤
 unfolding plan_of
 no_script n c valid p h =
     let scripts = length-map-range_with_len (script c.cables c.sinks c.events) 1 (length c.settings) in
-    get_or_past (map (script c.cables c.sinks c.events) (range_with_len 1 (length c.settings))) p [] (omega (arith, scripts, valid.settings_count))
+    get_or_past (map (script c.cables c.sinks c.events) (range_with_len 1 (length c.settings))) p []
+    (omega (arith, scripts, valid.settings_count))
 
 nothing : (i : ℕ) (e : EventData) → slice_get [] i ≡ Some e → ⊥
 nothing i e h = cc
@@ -184,7 +198,8 @@ record Changes (h : ScenarioHappening) (at : ℕ) (change : BudgetChange) : Type
   few : mw ≤ 1000000
   time : change.at ≡ at
 
-changes_by : (n id at : ℕ) (h : ScenarioHappening) (change : BudgetChange) → happening_fits n h ≡ true → change_in id at h ≡ Some change → Changes h at change
+changes_by : (n id at : ℕ) (h : ScenarioHappening) (change : BudgetChange) → happening_fits n h ≡ true → change_in id at h ≡ Some change
+    → Changes h at change
 changes_by n id at (OnPort port kind) change fits is = absurd (nothing_is change is)
 changes_by n id at (Budget mw) change fits is =
     let same = unwrapped (record { id = id; at = at; budget = mw * 1000 }) change is in
@@ -197,9 +212,11 @@ changes_by n id at (Budget mw) change fits is =
       time = sym (ap (λ (c : BudgetChange). c.at) same);
     }
 
-changes : (n : ℕ) (e : ScenarioEvent) (change : BudgetChange) → event_fits n e ≡ true → change_of e ≡ Some change → Changes e.happening e.at change
+changes : (n : ℕ) (e : ScenarioEvent) (change : BudgetChange) → event_fits n e ≡ true → change_of e ≡ Some change
+    → Changes e.happening e.at change
 changes n e change fits is =
-    changes_by n e.id e.at e.happening change ((and_parts (allows quantity.EventId e.id && allows quantity.Time e.at) (happening_fits n e.happening) fits).1) is
+    changes_by n e.id e.at e.happening change
+    ((and_parts (allows quantity.EventId e.id && allows quantity.Time e.at) (happening_fits n e.happening) fits).1) is
 
 -- each change leaves room for the floors
 record Funds (c : ScenarioData) (budget : ℕ) : Type 0 where
@@ -214,15 +231,18 @@ plan_funds n c valid =
     let few : c.budget_mw ≤ 1000000 = grind (arith, nat_tests) in
     record { enough = omega (arith, floors, least, valid.funded); few = omega (arith, few) }
 
-change_funds : (n : ℕ) (c : ScenarioData) → IsValid n c → (change : BudgetChange) → Contains (changes_of c.events) change → Funds c change.budget
+change_funds : (n : ℕ) (c : ScenarioData) → IsValid n c → (change : BudgetChange) → Contains (changes_of c.events) change
+    → Funds c change.budget
 change_funds n c valid change there =
     let from = filter_map_from change_of c.events change there in
     let made = changes n from.of change (passes (event_fits n) c.events from.of valid.events_fit from.there) from.is in
     let floors = sum-floors c.settings in
-    let least = least_of (filter_map budget_of c.events) c.budget_mw made.mw (filter_map_has budget_of c.events from.of made.mw from.there made.is) in
+    let least = least_of (filter_map budget_of c.events) c.budget_mw made.mw
+    (filter_map_has budget_of c.events from.of made.mw from.there made.is) in
     record { enough = omega (arith, floors, least, valid.funded, made.budget); few = omega (arith, made.budget, made.few) }
 
-after : (P : ℕ → Type 0) (budget : ℕ) (last : Option BudgetChange) → P budget → ((change : BudgetChange) → last ≡ Some change → P change.budget) → P (budget_after budget last)
+after : (P : ℕ → Type 0) (budget : ℕ) (last : Option BudgetChange) → P budget
+    → ((change : BudgetChange) → last ≡ Some change → P change.budget) → P (budget_after budget last)
 after P budget None plain changed = plain
 after P budget (Some change) plain changed = changed change refl
 
@@ -233,17 +253,21 @@ force_funds n c valid at =
     (λ change is. change_funds n c valid change (last_is_there (changes_of c.events) at change is))
 
 -- each change is told to each port
-told_by : (cables : List NamedCable) (sinks : List NamedSink) (port id at : ℕ) (h : ScenarioHappening) (mw : ℕ) (change : BudgetChange) → budget_in h ≡ Some mw → change.at ≡ at
-    → option_map (λ (happening : Happening). record { at = at; happening = happening }) (seen_by cables sinks port id h) ≡ Some (told_at change.at)
+told_by : (cables : List NamedCable) (sinks : List NamedSink) (port id at : ℕ) (h : ScenarioHappening) (mw : ℕ) (change : BudgetChange)
+    → budget_in h ≡ Some mw → change.at ≡ at
+    → option_map (λ (happening : Happening). record { at = at; happening = happening }) (seen_by cables sinks port id h) ≡ Some
+    (told_at change.at)
 told_by cables sinks port id at (OnPort p k) mw change is times = absurd (nothing_is mw is)
 told_by cables sinks port id at (Budget nw) mw change is times = rw (← times) refl
 
-told : (n : ℕ) (c : ScenarioData) → IsValid n c → (p : ℕ) → p < n → (change : BudgetChange) → Contains (changes_of c.events) change → Contains (script_of (plan_of c) p) (told_at change.at)
+told : (n : ℕ) (c : ScenarioData) → IsValid n c → (p : ℕ) → p < n → (change : BudgetChange) → Contains (changes_of c.events) change
+    → Contains (script_of (plan_of c) p) (told_at change.at)
 told n c valid p h change there =
     let from = filter_map_from change_of c.events change there in
     let made = changes n from.of change (passes (event_fits n) c.events from.of valid.events_fit from.there) from.is in
     let event = told_by c.cables c.sinks (p + 1) from.of.id from.of.at from.of.happening made.mw change made.is made.time in
-    ((script_is_in_order n c valid p h).all (told_at change.at)).1 (filter_map_has (event_for c.cables c.sinks (p + 1)) c.events from.of (told_at change.at) from.there event)
+    ((script_is_in_order n c valid p h).all (told_at change.at)).1
+    (filter_map_has (event_for c.cables c.sinks (p + 1)) c.events from.of (told_at change.at) from.there event)
 
 soon : (end : ℕ) → allows quantity.Time end ≡ true → end ≤ 120000000
 soon end h = grind (arith, nat_tests)

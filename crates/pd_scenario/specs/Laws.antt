@@ -15,7 +15,8 @@ ScriptIsInOrder = (n : ℕ) (c : ScenarioData) → IsValid n c → (p : ℕ) →
 
 -- no other list is so
 abbrev pub OneScript : Type 0
-OneScript = (c : ScenarioData) (port : ℕ) (events others : List EventData) → IsScript c port events → IsScript c port others → events ≡ others
+OneScript = (c : ScenarioData) (port : ℕ) (events others : List EventData) → IsScript c port events → IsScript c port others
+    → events ≡ others
 
 -- the budget at each time is that of the last change
 abbrev pub ForceIsLast : Type 0

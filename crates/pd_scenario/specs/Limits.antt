@@ -1,7 +1,8 @@
 -- This product's own limits of a scenario.
 use Rattle.std.specs.Prelude.{ℕ, ◌%◌, Bool, ◌&&◌, ◌==◌, nat_le}
 use Rattle.pd_scenario.specs.declared.limits.Quantity.{Quantity}
-use Rattle.pd_scenario.specs.declared.limits.Quantity.TheVariants.{EventId, Time, Budget, Floor, Voltage, Current, Demand, IdentityTries, DamagePlace, DamageMask}
+use Rattle.pd_scenario.specs.declared.limits.Quantity.TheVariants.{EventId, Time, Budget, Floor, Voltage, Current, Demand, IdentityTries}
+use Rattle.pd_scenario.specs.declared.limits.Quantity.TheVariants.{DamagePlace, DamageMask}
 
 -- the numbers from one to another, or those of them that are multiples of a step
 pub data Range : Type 0 where

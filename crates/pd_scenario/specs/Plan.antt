@@ -1,5 +1,6 @@
 -- A plan, which is what a scenario asks of a charger, and what each plan keeps: this product's own.
-use Rattle.std.specs.Prelude.{◌≡◌, ℕ, ◌≤◌, ◌<◌, ◌⊎◌, ◌+◌, Bool, true, false, ◌&&◌, ◌||◌, ◌==◌, nat_le, nat_lt, List, [], length, map, fold, sum, Option, Some, None, slice_get, slice_index_or, Contains, if◌then◌else◌}
+use Rattle.std.specs.Prelude.{◌≡◌, ℕ, ◌≤◌, ◌<◌, ◌⊎◌, ◌+◌, Bool, true, false, ◌&&◌, ◌||◌, ◌==◌, nat_le, nat_lt, List, [], length, map, fold}
+use Rattle.std.specs.Prelude.{sum, Option, Some, None, slice_get, slice_index_or, Contains, if◌then◌else◌}
 use Rattle.pd_setup.specs.Settings.{SettingsData, floor_of}
 use Rattle.pd_setup.specs.Events.{EventData}
 use Rattle.pd_setup.specs.declared.event.Happening.{Happening}

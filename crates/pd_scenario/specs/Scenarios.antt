@@ -1,5 +1,6 @@
 -- What a scenario holds, and what each keeps.
-use Rattle.std.specs.Prelude.{◌≡◌, ℕ, ◌≤◌, Bool, true, not, ◌&&◌, ◌==◌, nat_le, List, [], ◌∷◌, length, map, find, fold, min, sum_by, Option, Some, None, option_map, is_some, bytes_eq, All}
+use Rattle.std.specs.Prelude.{◌≡◌, ℕ, ◌≤◌, Bool, true, not, ◌&&◌, ◌==◌, nat_le, List, [], ◌∷◌, length, map, find, fold, min, sum_by, Option}
+use Rattle.std.specs.Prelude.{Some, None, option_map, is_some, bytes_eq, All}
 use Rattle.std.specs.List.{list_any, list_all, filter_map}
 use Rattle.pd_identity.specs.declared.Cable.{Cable}
 use Rattle.pd_setup.specs.Sinks.{SinkData, IsSink}

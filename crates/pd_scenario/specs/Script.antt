@@ -1,5 +1,6 @@
 -- The events of a port in the order of their times.
-use Rattle.std.specs.Prelude.{ℕ, Bool, ◌||◌, ◌&&◌, ◌==◌, nat_lt, List, [], ◌∷◌, fold, Option, Some, None, option_map, unwrap_or, if◌then◌else◌}
+use Rattle.std.specs.Prelude.{ℕ, Bool, ◌||◌, ◌&&◌, ◌==◌, nat_lt, List, [], ◌∷◌, fold, Option, Some, None, option_map, unwrap_or}
+use Rattle.std.specs.Prelude.{if◌then◌else◌}
 use Rattle.std.specs.List.{filter_map}
 use Rattle.pd_identity.specs.declared.Cable.{Cable}
 use Rattle.pd_identity.specs.declared.CablePlug.TheVariants.{Absent}
@@ -39,7 +40,8 @@ seen_by cables sinks port id (OnPort other kind) = if other == port then Some (h
 seen_by cables sinks port id (Budget mw) = Some happens.Budget
 
 abbrev pub event_for : List NamedCable → List NamedSink → ℕ → ScenarioEvent → Option EventData
-event_for cables sinks port e = option_map (λ happening. record { at = e.at; happening = happening }) (seen_by cables sinks port e.id e.happening)
+event_for cables sinks port e =
+    option_map (λ happening. record { at = e.at; happening = happening }) (seen_by cables sinks port e.id e.happening)
 
 -- what the events are for a port, in the order of their making
 abbrev pub events_for : List NamedCable → List NamedSink → ℕ → List ScenarioEvent → List EventData

@@ -61,8 +61,23 @@ impl<const N: usize> Scenario<N> {
         budget_mw: u32,
         end_us: u32,
     ) -> Scenario<N>
-        requires { IsValid N (record { settings = settings.items; cables = cables.items; sinks = sinks.items; events = events.items; budget_mw = budget_mw; end_us = end_us }) }
-        ensures { result ≡ record { settings = settings.items; cables = cables.items; sinks = sinks.items; events = events.items; budget_mw = budget_mw; end_us = end_us } }
+        requires { IsValid N
+            (record {
+              settings = settings.items;
+              cables = cables.items;
+              sinks = sinks.items;
+              events = events.items;
+              budget_mw = budget_mw;
+              end_us = end_us;
+            }) }
+        ensures { result ≡ record {
+          settings = settings.items;
+          cables = cables.items;
+          sinks = sinks.items;
+          events = events.items;
+          budget_mw = budget_mw;
+          end_us = end_us;
+        } }
     {
         Scenario {
             settings,

@@ -78,7 +78,8 @@ happening_fit version ports (event.OnPort kind) t few known s =
 happening_fit version ports event.Budget t few known s = budget_allowed version ports t s
 happening_fit version ports event.Unknown t few known s = absurd (false≢true known)
 
-pub event_fit : (version : Version) (ports : ℕ) (t : Members) → ports ≤ 8 → is_sound_event version ports t ≡ true → event_fits ports (event_of version t) ≡ true
+pub event_fit : (version : Version) (ports : ℕ) (t : Members) → ports ≤ 8 → is_sound_event version ports t ≡ true
+    → event_fits ports (event_of version t) ≡ true
 event_fit version ports t few s =
     let name = event_at version t in
     let id_rule = rule key.Id Required (form.Number quantity.EventId) in

@@ -1,5 +1,6 @@
 -- The elements of an array and the keys of a table, where the code has a `Vec` and a map.
-use Rattle.std.proofs.Common.{◌≡◌, ℕ, zero, suc, Bool, true, false, ◌||◌, ◌&&◌, length, List, [], ◌∷◌, Option, Some, None, string_bytes, map, pos, refl, arith, ap, ◌∙◌, ◌++◌, ◌+◌, ◌<◌, ◌≤◌, take, get_or}
+use Rattle.std.proofs.Common.{◌≡◌, ℕ, zero, suc, Bool, true, false, ◌||◌, ◌&&◌, length, List, [], ◌∷◌, Option, Some, None, string_bytes}
+use Rattle.std.proofs.Common.{map, pos, refl, arith, ap, ◌∙◌, ◌++◌, ◌+◌, ◌<◌, ◌≤◌, take, get_or}
 use Rattle.std.specs.List.{list_any, list_all, filter_map, cons_option}
 use Rattle.std.specs.Option.{option_to_list}
 use Rattle.std.proofs.lemmas.Bool.{and_parts}
@@ -25,7 +26,8 @@ pub filter_map-map : {B : Type 0} (f : Data → Option B) (vs : List Value) → 
 filter_map-map f [] = refl
 filter_map-map f (v ∷ vs) = rw (filter_map-map f vs)
 
-pub list_any-keys : (p : List ℕ → Bool) (es : List Entry) → list_any p (keys_of (members_view es)) ≡ list_any (λ k. p (string_bytes k)) (map_keys es)
+pub list_any-keys : (p : List ℕ → Bool) (es : List Entry) → list_any p (keys_of (members_view es)) ≡ list_any (λ k. p (string_bytes k))
+    (map_keys es)
 list_any-keys p [] = refl
 list_any-keys p (e ∷ es) = ap (λ b. p (string_bytes e.0) || b) (list_any-keys p es)
 
@@ -46,9 +48,11 @@ one None = refl
 one (Some y) = refl
 
 -- one more element
-pub filter_map-more : {X B : Type 0} (f : X → Option B) (xs : List X) (i : ℕ) (d : X) → i < length xs → filter_map f (take (i + 1) xs) ≡ filter_map f (take i xs) ++ option_to_list (f (get_or xs i d))
+pub filter_map-more : {X B : Type 0} (f : X → Option B) (xs : List X) (i : ℕ) (d : X) → i < length xs
+    → filter_map f (take (i + 1) xs) ≡ filter_map f (take i xs) ++ option_to_list (f (get_or xs i d))
 filter_map-more f xs i d h =
-    ap (filter_map f) (take_more xs i d h) ∙ filter_map-append f (take i xs) (get_or xs i d ∷ []) ∙ ap (λ t. filter_map f (take i xs) ++ t) (one (f (get_or xs i d)))
+    ap (filter_map f) (take_more xs i d h) ∙ filter_map-append f (take i xs) (get_or xs i d ∷ []) ∙ ap (λ t. filter_map f (take i xs) ++ t)
+    (one (f (get_or xs i d)))
 
 pub list_any-map : {A B : Type 0} (p : B → Bool) (f : A → B) (xs : List A) → list_any p (map f xs) ≡ list_any (λ x. p (f x)) xs
 list_any-map p f [] = refl
@@ -68,12 +72,24 @@ are_rising-short (v ∷ []) h = refl
 are_rising-short (v ∷ w ∷ vs) h = absurd (omega arith)
 
 -- what all elements pass, the one at a place passes
-pub all_at : {A B : Type 0} (p : B → Bool) (g : A → B) (xs : List A) (i : ℕ) (d : A) → i < length xs → list_all p (map g xs) ≡ true → p (g (get_or xs i d)) ≡ true
+pub all_at : {A B : Type 0} (p : B → Bool) (g : A → B) (xs : List A) (i : ℕ) (d : A) → i < length xs → list_all p (map g xs) ≡ true
+    → p (g (get_or xs i d)) ≡ true
 all_at p g [] i d below h = absurd (omega arith)
 all_at p g (x ∷ xs) zero d below h = (and_parts (p (g x)) (list_all p (map g xs)) h).0
 all_at p g (x ∷ xs) (suc i) d below h = all_at p g xs i d (omega arith) ((and_parts (p (g x)) (list_all p (map g xs)) h).1)
 
 -- the elements before one of at most seven are fewer than seven
-pub room : (vs : List Value) (ds : List Data) (i : ℕ) → map view vs ≡ ds → length (map supply_of ds) ≤ 7 → i < length vs → length (map supply_of (map view (take i vs))) < 7
+pub room : (vs : List Value) (ds : List Data) (i : ℕ) → map view vs ≡ ds → length (map supply_of ds) ≤ 7 → i < length vs
+    → length (map supply_of (map view (take i vs))) < 7
 room vs ds i is few below =
-    omega (arith, length-map (map view (take i vs)) supply_of, length-map (take i vs) view, length-take i vs, length-map ds supply_of, length-map vs view, ap length is, few, below)
+    omega (
+      arith,
+      length-map (map view (take i vs)) supply_of,
+      length-map (take i vs) view,
+      length-take i vs,
+      length-map ds supply_of,
+      length-map vs view,
+      ap length is,
+      few,
+      below,
+    )

@@ -17,7 +17,8 @@ use Rattle.pd_scenario_tables.specs.declared.schema.Need.{Need}
 use Rattle.pd_scenario_tables.specs.declared.schema.Need.TheVariants as need
 use Rattle.pd_scenario_tables.specs.declared.schema.Need.TheVariants.{Required, Nothing}
 use Rattle.pd_scenario_tables.specs.declared.schema.Form.{Form}
-use Rattle.pd_scenario_tables.specs.declared.schema.Form.TheVariants.{Number, VersionNumber, PortNumber, RatingNumber, RevisionNumber, Name, PlugWord, ModeWord, EventWord, Truth, Supplies, Tables}
+use Rattle.pd_scenario_tables.specs.declared.schema.Form.TheVariants.{Number, VersionNumber, PortNumber, RatingNumber, RevisionNumber, Name}
+use Rattle.pd_scenario_tables.specs.declared.schema.Form.TheVariants.{PlugWord, ModeWord, EventWord, Truth, Supplies, Tables}
 use Rattle.pd_scenario_tables.specs.declared.schema.Rule.{Rule}
 
 abbrev pub text_of : Key → List ℕ

@@ -5,7 +5,9 @@ ghost use Rattle.std.specs.List.{filter_map};
 ghost use Rattle.toml.specs.Data.{get_member, as_table};
 ghost use Rattle.toml.specs.View.{view, table_view};
 ghost use Rattle.pd_scenario_tables.specs.Seen.{views};
-ghost use Rattle.pd_scenario_tables.specs.Tables.{value_at, whole_in, truth_in, word_at, elements_at, tables_at, version_at, event_at, has_key, has_unknown_key, is_required, lacks_key, value_fails, some_value_fails, fails, event_fails};
+ghost use Rattle.pd_scenario_tables.specs.Tables.{value_at, whole_in, truth_in, word_at, elements_at, tables_at, version_at, event_at};
+ghost use Rattle.pd_scenario_tables.specs.Tables.{has_key, has_unknown_key, is_required, lacks_key, value_fails, some_value_fails, fails};
+ghost use Rattle.pd_scenario_tables.specs.Tables.{event_fails};
 ghost use Rattle.pd_scenario_tables.specs.Values.{passes};
 
 use crate::fault::ScenarioFault;

@@ -3,7 +3,9 @@
 ghost use Rattle.std.specs.Prelude.{◌≡◌, ◌^◌, ◌<◌, length, map};
 ghost use Rattle.std.specs.List.{list_all};
 ghost use Rattle.toml.specs.View.{view};
-ghost use Rattle.pd_scenario_tables.specs.Values.{whole_of, word_of, truth_of, elements_of, pair_of, natural, small, supply_of, supplies_of, is_pair, is_table, has_type, is_within, is_port_number, is_supply, is_known, in_range, is_named, are_rising, are_supplies, is_supplied, passes};
+ghost use Rattle.pd_scenario_tables.specs.Values.{whole_of, word_of, truth_of, elements_of, pair_of, natural, small, supply_of};
+ghost use Rattle.pd_scenario_tables.specs.Values.{supplies_of, is_pair, is_table, has_type, is_within, is_port_number, is_supply, is_known};
+ghost use Rattle.pd_scenario_tables.specs.Values.{in_range, is_named, are_rising, are_supplies, is_supplied, passes};
 
 use crate::fault::ScenarioFault;
 use crate::schema::{EventName, Form, Version};

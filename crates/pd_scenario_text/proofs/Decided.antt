@@ -8,10 +8,12 @@ use Rattle.pd_scenario.specs.declared.named.NamedCable.{NamedCable}
 use Rattle.pd_scenario.specs.declared.named.NamedSink.{NamedSink}
 use Rattle.pd_scenario.specs.declared.event.ScenarioEvent.{ScenarioEvent}
 use Rattle.pd_scenario_tables.specs.declared.fault.ScenarioFault.{ScenarioFault}
-use Rattle.pd_scenario_tables.specs.declared.fault.ScenarioFault.TheVariants.{Toml, UnknownKey, WrongType, MissingKey, Range, Name, Duplicate, Supplies, Floors, UnknownName, Limit, Memory}
+use Rattle.pd_scenario_tables.specs.declared.fault.ScenarioFault.TheVariants.{Toml, UnknownKey, WrongType, MissingKey, Range, Name}
+use Rattle.pd_scenario_tables.specs.declared.fault.ScenarioFault.TheVariants.{Duplicate, Supplies, Floors, UnknownName, Limit, Memory}
 use Rattle.pd_scenario_text.specs.Names.{cable_names, sink_names, name_check}
 use Rattle.pd_scenario_text.specs.FileTables.{Tables, scenario_of}
-use Rattle.pd_scenario_text.specs.Refusals.{fails_somewhere, table_refusals, has_duplicate, has_unknown_name, exceeds_budget, exceed_limits, exceeds_limit, refusal}
+use Rattle.pd_scenario_text.specs.Refusals.{fails_somewhere, table_refusals, has_duplicate, has_unknown_name, exceeds_budget, exceed_limits}
+use Rattle.pd_scenario_text.specs.Refusals.{exceeds_limit, refusal}
 use Rattle.pd_scenario_text.specs.Reading.{Answers, answered}
 
 -- no refusal of single tables applies, up to the names
@@ -23,8 +25,10 @@ pub record Clean (ports : ℕ) (d : Tables) : Type 0 where
   pub named : fails_somewhere Name ports d ≡ false
 
 five : (a b c d e : Bool) (rest : Option ScenarioFault) (fault : ScenarioFault)
-    → cond a (Some UnknownKey) (cond b (Some WrongType) (cond c (Some MissingKey) (cond d (Some Range) (cond e (Some Name) None)))) ≡ Some fault
-    → cond a (Some UnknownKey) (cond b (Some WrongType) (cond c (Some MissingKey) (cond d (Some Range) (cond e (Some Name) rest)))) ≡ Some fault
+    → cond a (Some UnknownKey) (cond b (Some WrongType) (cond c (Some MissingKey) (cond d (Some Range) (cond e (Some Name) None)))) ≡ Some
+    fault
+    → cond a (Some UnknownKey) (cond b (Some WrongType) (cond c (Some MissingKey) (cond d (Some Range) (cond e (Some Name) rest)))) ≡ Some
+    fault
 five true b c d e rest fault h = h
 five false true c d e rest fault h = h
 five false false true d e rest fault h = h
@@ -32,7 +36,8 @@ five false false false true e rest fault h = h
 five false false false false true rest fault h = h
 five false false false false false rest fault h = absurd (cc)
 
-none_of : (a b c d e : Bool) → cond a (Some UnknownKey) (cond b (Some WrongType) (cond c (Some MissingKey) (cond d (Some Range) (cond e (Some Name) None)))) ≡ None
+none_of : (a b c d e : Bool)
+    → cond a (Some UnknownKey) (cond b (Some WrongType) (cond c (Some MissingKey) (cond d (Some Range) (cond e (Some Name) None)))) ≡ None
     → (a ≡ false) × (b ≡ false) × (c ≡ false) × (d ≡ false) × (e ≡ false)
 none_of true b c d e h = absurd (cc)
 none_of false true c d e h = absurd (cc)
@@ -43,11 +48,13 @@ none_of false false false false false h = (refl, refl, refl, refl, refl)
 
 pub clean : (ports : ℕ) (d : Tables) → find (λ fault. fails_somewhere fault ports d) table_refusals ≡ None → Clean ports d
 clean ports d h =
-    let all = none_of (fails_somewhere UnknownKey ports d) (fails_somewhere WrongType ports d) (fails_somewhere MissingKey ports d) (fails_somewhere Range ports d) (fails_somewhere Name ports d) h in
+    let all = none_of (fails_somewhere UnknownKey ports d) (fails_somewhere WrongType ports d) (fails_somewhere MissingKey ports d)
+    (fails_somewhere Range ports d) (fails_somewhere Name ports d) h in
     record { keys = all.0; types = all.1; complete = all.2; ranged = all.3; named = all.4 }
 
 -- a refusal is an answer where it is the expected one
-pub answers_fault : (fault : ScenarioFault) (expected : Result ScenarioData ScenarioFault) → expected ≡ Err fault → Answers (Err fault) expected
+pub answers_fault : (fault : ScenarioFault) (expected : Result ScenarioData ScenarioFault) → expected ≡ Err fault
+    → Answers (Err fault) expected
 answers_fault Toml expected h = h
 answers_fault UnknownKey expected h = h
 answers_fault WrongType expected h = h
@@ -64,9 +71,12 @@ answers_fault Memory expected h = tt
 answers_some : (fault : ScenarioFault) (o : Option ScenarioFault) (c : ScenarioData) → o ≡ Some fault → Answers (Err fault) (answered o c)
 answers_some fault o c h = answers_fault fault (answered o c) (rw h)
 
-pub refused_first : (ports : ℕ) (d : Tables) (fault : ScenarioFault) → find (λ f. fails_somewhere f ports d) table_refusals ≡ Some fault → Answers (Err fault) (answered (refusal ports d) (scenario_of d))
+pub refused_first : (ports : ℕ) (d : Tables) (fault : ScenarioFault) → find (λ f. fails_somewhere f ports d) table_refusals ≡ Some fault
+    → Answers (Err fault) (answered (refusal ports d) (scenario_of d))
 refused_first ports d fault h =
-    answers_some fault (refusal ports d) (scenario_of d) (five (fails_somewhere UnknownKey ports d) (fails_somewhere WrongType ports d) (fails_somewhere MissingKey ports d) (fails_somewhere Range ports d) (fails_somewhere Name ports d) _ fault h)
+    answers_some fault (refusal ports d) (scenario_of d)
+    (five (fails_somewhere UnknownKey ports d) (fails_somewhere WrongType ports d) (fails_somewhere MissingKey ports d)
+    (fails_somewhere Range ports d) (fails_somewhere Name ports d) _ fault h)
 
 -- ---- what stands after the tables
 
@@ -84,7 +94,9 @@ apart false b d all known h = absurd (cc)
 
 pub no_check : (c : ScenarioData) → name_check c.cables c.sinks c.events ≡ None → has_duplicate c ≡ true
 unfolding has_duplicate
-no_check c h = repeated (names_differ (cable_names c.cables)) (names_differ (sink_names c.sinks)) (ids_differ c.events) (list_all (λ (e : ScenarioEvent). names_are_known c.cables c.sinks e.happening) c.events) h
+no_check c h =
+    repeated (names_differ (cable_names c.cables)) (names_differ (sink_names c.sinks)) (ids_differ c.events)
+    (list_all (λ (e : ScenarioEvent). names_are_known c.cables c.sinks e.happening) c.events) h
 
 pub record Checked (c : ScenarioData) (known : Bool) : Type 0 where
   pub single : has_duplicate c ≡ false
@@ -93,7 +105,8 @@ pub record Checked (c : ScenarioData) (known : Bool) : Type 0 where
 pub a_check : (c : ScenarioData) (known : Bool) → name_check c.cables c.sinks c.events ≡ Some known → Checked c known
 unfolding has_duplicate has_unknown_name
 a_check c known h =
-    let both = apart (names_differ (cable_names c.cables)) (names_differ (sink_names c.sinks)) (ids_differ c.events) (list_all (λ (e : ScenarioEvent). names_are_known c.cables c.sinks e.happening) c.events) known h in
+    let both = apart (names_differ (cable_names c.cables)) (names_differ (sink_names c.sinks)) (ids_differ c.events)
+    (list_all (λ (e : ScenarioEvent). names_are_known c.cables c.sinks e.happening) c.events) known h in
     record { single = both.0; unknown = ap not both.1 }
 
 -- the refusals after those of the tables, by the first that applies
@@ -102,18 +115,22 @@ pub record Later (ports : ℕ) (d : Tables) : Type 0 where
   pub single : has_duplicate (scenario_of d) ≡ false
   pub supplied : fails_somewhere Supplies ports d ≡ false
 
-pub refused_duplicate : (ports : ℕ) (d : Tables) → Clean ports d → has_duplicate (scenario_of d) ≡ true → answered (refusal ports d) (scenario_of d) ≡ Err Duplicate
+pub refused_duplicate : (ports : ℕ) (d : Tables) → Clean ports d → has_duplicate (scenario_of d) ≡ true
+    → answered (refusal ports d) (scenario_of d) ≡ Err Duplicate
 refused_duplicate ports d h here = rw (h.keys, h.types, h.complete, h.ranged, h.named, here)
 
-pub refused_supplies : (ports : ℕ) (d : Tables) → Clean ports d → has_duplicate (scenario_of d) ≡ false → fails_somewhere Supplies ports d ≡ true → answered (refusal ports d) (scenario_of d) ≡ Err Supplies
+pub refused_supplies : (ports : ℕ) (d : Tables) → Clean ports d → has_duplicate (scenario_of d) ≡ false
+    → fails_somewhere Supplies ports d ≡ true → answered (refusal ports d) (scenario_of d) ≡ Err Supplies
 refused_supplies ports d h single here = rw (h.keys, h.types, h.complete, h.ranged, h.named, single, here)
 
-pub refused_floors : (ports : ℕ) (d : Tables) → Later ports d → exceeds_budget (scenario_of d) ≡ true → answered (refusal ports d) (scenario_of d) ≡ Err Floors
+pub refused_floors : (ports : ℕ) (d : Tables) → Later ports d → exceeds_budget (scenario_of d) ≡ true
+    → answered (refusal ports d) (scenario_of d) ≡ Err Floors
 refused_floors ports d l here =
     let h = l.tables in
     rw (h.keys, h.types, h.complete, h.ranged, h.named, l.single, l.supplied, here)
 
-pub refused_unknown : (ports : ℕ) (d : Tables) → Later ports d → exceeds_budget (scenario_of d) ≡ false → has_unknown_name (scenario_of d) ≡ true → answered (refusal ports d) (scenario_of d) ≡ Err UnknownName
+pub refused_unknown : (ports : ℕ) (d : Tables) → Later ports d → exceeds_budget (scenario_of d) ≡ false
+    → has_unknown_name (scenario_of d) ≡ true → answered (refusal ports d) (scenario_of d) ≡ Err UnknownName
 refused_unknown ports d l funded here =
     let h = l.tables in
     rw (h.keys, h.types, h.complete, h.ranged, h.named, l.single, l.supplied, funded, here)
@@ -124,7 +141,8 @@ pub record Last (ports : ℕ) (d : Tables) : Type 0 where
   pub funded : exceeds_budget (scenario_of d) ≡ false
   pub known : has_unknown_name (scenario_of d) ≡ false
 
-pub refused_limit : (ports : ℕ) (d : Tables) → Last ports d → exceeds_limit ports (scenario_of d) ≡ true → answered (refusal ports d) (scenario_of d) ≡ Err Limit
+pub refused_limit : (ports : ℕ) (d : Tables) → Last ports d → exceeds_limit ports (scenario_of d) ≡ true
+    → answered (refusal ports d) (scenario_of d) ≡ Err Limit
 refused_limit ports d l here =
     let h = l.later.tables in
     rw (h.keys, h.types, h.complete, h.ranged, h.named, l.later.single, l.later.supplied, l.funded, l.known, here)
@@ -136,20 +154,24 @@ accepted ports d l few =
 
 -- ---- the parts that the code has are those of the tables
 
-pub same_check : (c : ScenarioData) (cables : List NamedCable) (sinks : List NamedSink) (events : List ScenarioEvent) (r : Option Bool) → cables ≡ c.cables → sinks ≡ c.sinks → events ≡ c.events
+pub same_check : (c : ScenarioData) (cables : List NamedCable) (sinks : List NamedSink) (events : List ScenarioEvent) (r : Option Bool)
+    → cables ≡ c.cables → sinks ≡ c.sinks → events ≡ c.events
     → r ≡ name_check cables sinks events → name_check c.cables c.sinks c.events ≡ r
 same_check c cables sinks events r a b e is = sym (is ∙ rw (a, b, e) refl)
 
-pub same_funded : (c : ScenarioData) (settings : List SettingsData) (events : List ScenarioEvent) (mw least : ℕ) (r : Bool) → settings ≡ c.settings → events ≡ c.events → mw ≡ c.budget_mw
+pub same_funded : (c : ScenarioData) (settings : List SettingsData) (events : List ScenarioEvent) (mw least : ℕ) (r : Bool)
+    → settings ≡ c.settings → events ≡ c.events → mw ≡ c.budget_mw
     → least ≡ least_budget mw events → r ≡ are_funded settings least → exceeds_budget c ≡ not r
 unfolding exceeds_budget
 same_funded c settings events mw least r a b e is_least is = ap not (sym (is ∙ rw (is_least, a, b, e) refl))
 
-pub same_limit : (ports : ℕ) (c : ScenarioData) (settings : List SettingsData) (cables : List NamedCable) (sinks : List NamedSink) (events : List ScenarioEvent) (r : Bool) → settings ≡ c.settings → cables ≡ c.cables
+pub same_limit : (ports : ℕ) (c : ScenarioData) (settings : List SettingsData) (cables : List NamedCable) (sinks : List NamedSink)
+    (events : List ScenarioEvent) (r : Bool) → settings ≡ c.settings → cables ≡ c.cables
     → sinks ≡ c.sinks → events ≡ c.events → r ≡ exceed_limits ports settings cables sinks events → exceeds_limit ports c ≡ r
 same_limit ports c settings cables sinks events r a b e f is = sym (is ∙ rw (a, b, e, f) refl)
 
-pub same_contents : (c : ScenarioData) (settings : List SettingsData) (cables : List NamedCable) (sinks : List NamedSink) (events : List ScenarioEvent) (mw end : ℕ) → settings ≡ c.settings → cables ≡ c.cables
+pub same_contents : (c : ScenarioData) (settings : List SettingsData) (cables : List NamedCable) (sinks : List NamedSink)
+    (events : List ScenarioEvent) (mw end : ℕ) → settings ≡ c.settings → cables ≡ c.cables
     → sinks ≡ c.sinks → events ≡ c.events → mw ≡ c.budget_mw → end ≡ c.end_us
     → c ≡ record { settings = settings; cables = cables; sinks = sinks; events = events; budget_mw = mw; end_us = end }
 same_contents c settings cables sinks events mw end a b e f m t = rw (a, b, e, f, m, t) refl

@@ -65,7 +65,8 @@ differ-part eq (x ∷ xs) ys h =
       | inr later ↦ rw (differ-part eq xs ys later) (never (not (list_any (λ other. eq other x) (xs ++ ys))))
     ]
 
-pub differ-last : {V : Type 0} (eq : V → V → Bool) → ((a b : V) → eq a b ≡ eq b a) → (xs : List V) (x : V) → differ eq (xs ++ x ∷ []) ≡ (differ eq xs && not (list_any (λ other. eq other x) xs))
+pub differ-last : {V : Type 0} (eq : V → V → Bool) → ((a b : V) → eq a b ≡ eq b a) → (xs : List V) (x : V)
+    → differ eq (xs ++ x ∷ []) ≡ (differ eq xs && not (list_any (λ other. eq other x) xs))
 differ-last eq turn [] x = refl
 differ-last eq turn (y ∷ ys) x =
     rw (list_any-last (λ other. eq other y) ys x, differ-last eq turn ys x, turn x y)
@@ -85,12 +86,14 @@ twice : (a b : Bool) → (a || b) ≡ (a || (a || b))
 twice true b = refl
 twice false b = refl
 
-insert_by : {K : Type 0} (p : K → Bool) (x : K) (xs : List K) (k : K) (rest : List K) (o : Ordering) → (o ≡ Equal → p k ≡ p x) → list_any p rest ≡ (p k || list_any p xs)
+insert_by : {K : Type 0} (p : K → Bool) (x : K) (xs : List K) (k : K) (rest : List K) (o : Ordering) → (o ≡ Equal → p k ≡ p x)
+    → list_any p rest ≡ (p k || list_any p xs)
     → list_any p (match_ordering o (k ∷ x ∷ xs) (x ∷ xs) (x ∷ rest)) ≡ (p k || list_any p (x ∷ xs))
 insert_by p x xs k rest Less alike more = refl
 insert_by p x xs k rest Equal alike more = rw (alike refl) (twice (p x) (list_any p xs))
 insert_by p x xs k rest Greater alike more = ap (λ b. p x || b) more ∙ exchanged (p x) (p k) (list_any p xs)
 
-pub insert_has : {K : Type 0} (cmp : K → K → Ordering) (p : K → Bool) → ((k x : K) → cmp k x ≡ Equal → p k ≡ p x) → (keys : List K) (k : K) → list_any p (insert_key cmp keys k) ≡ (p k || list_any p keys)
+pub insert_has : {K : Type 0} (cmp : K → K → Ordering) (p : K → Bool) → ((k x : K) → cmp k x ≡ Equal → p k ≡ p x) → (keys : List K) (k : K)
+    → list_any p (insert_key cmp keys k) ≡ (p k || list_any p keys)
 insert_has cmp p alike [] k = refl
 insert_has cmp p alike (x ∷ xs) k = insert_by p x xs k (insert_key cmp xs k) (cmp k x) (alike k x) (insert_has cmp p alike xs k)

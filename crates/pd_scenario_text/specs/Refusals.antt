@@ -9,7 +9,8 @@ use Rattle.pd_scenario.specs.declared.named.NamedSink.{NamedSink}
 use Rattle.pd_scenario.specs.declared.event.ScenarioEvent.{ScenarioEvent}
 use Rattle.pd_scenario_tables.specs.declared.schema.TableKind.TheVariants.{Top, Port, Cable, Sink}
 use Rattle.pd_scenario_tables.specs.declared.fault.ScenarioFault.{ScenarioFault}
-use Rattle.pd_scenario_tables.specs.declared.fault.ScenarioFault.TheVariants.{Toml, UnknownKey, WrongType, MissingKey, Range, Name, Duplicate, Supplies, Floors, UnknownName, Limit, Memory}
+use Rattle.pd_scenario_tables.specs.declared.fault.ScenarioFault.TheVariants.{Toml, UnknownKey, WrongType, MissingKey, Range, Name}
+use Rattle.pd_scenario_tables.specs.declared.fault.ScenarioFault.TheVariants.{Duplicate, Supplies, Floors, UnknownName, Limit, Memory}
 use Rattle.pd_scenario_tables.specs.Tables.{fails, event_fails}
 use Rattle.pd_scenario_text.specs.FileTables.{Tables, scenario_of}
 

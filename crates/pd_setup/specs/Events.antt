@@ -10,7 +10,8 @@ use Rattle.pd_setup.specs.declared.event.Happening.TheVariants.{Port, Budget}
 
 -- What becomes of a kind: a function for each kind that carries something, and one for all that carry nothing, of the kind
 -- in the terms that are wanted.
-abbrev pub by_kind : {C S D M C' S' D' M' R : Type 0} → (C → S → R) → (D → R) → (M → R) → (EventKind C' S' D' M' → R) → EventKind C S D M → R
+abbrev pub by_kind : {C S D M C' S' D' M' R : Type 0} → (C → S → R) → (D → R) → (M → R) → (EventKind C' S' D' M' → R) → EventKind C S D M
+    → R
 by_kind attach demand damage other (Attach cable sink) = attach cable sink
 by_kind attach demand damage other (Demand power) = demand power
 by_kind attach demand damage other (Damage harm) = damage harm

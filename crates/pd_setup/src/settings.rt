@@ -21,9 +21,15 @@ pub struct Settings {
 impl Model for Settings {
     ghost Value = { SettingsData };
 
-    ghost view = { λ s. record { floor_mw = s.floor_mw; supplies = s.supplies.items; identity_tries = s.identity_tries; unconstrained = s.unconstrained } };
+    ghost view = { λ s. record {
+      floor_mw = s.floor_mw;
+      supplies = s.supplies.items;
+      identity_tries = s.identity_tries;
+      unconstrained = s.unconstrained;
+    } };
 
-    ghost invariant = { λ s. IsSettings (record { floor_mw = s.floor_mw; supplies = s.supplies.items; identity_tries = s.identity_tries; unconstrained = s.unconstrained }) };
+    ghost invariant = { λ s. IsSettings
+        (record { floor_mw = s.floor_mw; supplies = s.supplies.items; identity_tries = s.identity_tries; unconstrained = s.unconstrained }) };
 }
 
 impl Settings {
@@ -34,8 +40,14 @@ impl Settings {
         identity_tries: u8,
         unconstrained: bool,
     ) -> Settings
-        requires { IsSettings (record { floor_mw = floor_mw; supplies = supplies.items; identity_tries = identity_tries; unconstrained = unconstrained }) }
-        ensures { result ≡ record { floor_mw = floor_mw; supplies = supplies.items; identity_tries = identity_tries; unconstrained = unconstrained } }
+        requires { IsSettings
+            (record { floor_mw = floor_mw; supplies = supplies.items; identity_tries = identity_tries; unconstrained = unconstrained }) }
+        ensures { result ≡ record {
+          floor_mw = floor_mw;
+          supplies = supplies.items;
+          identity_tries = identity_tries;
+          unconstrained = unconstrained;
+        } }
     {
         Settings {
             floor_mw,

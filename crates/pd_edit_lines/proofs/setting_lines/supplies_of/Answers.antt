@@ -7,7 +7,8 @@ use Rattle.pd_edit_lines.proofs.setting_lines.supplies_of.Goals as goal
 pub loop-rest-preserved : goal.loop-rest-preserved
 loop-rest-preserved c =
     let step =
-    one_more c.loop-rest.supplies.items (words c.loop-rest.rest.now) (words c.in_ok-mv.others.now) (words c.in_ok-ma.others.now) c.in_ok-mv.mv c.in_ok-ma.ma c.in_ok-mv.ensures
+    one_more c.loop-rest.supplies.items (words c.loop-rest.rest.now) (words c.in_ok-mv.others.now) (words c.in_ok-ma.others.now)
+    c.in_ok-mv.mv c.in_ok-ma.ma c.in_ok-mv.ensures
     c.in_ok-ma.ensures in
     rw c.push.ensures.items (step ∙ c.loop-rest.invariant)
 

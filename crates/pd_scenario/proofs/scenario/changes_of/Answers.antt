@@ -7,7 +7,8 @@ use Rattle.pd_scenario.proofs.scenario.changes_of.Goals.{in-Some+in_ok-push, in_
 
 pub loop-event-preserved : goal.loop-event-preserved
 loop-event-preserved g c =
-    let more = filter_map-more change_of c.args.events.now c.loop-event.event-index c.event-item.result c.loop-event-test.true c.event-item.is in
+    let more = filter_map-more change_of c.args.events.now c.loop-event.event-index c.event-item.result c.loop-event-test.true
+    c.event-item.is in
     elim c.match-change_of.branch [
       | in-Some+in_ok-push w ↦ rw (w.changes-is, more, w.in_ok-push.ensures.items, ← w.in-Some.ensures, ← c.loop-event.invariant)
       | in_default w ↦ rw (w.changes-is, more, sym c.change_of.ensures ∙ w.in_default.is, append-nil, ← c.loop-event.invariant)

@@ -10,6 +10,7 @@ pub loop-item-preserved : goal.loop-item-preserved
 loop-item-preserved c =
     let more = filter_map-more (λ v. as_table (view v)) c.args.items.now c.loop-item.item-index c.item-item.result c.loop-item-test.true in
     elim c.match-as_table.branch [
-      | in-Some+in_ok-push w ↦ rw (w.tables-is, w.in_ok-push.ensures.items, map-append, c.loop-item.invariant, more, ← c.item-item.is, ← w.in-Some.ensures)
+      | in-Some+in_ok-push w ↦
+          rw (w.tables-is, w.in_ok-push.ensures.items, map-append, c.loop-item.invariant, more, ← c.item-item.is, ← w.in-Some.ensures)
       | in_default w ↦ rw (w.tables-is, c.loop-item.invariant, more, ← c.item-item.is, ← w.in_default.ensures, append-nil)
     ]

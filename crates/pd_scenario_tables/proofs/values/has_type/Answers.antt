@@ -10,4 +10,5 @@ returns-in-Array c =
 
 pub returns-in-Array-value : goal.returns-in-Array-value
 returns-in-Array-value c =
-    rw (c.in-Tables.is, c.in-Array-value.is, view-Array, list_all-elements) (c.are_tables.ensures ∙ ap (list_all _) c.deref-in-Array-value.ensures.value)
+    rw (c.in-Tables.is, c.in-Array-value.is, view-Array, list_all-elements)
+    (c.are_tables.ensures ∙ ap (list_all _) c.deref-in-Array-value.ensures.value)

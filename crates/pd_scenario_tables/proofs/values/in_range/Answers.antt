@@ -7,4 +7,5 @@ use Rattle.pd_scenario_tables.proofs.values.in_range.Goals as goal
 
 pub returns-in-Supplies : goal.returns-in-Supplies
 returns-in-Supplies c =
-    rw c.in-Supplies.is (c.all_are_supplies.ensures ∙ sym (list_all-map is_supply view c.elements_of.result.now) ∙ ap (list_all is_supply) c.elements_of.ensures)
+    rw c.in-Supplies.is (c.all_are_supplies.ensures ∙ sym (list_all-map is_supply view c.elements_of.result.now)
+    ∙ ap (list_all is_supply) c.elements_of.ensures)

@@ -6,9 +6,11 @@ use Rattle.pd_scenario_tables.proofs.values.is_pair.Goals as goal
 pub returns-in_default-as_slice : goal.returns-in_default-as_slice
 returns-in_default-as_slice c =
     rw (c.in-Array.is, view-Array)
-    (sym (is_pair-items c.in-Array.items.items (λ (h : length c.in-Array.items.items ≡ 2). omega (arith, ap length c.as_slice.ensures.value))))
+    (sym (is_pair-items c.in-Array.items.items
+    (λ (h : length c.in-Array.items.items ≡ 2). omega (arith, ap length c.as_slice.ensures.value))))
 
 pub returns-in_default-as_slice-2 : goal.returns-in_default-as_slice-2
 returns-in_default-as_slice-2 c =
     rw (c.in-Array.is, view-Array)
-    (sym (is_pair-items c.in-Array.items.items (λ (h : length c.in-Array.items.items ≡ 2). omega (arith, ap length c.as_slice.ensures.value))))
+    (sym (is_pair-items c.in-Array.items.items
+    (λ (h : length c.in-Array.items.items ≡ 2). omega (arith, ap length c.as_slice.ensures.value))))

@@ -12,4 +12,5 @@ returns c =
     let sd : true ≡ names_differ (sink_names c.args.sinks.now) = rw (c.in-Some-2.is, st) at c.in_ok-sinks.ensures.differ in
     let cm : Has (cable_names c.args.cables.now) c.in-Some.cables = rw (c.in-Some.is, ct) at c.in_ok-cables.ensures.members in
     let sm : Has (sink_names c.args.sinks.now) c.in-Some-2.sinks = rw (c.in-Some-2.is, st) at c.in_ok-sinks.ensures.members in
-    checked c.args.cables.now c.args.sinks.now c.args.events.now c.in-Some.cables c.in-Some-2.sinks c.all_are_in.result cm sm (sym cd) (sym sd) (sym c.in_ok-ids_differ.ensures ∙ c.if-not-branch.false) c.all_are_in.ensures
+    checked c.args.cables.now c.args.sinks.now c.args.events.now c.in-Some.cables c.in-Some-2.sinks c.all_are_in.result cm sm (sym cd)
+    (sym sd) (sym c.in_ok-ids_differ.ensures ∙ c.if-not-branch.false) c.all_are_in.ensures

@@ -12,7 +12,8 @@ returns-then-not-is_new-clause-differ c =
     let i = c.loop-name.name-index in
     let k = get_or c.args.names.now i no_text in
     let more = texts_next c.args.names.now i no_text c.loop-name-test.true in
-    let new = name_differs (texts (take i c.args.names.now)) c.loop-name.seen.keys k c.in_ok-is_new.is_new inv.0 inv.1 c.in_ok-is_new.ensures.added ∙ c.if-not-is_new.true in
+    let new = name_differs (texts (take i c.args.names.now)) c.loop-name.seen.keys k c.in_ok-is_new.is_new inv.0 inv.1
+    c.in_ok-is_new.ensures.added ∙ c.if-not-is_new.true in
     let part = names_part (texts (take (i + 1) c.args.names.now)) (texts (drop (i + 1) c.args.names.now)) (ap names_differ more ∙ new) in
     sym (rw texts_whole at part)
 
@@ -22,6 +23,8 @@ loop-name-preserved c =
     let i = c.loop-name.name-index in
     let k = get_or c.args.names.now i no_text in
     let more = texts_next c.args.names.now i no_text c.loop-name-test.true in
-    let new = name_differs (texts (take i c.args.names.now)) c.loop-name.seen.keys k c.in_ok-is_new.is_new inv.0 inv.1 c.in_ok-is_new.ensures.added ∙ c.if-not-is_new.false in
-    let found = name_found (texts (take i c.args.names.now)) c.loop-name.seen.keys c.insert.new.self.keys k inv.1 c.in_ok-is_new.ensures.keys in
+    let new = name_differs (texts (take i c.args.names.now)) c.loop-name.seen.keys k c.in_ok-is_new.is_new inv.0 inv.1
+    c.in_ok-is_new.ensures.added ∙ c.if-not-is_new.false in
+    let found = name_found (texts (take i c.args.names.now)) c.loop-name.seen.keys c.insert.new.self.keys k inv.1
+    c.in_ok-is_new.ensures.keys in
     (ap names_differ more ∙ new, λ name. found name ∙ sym (ap (list_any (λ other. bytes_eq other name)) more))

@@ -6,4 +6,5 @@ use Rattle.pd_scenario_text.proofs.lists.all_events.Goals as goal
 
 pub event_of-requires : goal.event_of-requires
 event_of-requires c =
-    rw c.table-item.is (All-get_or (λ t. IsSound (Event (event_at c.args.version (table_view t.now))) (table_view t.now)) c.args.tables.now c.loop-table.table-index c.table-item.result c.loop-table-test.true c.requires)
+    rw c.table-item.is (All-get_or (λ t. IsSound (Event (event_at c.args.version (table_view t.now))) (table_view t.now)) c.args.tables.now
+    c.loop-table.table-index c.table-item.result c.loop-table-test.true c.requires)

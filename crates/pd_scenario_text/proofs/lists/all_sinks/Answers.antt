@@ -6,4 +6,5 @@ use Rattle.pd_scenario_text.proofs.lists.all_sinks.Goals as goal
 
 pub sink_of-requires : goal.sink_of-requires
 sink_of-requires c =
-    rw c.table-item.is (All-get_or (λ t. IsSound Sink (table_view t.now)) c.args.tables.now c.loop-table.table-index c.table-item.result c.loop-table-test.true c.requires)
+    rw c.table-item.is (All-get_or (λ t. IsSound Sink (table_view t.now)) c.args.tables.now c.loop-table.table-index c.table-item.result
+    c.loop-table-test.true c.requires)
