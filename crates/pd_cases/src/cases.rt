@@ -43,24 +43,28 @@ fn read_part<R: Files + Alloc<A = Global>>(
     rt: &R,
     folder: &str,
     name: &str,
-    part: &str,
+    kind: &str,
 ) -> io::Result<Vec<u8>> {
-    let path = format!(in rt.alloc(); "{folder}/cases/{name}/{part}")?;
+    let path = format!(in rt.alloc(); "{folder}/{name}.{kind}")?;
     read_whole(rt, path.as_str())
 }
 
-/// Reads a case of a folder of cases.
+/// Reads a case of a folder of scenarios. Each scenario is a folder too, with the file `scenario.toml` and for each case the
+/// edits in `NAME.edits` and what is expected in `NAME.txt`.
 ///
 /// # Errors
-/// One of its files can't be read.
+/// One of the three files can't be read.
 pub fn read_case<R: Files + Alloc<A = Global>>(
     rt: &R,
     folder: &str,
+    scenario: &str,
     name: &str,
 ) -> io::Result<Case> {
+    let place = format!(in rt.alloc(); "{folder}/{scenario}")?;
+    let place = place.as_str();
     Ok(Case {
-        scenario: read_part(rt, folder, name, "scenario.toml")?,
-        edits: read_part(rt, folder, name, "edits.txt")?,
-        output: read_part(rt, folder, name, "output.txt")?,
+        scenario: read_part(rt, place, "scenario", "toml")?,
+        edits: read_part(rt, place, name, "edits")?,
+        output: read_part(rt, place, name, "txt")?,
     })
 }

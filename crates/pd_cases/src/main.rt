@@ -1,6 +1,7 @@
 //! The worked cases: `pd_cases FOLDER` runs a session over each case that the list `FOLDER/cases.txt` names, and compares
-//! what it writes with the text that is expected. A case is a folder of `FOLDER/cases` with `scenario.toml`, `edits.txt`
-//! and `output.txt`. The list `FOLDER/refused.txt` names files of `FOLDER/refused`, each after the number by which it is
+//! what it writes with the text that is expected. The case `SCENARIO/NAME` has its scenario in the folder
+//! `FOLDER/cases/SCENARIO` as `scenario.toml`, its edits there as `NAME.edits`, and its text as `NAME.txt`, so that cases
+//! share a scenario. The list `FOLDER/refused.txt` names files of `FOLDER/refused`, each after the number by which it is
 //! refused.
 #![tactic(auto)]
 
@@ -44,10 +45,14 @@ fn run_cases<R: Files + Print + Alloc<A = Global>>(
     counts: &mut Counts,
 ) -> io::Result<()> {
     let list = read_list(rt, folder, "cases.txt")?;
-    for name in list.as_str().lines() {
-        let case = read_case(rt, folder, name)?;
+    let place = format!(in rt.alloc(); "{folder}/cases")?;
+    for line in list.as_str().lines() {
+        let Some((scenario, name)) = line.split_once('/') else {
+            return Err(io::Error::from(io::ErrorKind::InvalidData));
+        };
+        let case = read_case(rt, place.as_str(), scenario, name)?;
         counts.cases = counts.cases.saturating_add(1);
-        if !run_case(rt, name, &case)? {
+        if !run_case(rt, line, &case)? {
             counts.differ = counts.differ.saturating_add(1);
         }
     }
