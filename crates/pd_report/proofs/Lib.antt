@@ -1,5 +1,5 @@
+pub mod BudgetLemmas
 pub mod MarginLemmas
 pub mod ShownLemmas
-pub mod ToldLemmas
 pub mod TruthLemmas
 pub mod WalkLemmas

@@ -1,24 +1,23 @@
 -- What a walk over the entries of a run knows of each instant.
-use Rattle.std.proofs.Common.{◌≡◌, ◌≢◌, ℕ, zero, suc, ◌+◌, ◌-◌, ◌<◌, ◌≤◌, Bool, true, false, cond, eqb, leb, ⊎_elim, List, [], ◌∷◌, ◌++◌, length, map, take, drop, get_or, set, replicate, Option, Some, None, refl, sym, ap, subst, ◌∙◌, arith, append_assoc}
-use Rattle.std.specs.Prelude.{filter, slice_get, ◌||◌}
-use Rattle.std.specs.List.{AllByRecursion, cons_option, flat_map, filter_map, last_or, list_any, range_with_len}
+use Rattle.std.proofs.Common.{◌≡◌, ◌≢◌, ℕ, zero, suc, ◌+◌, ◌-◌, ◌<◌, ◌≤◌, Bool, true, false, cond, eqb, leb, ⊎_elim, inl, inr, List, [], ◌∷◌, ◌++◌, length, map, take, drop, get_or, set, replicate, Option, Some, None, refl, sym, ap, subst, ◌∙◌, arith, append_assoc}
+use Rattle.std.specs.Prelude.{filter, slice_get}
+use Rattle.std.specs.List.{AllByRecursion, cons_option, flat_map, filter_map, last_or, range_with_len}
 use Rattle.std.specs.Option.{option_map_or}
 use Rattle.std.proofs.lemmas.Bool.{cases_eq, le-leb, lt-leb, eq-eqb, ne_eqb}
-use Rattle.std.proofs.lemmas.List.{append-nil, take-append-drop, drop_more, take_more, length-set, get_or-set_same, get_or-set_other, same_lists}
+use Rattle.std.proofs.lemmas.List.{append-nil, drop_all, take-append-drop, drop_more, take_more, length-set, get_or-set_same, get_or-set_other, same_lists}
 use Rattle.std.proofs.lemmas.List.Concat.{flat_map-append}
 use Rattle.std.proofs.lemmas.List.Elements.{filter-append, filter_map-append}
-use Rattle.std.proofs.lemmas.List.Folds.{list_any-append}
 use Rattle.std.proofs.lemmas.List.FromFn.{get_or-map-range_with_len, length-map-range_with_len}
-use Rattle.std.proofs.lemmas.Option.{get_or_from_slice_get, slice_get_within}
+use Rattle.std.proofs.lemmas.Option.{get_or_from_slice_get, slice_get_cases, slice_get_within}
 use Rattle.pd_port.specs.declared.entry.ContractChange.{ContractChange}
 use Rattle.pd_port.specs.declared.entry.Entry.{Entry}
 use Rattle.pd_port.specs.Port.{entry_of}
 use Rattle.pd_scenario.specs.Plan.{Plan, count}
 use Rattle.pd_run.specs.Order.{EachAfter}
 use Rattle.pd_run.specs.Run.{Move, GoesOn, IsInOrder, shown}
-use Rattle.pd_run.specs.Shown.{Shows}
+use Rattle.pd_run.specs.Shown.{AreEntriesOf}
 use Rattle.pd_run.proofs.Moves.{in_order-member}
-use Rattle.pd_report.specs.Margins.{power_left, change_on, power_on, up_to}
+use Rattle.pd_report.specs.Margins.{most_ports, power_left, change_on, power_on, up_to}
 use Rattle.pd_report.specs.Walk.{noted, NoneLater, NoneBefore}
 
 -- ---- lists
@@ -58,19 +57,11 @@ filter-none : {X : Type 0} (p : X → Bool) (xs : List X) → AllByRecursion (λ
 filter-none p [] h = refl
 filter-none p (x ∷ xs) h = ap (λ b. cond b (x ∷ filter p xs) (filter p xs)) h.0 ∙ filter-none p xs h.1
 
-any-none : {X : Type 0} (p : X → Bool) (xs : List X) → AllByRecursion (λ x. p x ≡ false) xs → list_any p xs ≡ false
-any-none p [] h = refl
-any-none p (x ∷ xs) h = ap (λ b. b || list_any p xs) h.0 ∙ any-none p xs h.1
-
 last_or-append : {X : Type 0} (o : Option X) (xs : List X) (x : X) → last_or o (xs ++ x ∷ []) ≡ Some x
 last_or-append o [] x = refl
 last_or-append o (y ∷ ys) x = last_or-append (Some y) ys x
 
 -- ---- the entries up to a time
-
--- whether an entry stands at an instant
-abbrev pub happens_at : Moves → ℕ → Bool
-happens_at moves t = list_any (λ move. eqb move.1.at t) moves
 
 not_up : (t a : ℕ) → t < a → leb a t ≡ false
 not_up t a h = lt-leb a t h
@@ -82,14 +73,6 @@ up_to-is moves i t past ahead =
     ∙ ap (λ v. v ++ filter p (drop i moves)) (filter-all p (take i moves) (all-mono (λ m. m.1.at ≤ t) (λ m. p m ≡ true) (λ m h. le-leb m.1.at t h) (take i moves) past))
     ∙ ap (λ v. take i moves ++ v) (filter-none p (drop i moves) (all-mono (λ m. t < m.1.at) (λ m. p m ≡ false) (λ m h. not_up t m.1.at h) (drop i moves) ahead))
     ∙ append-nil (take i moves)
-
--- between two times at which entries stand, nothing happens
-pub nothing_between : (moves : Moves) (i t : ℕ) → AllByRecursion (λ m. m.1.at < t) (take i moves) → AllByRecursion (λ m. t < m.1.at) (drop i moves) → happens_at moves t ≡ false
-nothing_between moves i t past ahead =
-    let p : ℕ × Entry → Bool = λ m. eqb m.1.at t in
-    ap (list_any p) (sym (take-append-drop i moves)) ∙ list_any-append p (take i moves) (drop i moves)
-    ∙ ap (λ b. b || list_any p (drop i moves)) (any-none p (take i moves) (all-mono (λ m. m.1.at < t) (λ m. p m ≡ false) (λ m h. ne_eqb m.1.at t (λ e. omega arith)) (take i moves) past))
-    ∙ any-none p (drop i moves) (all-mono (λ m. t < m.1.at) (λ m. p m ≡ false) (λ m h. ne_eqb m.1.at t (λ e. omega arith)) (drop i moves) ahead)
 
 -- ---- the powers
 
@@ -196,13 +179,13 @@ pub Rising : Moves → Type 0
 Rising [] = Unit {0}
 Rising (m ∷ ms) = NoneBefore m.1.at ms × Rising ms
 
--- an entry is on a port that is there, and not after the end
-abbrev pub Known : Plan → ℕ × Entry → Type 0
-Known plan m = (1 ≤ m.0) × (m.0 ≤ count plan) × (m.1.at ≤ plan.end)
+-- an entry is on a port that there may be
+abbrev pub OnPort : ℕ × Entry → Type 0
+OnPort m = (1 ≤ m.0) × (m.0 ≤ most_ports)
 
-pub record InTime (plan : Plan) (moves : Moves) : Type 0 where
+pub record InOrder (moves : Moves) : Type 0 where
   pub rising : Rising moves
-  pub known : AllByRecursion (Known plan) moves
+  pub on_ports : AllByRecursion OnPort moves
 
 pub at-due : (plan : Plan) (past : List Move) (m : Move) → GoesOn plan past m → m.entry.at ≡ m.due.time
 unfolding entry_of
@@ -233,18 +216,22 @@ rises plan past (m ∷ ms) chained ordered =
       rises plan (past ++ m ∷ []) ms chained.1 ordered.1,
     )
 
-all-known : (plan : Plan) (past ms : List Move) → EachAfter (GoesOn plan) past ms → EachAfter (λ _ m. m.due.time ≤ plan.end) past ms → AllByRecursion (Known plan) (map shown ms)
-all-known plan past [] chained timely = tt
-all-known plan past (m ∷ ms) chained timely =
-    let e = at-due plan past m chained.0 in
+all-on_ports : (plan : Plan) (past ms : List Move) → count plan ≤ most_ports → EachAfter (GoesOn plan) past ms → AllByRecursion OnPort (map shown ms)
+all-on_ports plan past [] few chained = tt
+all-on_ports plan past (m ∷ ms) few chained =
     let k = chained.0.known in
-    ((omega arith, omega arith, omega (arith, e, timely.0)), all-known plan (past ++ m ∷ []) ms chained.1 timely.1)
+    ((omega arith, omega arith), all-on_ports plan (past ++ m ∷ []) ms few chained.1)
 
-pub in-time : (plan : Plan) (moves : Moves) → Shows plan moves → InTime plan moves
-in-time plan moves s = subst (InTime plan) (sym s.entries_are) (record {
-  rising = rises plan [] s.moves s.safe.run.chained s.safe.run.ordered;
-  known = all-known plan [] s.moves s.safe.run.chained s.safe.run.timely;
-})
+-- so are the entries of each run
+pub in-order : (n : ℕ) (plan : Option Plan) (moves : Moves) → AreEntriesOf n plan moves → InOrder moves
+unfolding Rising
+in-order n None moves none = subst InOrder (sym none) (record { rising = tt; on_ports = tt })
+in-order n (Some plan) moves s =
+    let run = s.shows.safe.run in
+    subst InOrder (sym s.shows.entries_are) (record {
+      rising = rises plan [] s.shows.moves run.chained run.ordered;
+      on_ports = all-on_ports plan [] s.shows.moves (omega (arith, s.is_plan.settings_count, s.is_plan.few_ports)) run.chained;
+    })
 
 rising-drop : (moves : Moves) (i : ℕ) → Rising moves → Rising (drop i moves)
 unfolding Rising
@@ -252,21 +239,39 @@ rising-drop moves zero h = h
 rising-drop [] (suc i) h = tt
 rising-drop (m ∷ ms) (suc i) h = rising-drop ms i h.1
 
-module _ (plan : Plan) (moves : Moves) (i : ℕ) (m : ℕ × Entry) (e : slice_get moves i ≡ Some m) where
-  pub known-at : InTime plan moves → Known plan m
-  known-at h = (subst (AllByRecursion (Known plan)) (drop-next moves i m e) (all-drop (Known plan) moves i h.known)).0
+module _ (moves : Moves) (i : ℕ) (m : ℕ × Entry) (e : slice_get moves i ≡ Some m) where
+  pub on-port : InOrder moves → OnPort m
+  on-port h = (subst (AllByRecursion OnPort) (drop-next moves i m e) (all-drop OnPort moves i h.on_ports)).0
 
-  pub none-before-next : InTime plan moves → NoneBefore m.1.at (drop (i + 1) moves)
+  pub none-before-next : InOrder moves → NoneBefore m.1.at (drop (i + 1) moves)
   unfolding Rising
   none-before-next h = (subst Rising (drop-next moves i m e) (rising-drop moves i h.rising)).0
 
   pub not-before : (t : ℕ) → NoneBefore t (drop i moves) → t ≤ m.1.at
   not-before t h = (subst (NoneBefore t) (drop-next moves i m e) h).0
 
-  pub none-before-here : InTime plan moves → NoneBefore m.1.at (drop i moves)
-  none-before-here h = subst (NoneBefore m.1.at) (sym (drop-next moves i m e)) (omega arith, none-before-next h)
+  -- where an entry is no sooner than a time, none from it on is
+  pub none-before-here : (t : ℕ) → t ≤ m.1.at → InOrder moves → NoneBefore t (drop i moves)
+  none-before-here t le h =
+      let more = all-mono (λ (x : ℕ × Entry). m.1.at ≤ x.1.at) (λ x. t ≤ x.1.at) (λ x k. omega arith) (drop (i + 1) moves) (none-before-next h) in
+      subst (NoneBefore t) (sym (drop-next moves i m e)) (le, more)
 
   pub none-later-next : (t : ℕ) → t ≤ m.1.at → NoneLater t (take i moves) → NoneLater m.1.at (take (i + 1) moves)
   none-later-next t le h =
       subst (NoneLater m.1.at) (sym (take-next moves i m e))
       (all-append (λ x. x.1.at ≤ m.1.at) (take i moves) (m ∷ []) (all-mono (λ x. x.1.at ≤ t) (λ x. x.1.at ≤ m.1.at) (λ x k. omega arith) (take i moves) h) (omega arith, tt))
+
+-- after the last entry there is none
+pub none-after : (moves : Moves) (i t : ℕ) → slice_get moves i ≡ None → NoneBefore t (drop i moves)
+none-after moves i t e =
+    elim (slice_get_cases moves i).1 [
+      | inl h ↦ let k : None ≡ Some h.0 = sym e ∙ h.2 in cc
+      | inr h ↦ subst (NoneBefore t) (sym (drop_all i moves h.0)) tt
+    ]
+
+-- none from an index on is before a time, where the entry there isn't
+pub none-before-some : (n : ℕ) (plan : Option Plan) (moves : Moves) (i t : ℕ) (m : ℕ × Entry) → slice_get moves i ≡ Some m → t ≤ m.1.at → AreEntriesOf n plan moves → NoneBefore t (drop i moves)
+none-before-some n plan moves i t m here le are = none-before-here moves i m here t le (in-order n plan moves are)
+
+pub none-before-less : (t u : ℕ) (moves : Moves) → t ≤ u → NoneBefore u moves → NoneBefore t moves
+none-before-less t u moves le h = all-mono (λ (m : ℕ × Entry). u ≤ m.1.at) (λ m. t ≤ m.1.at) (λ m k. omega arith) moves h

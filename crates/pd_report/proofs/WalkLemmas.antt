@@ -1,23 +1,26 @@
--- A walk over the entries of a run, step by step.
-use Rattle.std.proofs.Common.{◌≡◌, ℕ, zero, suc, ◌+◌, ◌-◌, ◌<◌, ◌≤◌, Bool, true, false, cond, eqb, ltb, List, [], ◌∷◌, ◌++◌, length, map, take, drop, replicate, Option, Some, None, Result, refl, sym, ap, subst, ◌∙◌, arith, append_assoc}
-use Rattle.std.specs.Prelude.{sum, slice_get, ◌||◌, ◌&&◌, not, Ok, Err}
+-- A walk over the entries of a run and the changes of the budget, step by step.
+use Rattle.std.proofs.Common.{◌≡◌, ℕ, zero, suc, ◌+◌, ◌-◌, ◌<◌, ◌≤◌, Bool, true, false, cond, eqb, List, [], ◌∷◌, ◌++◌, length, map, take, drop, replicate}
+use Rattle.std.proofs.Common.{Option, Some, None, Result, refl, sym, ap, subst, ◌∙◌, arith, append_assoc}
+use Rattle.std.specs.Prelude.{IfSome, sum, slice_get, ◌||◌, ◌&&◌, not, Ok, Err}
 use Rattle.std.specs.List.{AllByRecursion, flat_map, range_with_len}
 use Rattle.std.specs.Io.KnownBytes.{Appends}
 use Rattle.std.proofs.KnownBytes.{Appends-trans}
-use Rattle.std.proofs.lemmas.Bool.{eq-eqb, ne_eqb, ltb-true, ltb-false}
-use Rattle.std.proofs.lemmas.List.{append-nil, drop_all}
+use Rattle.std.proofs.lemmas.Bool.{eq-eqb, ne_eqb}
+use Rattle.std.proofs.lemmas.List.{append-nil}
+use Rattle.std.proofs.lemmas.Option.{slice_get_within}
 use Rattle.pd_port.specs.declared.entry.Entry.{Entry}
-use Rattle.pd_scenario.specs.Plan.{Plan, count, force}
-use Rattle.pd_run.specs.Shown.{IsShown}
+use Rattle.pd_scenario.specs.Plan.{Plan, force}
 use Rattle.pd_device.specs.declared.fault.BenchFault.{BenchFault}
+use Rattle.pd_device.specs.Device.{Writes, WrotePart}
+use Rattle.pd_device.proofs.DeviceLemmas.{WrotePart-after, WrotePart-longer}
 use Rattle.pd_report.specs.declared.walk.Standing.{Standing}
 use Rattle.pd_report.specs.declared.walk.Walk.{Walk}
-use Rattle.pd_device.specs.Device.{Writes, WrotePart}
 use Rattle.pd_report.specs.Margins.{most_ports, power_on, up_to, contracts_at, stays_at, has_line, instant_text, margin_text, margins_head, margins_text}
-use Rattle.pd_report.specs.Walk.{standing_at, standing_before, noted, line_after, later_walk, passed, last_line, passing_line, NoneLater, NoneBefore, IsWalk, text_before}
-use Rattle.pd_device.proofs.DeviceLemmas.{WrotePart-after, WrotePart-longer}
-use Rattle.pd_report.proofs.MarginLemmas.{Moves, all-mono, take-next, happens_at, up_to-is, nothing_between, powers-start, powers-more, text-next, text-to, InTime, known-at, none-before-next, none-before-here, not-before, none-later-next}
-use Rattle.pd_report.proofs.ToldLemmas.{force-stays}
+use Rattle.pd_report.specs.Walk.{standing_at, standing_before, standing_of, noted, noted_walk, line_after}
+use Rattle.pd_report.specs.Walk.{KnowsBudget, GoesOnTo, NoneLater, NoneBefore, IsWalk, left_of, text_before}
+use Rattle.pd_report.proofs.MarginLemmas.{Moves, InOrder, all-mono, take-next, up_to-is, powers-start, powers-more, text-next, text-to}
+use Rattle.pd_report.proofs.MarginLemmas.{on-port, none-before-next, not-before, none-later-next}
+use Rattle.pd_report.proofs.BudgetLemmas.{force-stays}
 
 standing : ℕ → ℕ → Standing
 standing c b = record { contracts = c; budget = b }
@@ -56,93 +59,105 @@ unfolding contracts_at
 sum_is moves i t powers e u = ap sum e ∙ ap (λ (l : Moves). sum (map (power_on l) (range_with_len 1 most_ports))) (sym u)
 
 -- the instant at which a walk stands has its line, once all later entries are later
-pub last_line-is : (plan : Plan) (moves : Moves) (i : ℕ) (walk : Walk) → IsWalk plan moves i walk → AllByRecursion (λ m. walk.at < m.1.at) (drop i moves) →
-    last_line plan walk ≡ instant_text plan moves walk.at
+last_line-is : (plan : Plan) (moves : Moves) (walk : Walk) → IsWalk plan moves walk → AllByRecursion (λ m. walk.at < m.1.at) (drop walk.seen moves) →
+    line_after walk.before walk.at (standing_of walk) ≡ instant_text plan moves walk.at
 unfolding standing
-last_line-is plan moves i walk w ahead =
-    line_is plan moves walk.at (sum walk.powers) walk.before w.before_is
-    (sum_is moves i walk.at walk.powers w.powers_are (up_to-is moves i walk.at w.past ahead))
+last_line-is plan moves walk w ahead =
+    ap (λ b. line_after walk.before walk.at (standing (sum walk.powers) b)) w.knows.budget_is
+    ∙ line_is plan moves walk.at (sum walk.powers) walk.before w.before_is
+    (sum_is moves walk.seen walk.at walk.powers w.powers_are (up_to-is moves walk.seen walk.at w.past ahead))
 
--- the budget changes only where an entry stands
-pub BudgetStays : Plan → Moves → Type 0
-BudgetStays plan moves = (t : ℕ) → 0 < t → t ≤ plan.end → happens_at moves t ≡ false → force plan (t - 1) ≡ force plan t
-
-pub budget-stays : (n : ℕ) (plan : Plan) (entries : Moves) → IsShown n plan entries → BudgetStays plan entries
-unfolding BudgetStays
-budget-stays n plan entries s =
-    subst (BudgetStays plan) (sym s.shows.entries_are) (λ t some soon quiet. force-stays n plan s.shows.moves t s.is_plan s.shows.safe.run some soon quiet)
-
--- between the instant of a walk and the next entry no line stands
-silent_between : (plan : Plan) (moves : Moves) (i a b : ℕ) → BudgetStays plan moves → b ≤ plan.end + 1 → NoneLater a (take i moves) → NoneBefore b (drop i moves) → (v : ℕ) → a < v → v < b → instant_text plan moves v ≡ []
-unfolding BudgetStays contracts_at
-silent_between plan moves i a b told soon past ahead v low high =
+-- between the instant of a walk and the next entry no line stands while the budget stays
+silent_between : (plan : Plan) (moves : Moves) (i a b : ℕ) → ((v : ℕ) → a < v → v < b → force plan (v - 1) ≡ force plan v) → NoneLater a (take i moves) →
+    NoneBefore b (drop i moves) → (v : ℕ) → a < v → v < b → instant_text plan moves v ≡ []
+unfolding contracts_at
+silent_between plan moves i a b steady past ahead v low high =
     let later = all-mono (λ (m : ℕ × Entry). b ≤ m.1.at) (λ m. v < m.1.at) (λ m h. omega arith) (drop i moves) ahead in
     let at_v = up_to-is moves i v (all-mono (λ m. m.1.at ≤ a) (λ m. m.1.at ≤ v) (λ m h. omega arith) (take i moves) past) later in
     let before_v = up_to-is moves i (v - 1) (all-mono (λ m. m.1.at ≤ a) (λ m. m.1.at ≤ v - 1) (λ m h. omega arith) (take i moves) past)
     (all-mono (λ m. b ≤ m.1.at) (λ m. v - 1 < m.1.at) (λ m h. omega arith) (drop i moves) ahead) in
     silent_at plan moves v (omega arith)
     (ap (λ (l : Moves). sum (map (power_on l) (range_with_len 1 most_ports))) (before_v ∙ sym at_v))
-    (told v (omega arith) (omega arith) (nothing_between moves i v (all-mono (λ m. m.1.at ≤ a) (λ m. m.1.at < v) (λ m h. omega arith) (take i moves) past) later))
+    (steady v low high)
 
-module _ (plan : Plan) (moves : Moves) (i : ℕ) (m : ℕ × Entry) (walk : Walk) (here : slice_get moves i ≡ Some m) (few : count plan ≤ most_ports) (told : BudgetStays plan moves) (times : InTime plan moves) (w : IsWalk plan moves i walk) where
-  no_sooner : walk.at ≤ m.1.at
-  no_sooner = not-before plan moves i m here walk.at w.ahead
+-- ---- a walk that goes on to a later instant, up to which nothing happens
 
-  all_later : walk.at < m.1.at → AllByRecursion (λ x. walk.at < x.1.at) (drop i moves)
-  all_later lt = all-mono (λ x. m.1.at ≤ x.1.at) (λ x. walk.at < x.1.at) (λ x h. omega arith) (drop i moves) (none-before-here plan moves i m here times)
+module _ (plan : Plan) (moves : Moves) (walk : Walk) (at : ℕ) (w : IsWalk plan moves walk) (later : walk.at < at)
+    (ahead : NoneBefore at (drop walk.seen moves)) (no_later : IfSome walk.next (λ n. at ≤ n)) where
+  steady : (v : ℕ) → walk.at ≤ v → v < at → force plan v ≡ force plan walk.at
+  steady v low high = force-stays plan walk.at v walk.next w.knows.next_is (below walk.next no_later) low
+    where
+      below : (o : Option ℕ) → IfSome o (λ n. at ≤ n) → IfSome o (λ n. v < n)
+      below None h = tt
+      below (Some n) h = omega arith
 
-  -- what stood before a later entry's instant
-  stood : walk.at < m.1.at → Some (standing (sum walk.powers) (force plan (m.1.at - 1))) ≡ standing_before plan moves m.1.at
+  same_budget : (v : ℕ) → walk.at < v → v < at → force plan (v - 1) ≡ force plan v
+  same_budget v low high = steady (v - 1) (omega arith) (omega arith) ∙ sym (steady v (omega arith) high)
+
+  all_later : AllByRecursion (λ x. walk.at < x.1.at) (drop walk.seen moves)
+  all_later = all-mono (λ (x : ℕ × Entry). at ≤ x.1.at) (λ x. walk.at < x.1.at) (λ x h. omega arith) (drop walk.seen moves) ahead
+
+  stood : Some (standing_of walk) ≡ standing_before plan moves at
   unfolding standing
-  stood lt =
-      let past = all-mono (λ x. x.1.at ≤ walk.at) (λ x. x.1.at ≤ m.1.at - 1) (λ x h. omega arith) (take i moves) w.past in
-      let ahead = all-mono (λ x. m.1.at ≤ x.1.at) (λ x. m.1.at - 1 < x.1.at) (λ x h. omega arith) (drop i moves) (none-before-here plan moves i m here times) in
-      let sums = sum_is moves i (m.1.at - 1) walk.powers w.powers_are (up_to-is moves i (m.1.at - 1) past ahead) in
-      ap (λ x. Some (standing x (force plan (m.1.at - 1)))) sums
-      ∙ ap (λ b. cond b None (Some (standing_at plan moves (m.1.at - 1)))) (sym (ne_eqb m.1.at 0 (λ e. omega arith)))
+  stood =
+      let past = all-mono (λ (x : ℕ × Entry). x.1.at ≤ walk.at) (λ x. x.1.at ≤ at - 1) (λ x h. omega arith) (take walk.seen moves) w.past in
+      let more = all-mono (λ (x : ℕ × Entry). at ≤ x.1.at) (λ x. at - 1 < x.1.at) (λ x h. omega arith) (drop walk.seen moves) ahead in
+      let sums = sum_is moves walk.seen (at - 1) walk.powers w.powers_are (up_to-is moves walk.seen (at - 1) past more) in
+      let budgets : walk.budget ≡ force plan (at - 1) = w.knows.budget_is ∙ sym (steady (at - 1) (omega arith) (omega arith)) in
+      ap (λ x. Some (standing x walk.budget)) sums ∙ ap (λ x. Some (standing (contracts_at moves (at - 1)) x)) budgets
+      ∙ ap (λ b. cond b None (Some (standing_at plan moves (at - 1)))) (sym (ne_eqb at 0 (λ e. omega arith)))
 
-  made : (new : Walk) → new.at ≡ m.1.at → new.powers ≡ noted walk.powers m.0 m.1.contract → new.before ≡ standing_before plan moves m.1.at → IsWalk plan moves (i + 1) new
-  made new at powers before =
-      let known = known-at plan moves i m here times in
-      let P : ℕ → Type 0 = λ t. NoneLater t (take (i + 1) moves) in
-      let A : ℕ → Type 0 = λ t. NoneBefore t (drop (i + 1) moves) in
+  pub walk-on : (new : Walk) → at ≤ plan.end + 1 → GoesOnTo plan walk at new → IsWalk plan moves new
+  walk-on new soon goes =
+      let P : ℕ → ℕ → Type 0 = λ t k. NoneLater t (take k moves) in
+      let A : ℕ → ℕ → Type 0 = λ t k. NoneBefore t (drop k moves) in
+      let past : P at walk.seen = all-mono (λ (x : ℕ × Entry). x.1.at ≤ walk.at) (λ x. x.1.at ≤ at) (λ x h. omega arith) (take walk.seen moves) w.past in
       record {
-        powers_are = powers ∙ ap (λ l. noted l m.0 m.1.contract) w.powers_are
-            ∙ powers-more (take i moves) m most_ports m.1.contract refl known.0 (omega (arith, known.1, few))
-            ∙ ap (λ (l : Moves). map (power_on l) (range_with_len 1 most_ports)) (sym (take-next moves i m here));
-        past = subst P (sym at) (none-later-next plan moves i m here walk.at no_sooner w.past);
-        ahead = subst A (sym at) (none-before-next plan moves i m here times);
-        before_is = before ∙ ap (standing_before plan moves) (sym at);
-        in_time = omega (arith, at, known.2);
+        powers_are = goes.powers_are ∙ w.powers_are ∙ ap (λ k. map (power_on (take k moves)) (range_with_len 1 most_ports)) (sym goes.seen_is);
+        some_are_seen = omega (arith, goes.seen_is, w.some_are_seen);
+        past = subst (λ t. P t new.seen) (sym goes.at_is) (subst (P at) (sym goes.seen_is) past);
+        ahead = subst (λ t. A t new.seen) (sym goes.at_is) (subst (A at) (sym goes.seen_is) ahead);
+        before_is = goes.before_is ∙ stood ∙ ap (standing_before plan moves) (sym goes.at_is);
+        knows = goes.knows;
+        in_time = omega (arith, goes.at_is);
       }
 
-  noted_walk : Walk → Walk
-  noted_walk v = record v { powers = noted v.powers m.0 m.1.contract }
+  -- what was written before that instant
+  pub text-on : (new : Walk) → GoesOnTo plan walk at new → text_before plan moves new.at ≡ text_before plan moves walk.at ++ line_after walk.before walk.at (standing_of walk)
+  text-on new goes =
+      ap (text_before plan moves) goes.at_is
+      ∙ text-to (instant_text plan moves) walk.at at later (silent_between plan moves walk.seen walk.at at same_budget w.past ahead)
+      ∙ ap (λ v. text_before plan moves walk.at ++ v) (sym (last_line-is plan moves walk w all_later))
 
-  by_later : (b : Bool) → ltb walk.at m.1.at ≡ b → IsWalk plan moves (i + 1) (noted_walk (cond b (later_walk plan walk m.1.at) walk))
-  unfolding noted_walk standing
-  by_later true e = made (noted_walk (later_walk plan walk m.1.at)) refl refl (stood (ltb-true walk.at m.1.at e))
-  by_later false e =
-      let same : walk.at ≡ m.1.at = omega (arith, ltb-false walk.at m.1.at e, no_sooner) in
-      made (noted_walk walk) same refl (w.before_is ∙ ap (standing_before plan moves) same)
+-- an instant fewer is left
+pub less-on : (plan : Plan) (moves : Moves) (walk : Walk) (at : ℕ) (new : Walk) → walk.at ≤ plan.end → GoesOnTo plan walk at new → left_of plan moves new < left_of plan moves walk
+less-on plan moves walk at new soon goes = omega (arith, goes.later, goes.at_is, goes.seen_is)
 
-  -- the walk after the entry
-  pub walk-next : (mid new : Walk) → mid ≡ passed plan walk m.1.at → new ≡ record mid { powers = noted mid.powers m.0 m.1.contract } → IsWalk plan moves (i + 1) new
-  unfolding passed noted_walk
-  walk-next mid new e f = subst (IsWalk plan moves (i + 1)) (sym (f ∙ ap noted_walk e)) (by_later (ltb walk.at m.1.at) refl)
+-- ---- a walk that sees one more entry of its instant
 
-  text_by : (b : Bool) → ltb walk.at m.1.at ≡ b → text_before plan moves (cond b (later_walk plan walk m.1.at) walk).at ≡ text_before plan moves walk.at ++ cond b (last_line plan walk) []
-  text_by true e =
-      let lt = ltb-true walk.at m.1.at e in
-      text-to (instant_text plan moves) walk.at m.1.at lt (silent_between plan moves i walk.at m.1.at told (omega (arith, (known-at plan moves i m here times).2)) w.past (none-before-here plan moves i m here times))
-      ∙ ap (λ v. text_before plan moves walk.at ++ v) (sym (last_line-is plan moves i walk w (all_later lt)))
-  text_by false e = sym (append-nil (text_before plan moves walk.at))
+module _ (plan : Plan) (moves : Moves) (walk : Walk) (m : ℕ × Entry) (w : IsWalk plan moves walk)
+    (here : slice_get moves walk.seen ≡ Some m) (order : InOrder moves) (now : m.1.at ≤ walk.at) where
+  same_time : m.1.at ≡ walk.at
+  same_time = let le = not-before moves walk.seen m here walk.at w.ahead in omega arith
 
-  -- and what was written for the instants before it
-  pub text-after : (mid new : Walk) → mid ≡ passed plan walk m.1.at → new ≡ record mid { powers = noted mid.powers m.0 m.1.contract } →
-      text_before plan moves new.at ≡ text_before plan moves walk.at ++ passing_line plan walk m.1.at
-  unfolding passed passing_line noted_walk
-  text-after mid new e f = ap (λ (v : Walk). text_before plan moves v.at) (f ∙ ap noted_walk e) ∙ text_by (ltb walk.at m.1.at) refl
+  pub walk-noted : IsWalk plan moves (noted_walk walk m.0 m.1.contract)
+  walk-noted =
+      let known = on-port moves walk.seen m here order in
+      let P : ℕ → Type 0 = λ t. NoneLater t (take (walk.seen + 1) moves) in
+      let A : ℕ → Type 0 = λ t. NoneBefore t (drop (walk.seen + 1) moves) in
+      record {
+        powers_are = ap (λ l. noted l m.0 m.1.contract) w.powers_are ∙ powers-more (take walk.seen moves) m most_ports m.1.contract refl known.0 known.1
+            ∙ ap (λ (l : Moves). map (power_on l) (range_with_len 1 most_ports)) (sym (take-next moves walk.seen m here));
+        some_are_seen = let within = slice_get_within moves walk.seen m here in omega arith;
+        past = subst P same_time (none-later-next moves walk.seen m here walk.at (omega (arith, same_time)) w.past);
+        ahead = subst A same_time (none-before-next moves walk.seen m here order);
+        before_is = w.before_is;
+        knows = record { budget_is = w.knows.budget_is; next_is = w.knows.next_is };
+        in_time = w.in_time;
+      }
+
+  pub less-noted : left_of plan moves (noted_walk walk m.0 m.1.contract) < left_of plan moves walk
+  less-noted = let within = slice_get_within moves walk.seen m here in omega arith
 
 -- ---- the start and the end
 
@@ -150,30 +165,27 @@ all_from-zero : (moves : Moves) → NoneBefore 0 moves
 all_from-zero [] = tt
 all_from-zero (m ∷ ms) = (omega arith, all_from-zero ms)
 
-pub walk-start : (plan : Plan) (moves : Moves) (walk : Walk) → walk.powers ≡ replicate most_ports 0 → walk.at ≡ 0 → walk.before ≡ None → IsWalk plan moves 0 walk
-walk-start plan moves walk powers at before =
-    let A : ℕ → Type 0 = λ t. NoneBefore t moves in
+pub walk-start : (plan : Plan) (moves : Moves) (walk : Walk) → walk.seen ≡ 0 → walk.powers ≡ replicate most_ports 0 → walk.at ≡ 0 → walk.before ≡ None → KnowsBudget plan walk →
+    IsWalk plan moves walk
+walk-start plan moves walk seen powers at before knows =
+    let P : ℕ → ℕ → Type 0 = λ t k. NoneLater t (take k moves) in
+    let A : ℕ → ℕ → Type 0 = λ t k. NoneBefore t (drop k moves) in
     record {
-      powers_are = powers ∙ powers-start 1 most_ports;
-      past = tt;
-      ahead = subst A (sym at) (all_from-zero moves);
+      powers_are = powers ∙ powers-start 1 most_ports ∙ ap (λ k. map (power_on (take k moves)) (range_with_len 1 most_ports)) (sym seen);
+      some_are_seen = omega (arith, seen);
+      past = subst (P walk.at) (sym seen) tt;
+      ahead = subst (A walk.at) (sym seen) (subst (λ t. A t 0) (sym at) (all_from-zero moves));
       before_is = before ∙ ap (standing_before plan moves) (sym at);
+      knows = knows;
       in_time = omega (arith, at);
     }
 
--- once all entries are seen, the line of the last instant makes the text whole
-pub text-whole : (plan : Plan) (moves : Moves) (i : ℕ) (walk : Walk) → BudgetStays plan moves → length moves ≤ i → IsWalk plan moves i walk →
-    margins_text plan moves ≡ (margins_head ++ text_before plan moves walk.at) ++ last_line plan walk
+-- once the walk is past the end, the text is whole
+pub text-whole : (plan : Plan) (moves : Moves) (walk : Walk) → IsWalk plan moves walk → plan.end < walk.at → margins_text plan moves ≡ margins_head ++ text_before plan moves walk.at
 unfolding margins_text
-text-whole plan moves i walk told done w =
-    let e : [] ≡ drop i moves = sym (drop_all i moves done) in
-    let L : Moves → Type 0 = λ l. AllByRecursion (λ (m : ℕ × Entry). walk.at < m.1.at) l in
-    let N : Moves → Type 0 = λ l. NoneBefore (plan.end + 1) l in
-    let t = w.in_time in
-    ap (λ v. margins_head ++ v)
-    (text-to (instant_text plan moves) walk.at (plan.end + 1) (omega arith) (silent_between plan moves i walk.at (plan.end + 1) told (omega arith) w.past (subst N e tt))
-    ∙ ap (λ v. text_before plan moves walk.at ++ v) (sym (last_line-is plan moves i walk w (subst L e tt))))
-    ∙ sym (append_assoc margins_head (text_before plan moves walk.at) (last_line plan walk))
+text-whole plan moves walk w past =
+    let e : plan.end + 1 ≡ walk.at = omega (arith, w.in_time) in
+    ap (λ t. margins_head ++ text_before plan moves t) e
 
 -- what was written before an instant begins what is written before a later one
 more_text : (f : ℕ → List ℕ) (a k : ℕ) → (rest : List ℕ) × (flat_map f (range_with_len 0 (a + k)) ≡ flat_map f (range_with_len 0 a) ++ rest)
@@ -186,7 +198,8 @@ more_text f a (suc k) =
     (r.0 ++ f (a + k), ap (λ n. flat_map f (range_with_len 0 n)) e ∙ text-next f (a + k) ∙ ap (λ v. v ++ f (a + k)) r.1 ∙ append_assoc (flat_map f (range_with_len 0 a)) r.0 (f (a + k)))
 
 -- a line that was cut short
-pub cut-line : (plan : Plan) (moves : Moves) (a b c : Option (List ℕ)) (t u : ℕ) (line : List ℕ) → u ≤ plan.end → text_before plan moves u ≡ text_before plan moves t ++ line →
+pub cut-line : (plan : Plan) (moves : Moves) (a b c : Option (List ℕ)) (t u : ℕ) (line : List ℕ) → u ≤ plan.end + 1 →
+    text_before plan moves u ≡ text_before plan moves t ++ line →
     Appends a b (margins_head ++ text_before plan moves t) → WrotePart b c line → WrotePart a c (margins_text plan moves)
 unfolding margins_text
 cut-line plan moves a b c t u line le e done part =

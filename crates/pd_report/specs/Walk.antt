@@ -1,8 +1,9 @@
--- How far a walk over the entries of a run has come.
-use Rattle.std.specs.Prelude.{◌≡◌, ℕ, ◌-◌, ◌==◌, ◌≤◌, ◌&&◌, if◌then◌else◌, List, [], take, drop, map, sum, slice_set, nat_lt, Option, Some, None}
+-- How far a walk over the entries of a run and the changes of the budget has come.
+use Rattle.std.specs.Prelude.{◌≡◌, ℕ, ◌+◌, ◌-◌, ◌==◌, ◌<◌, ◌≤◌, ◌&&◌, if◌then◌else◌, List, [], length, take, drop, map, sum, slice_set, Option, Some, None}
 use Rattle.std.specs.List.{AllByRecursion, flat_map, range_with_len}
 use Rattle.pd_port.specs.declared.entry.ContractChange.{ContractChange}
 use Rattle.pd_port.specs.declared.entry.Entry.{Entry}
+use Rattle.pd_scenario.specs.NextChange.{IsNextChange}
 use Rattle.pd_scenario.specs.Plan.{Plan, force}
 use Rattle.pd_report.specs.Margins.{most_ports, power_left, power_on, contracts_at, instant_text, margin_text}
 use Rattle.pd_report.specs.declared.walk.Standing.{Standing}
@@ -16,10 +17,18 @@ standing_at plan moves t = record { contracts = contracts_at moves t; budget = f
 abbrev pub standing_before : Plan → List (ℕ × Entry) → ℕ → Option Standing
 standing_before plan moves t = if t == 0 then None else Some (standing_at plan moves (t - 1))
 
+-- what stands once a walk has seen all entries of its instant
+abbrev pub standing_of : Walk → Standing
+standing_of walk = record { contracts = sum walk.powers; budget = walk.budget }
+
 -- the powers of the ports' contracts after a change on one port
 abbrev pub noted : List ℕ → ℕ → Option ContractChange → List ℕ
 noted powers port None = powers
 noted powers port (Some change) = slice_set powers (port - 1) (power_left change)
+
+-- the walk has seen one more entry
+abbrev pub noted_walk : Walk → ℕ → Option ContractChange → Walk
+noted_walk walk port change = record walk { seen = walk.seen + 1; powers = noted walk.powers port change }
 
 -- the line of an instant, where it differs from what stood before
 abbrev pub line_after : Option Standing → ℕ → Standing → List ℕ
@@ -27,20 +36,19 @@ line_after None t s = margin_text t s.contracts s.budget
 line_after (Some before) t s =
     if before.contracts == s.contracts && before.budget == s.budget then [] else margin_text t s.contracts s.budget
 
--- the walk goes on to an instant: where that is later, what stood before it is what the walk knows, and the budget then
-abbrev pub later_walk : Plan → Walk → ℕ → Walk
-later_walk plan walk at = record walk { at = at; before = Some (record { contracts = sum walk.powers; budget = force plan (at - 1) }) }
+-- the walk knows the budget at its instant, and when it changes next
+pub record KnowsBudget (plan : Plan) (walk : Walk) : Type 0 where
+  pub budget_is : walk.budget ≡ force plan walk.at
+  pub next_is : IsNextChange plan.forces walk.at walk.next
 
-unfoldable pub passed : Plan → Walk → ℕ → Walk
-passed plan walk at = if nat_lt walk.at at then later_walk plan walk at else walk
-
--- the line of the instant at which a walk stands
-abbrev pub last_line : Plan → Walk → List ℕ
-last_line plan walk = line_after walk.before walk.at (record { contracts = sum walk.powers; budget = force plan walk.at })
-
--- the line of the instant that ends, where the walk goes on to a later one
-unfoldable pub passing_line : Plan → Walk → ℕ → List ℕ
-passing_line plan walk at = if nat_lt walk.at at then last_line plan walk else []
+-- the walk goes on to a later instant, and knows the budget there
+pub record GoesOnTo (plan : Plan) (walk : Walk) (at : ℕ) (new : Walk) : Type 0 where
+  pub later : walk.at < at
+  pub seen_is : new.seen ≡ walk.seen
+  pub powers_are : new.powers ≡ walk.powers
+  pub at_is : new.at ≡ at
+  pub before_is : new.before ≡ Some (standing_of walk)
+  pub knows : KnowsBudget plan new
 
 -- no entry is later than a time; none is before it
 abbrev pub NoneLater : ℕ → List (ℕ × Entry) → Type 0
@@ -49,14 +57,20 @@ NoneLater t moves = AllByRecursion (λ move. move.1.at ≤ t) moves
 abbrev pub NoneBefore : ℕ → List (ℕ × Entry) → Type 0
 NoneBefore t moves = AllByRecursion (λ move. t ≤ move.1.at) moves
 
--- The walk has seen so many entries: it knows the power of each port's contract after them, stands at the instant of the
--- last of them, or at 0, and knows what stood before that instant.
-pub record IsWalk (plan : Plan) (moves : List (ℕ × Entry)) (index : ℕ) (walk : Walk) : Type 0 where
-  pub powers_are : walk.powers ≡ map (power_on (take index moves)) (range_with_len 1 most_ports)
-  pub past : NoneLater walk.at (take index moves)
-  pub ahead : NoneBefore walk.at (drop index moves)
+-- The walk has seen some of the entries: it knows the power of each port's contract after them, stands at an instant that is
+-- not before any of them nor after any other, and knows what stood before that instant and the budget there.
+pub record IsWalk (plan : Plan) (moves : List (ℕ × Entry)) (walk : Walk) : Type 0 where
+  pub powers_are : walk.powers ≡ map (power_on (take walk.seen moves)) (range_with_len 1 most_ports)
+  pub some_are_seen : walk.seen ≤ length moves
+  pub past : NoneLater walk.at (take walk.seen moves)
+  pub ahead : NoneBefore walk.at (drop walk.seen moves)
   pub before_is : walk.before ≡ standing_before plan moves walk.at
-  pub in_time : walk.at ≤ plan.end
+  pub knows : KnowsBudget plan walk
+  pub in_time : walk.at ≤ plan.end + 1
+
+-- how many entries a walk has yet to see, and instants to come to: with each step fewer
+abbrev pub left_of : Plan → List (ℕ × Entry) → Walk → ℕ
+left_of plan moves walk = (length moves - walk.seen) + (plan.end + 1 - walk.at)
 
 -- what was written for the instants before the one at which a walk stands
 abbrev pub text_before : Plan → List (ℕ × Entry) → ℕ → List ℕ

@@ -1,10 +1,9 @@
 //! The margins of a run as text.
 
-ghost use Rattle.std.specs.Prelude.{◌≡◌, ◌+◌, ◌-◌, ◌<◌, ◌≤◌, ◌++◌, List, ℕ, [], length, Some, MatchOption, slice_get};
+ghost use Rattle.std.specs.Prelude.{◌≡◌, ◌+◌, ◌-◌, ◌<◌, ◌≤◌, ◌++◌, List, ℕ, [], length, Some, slice_get, drop, min, option_map, IfSome};
 ghost use Rattle.pd_device.specs.Device.{CountsFailure, Writes};
 ghost use Rattle.pd_report.specs.Margins.{margins_text};
-ghost use Rattle.pd_report.specs.Walk.{IsWalk, passed, passing_line, text_before};
-ghost use Rattle.pd_run.specs.Shown.{IsShown};
+ghost use Rattle.pd_report.specs.Walk.{IsWalk, NoneBefore, left_of, text_before};
 ghost use Rattle.pd_scenario.specs.Plans.{plan_of};
 
 use crate::walk::{WIDTH, Walk};
@@ -13,7 +12,7 @@ use pd_run::Runner;
 use pd_scenario::Scenario;
 
 /// Writes what the contracts of all ports take of the scenario's budget and what they leave of it, in microwatts: a line
-/// at the instant 0, and one at each later instant at which that sum or the budget changes.
+/// at the instant 0, and one at each later instant up to the scenario's end at which that sum or the budget changes.
 ///
 /// # Errors
 /// `WriteFailed` where the writer failed or took no byte; the first few bytes of the text have gone out.
@@ -22,51 +21,69 @@ pub fn margins<const N: usize, T: Runner<N>, W: TextOut>(
     scenario: &Scenario<N>,
     writer: &mut W,
 ) -> Result<(), BenchFault>
-    requires { T.plan run.now ≡ Some (plan_of scenario.now) }
     ensures text { Writes (W.taken writer.old) (W.taken writer.new) result
         (margins_text (plan_of scenario.now) (T.entries run.now)) }
     ensures counts { CountsFailure (W.failures writer.old) (W.failures writer.new) result }
 {
     write_all(writer, b"= margins\n")?;
-    let mut walk = Walk::new();
-    for index in 0..run.len() {
-        write_text(writer, &step(run, scenario, index, &mut walk))?;
+    let end = scenario.end_time();
+    let mut walk = Walk::new(scenario);
+    while walk.at <= end {
+        write_text(writer, &step(run, scenario, &mut walk))?;
     }
-    write_text(writer, &walk.line(scenario.force(walk.at)))
+    Ok(())
 }
 
-/// Sees the entry at the index. Where it is later than what was seen, the instant before it has ended: its line.
+/// Sees the next entry of the instant at which the walk stands. Where there is none left, that instant has ended: goes on to
+/// the next one at which something may change, and answers the line of the one that has ended.
 fn step<const N: usize, T: Runner<N>>(
     run: &T,
     scenario: &Scenario<N>,
-    index: usize,
     walk: &mut Walk,
 ) -> Text<WIDTH>
-    requires within { index < length (T.entries run.now) }
-    requires shown { IsShown N (plan_of scenario.now) (T.entries run.now) }
-    requires walk { IsWalk (plan_of scenario.now) (T.entries run.now) index walk.old }
-    ensures walk { IsWalk (plan_of scenario.now) (T.entries run.now) (index + 1) walk.new }
+    requires walk { IsWalk (plan_of scenario.now) (T.entries run.now) walk.old }
+    requires in_time { walk.old.at ≤ (plan_of scenario.now).end }
+    ensures walk { IsWalk (plan_of scenario.now) (T.entries run.now) walk.new }
     ensures text { text_before (plan_of scenario.now) (T.entries run.now) walk.new.at
         ≡ text_before (plan_of scenario.now) (T.entries run.now) walk.old.at ++ result }
+    ensures less { left_of (plan_of scenario.now) (T.entries run.now) walk.new
+        < left_of (plan_of scenario.now) (T.entries run.now) walk.old }
 {
-    let Some((port, entry)) = run.entry(index) else {
-        return Text::new();
-    };
-    let line = pass(walk, scenario, entry.at);
-    walk.note(port, entry.contract);
+    // A usize counts the entries, so it counts those that are seen.
+    let _count = run.len();
+    if let Some((port, entry)) = run.entry(walk.seen) {
+        if entry.at <= walk.at {
+            walk.note(port, entry.contract);
+            return Text::new();
+        }
+    }
+    let next = next_entry(run, walk.seen, scenario.end_time() + 1);
+    let line = walk.line();
+    walk.go_on(scenario, sooner(next, walk.next));
     line
 }
 
-/// Goes on to an instant: the line of the one that ends, where that is another.
-#[tactic(auto, unfolding(crate::specs::Walk::passed, crate::specs::Walk::passing_line))]
-fn pass<const N: usize>(walk: &mut Walk, scenario: &Scenario<N>, at: u64) -> Text<WIDTH>
-    ensures after { walk.new ≡ passed (plan_of scenario.now) walk.old at }
-    ensures line { result ≡ passing_line (plan_of scenario.now) walk.old at }
+/// The time of the entry at the index, or that after the end where none comes before it.
+fn next_entry<const N: usize, T: Runner<N>>(run: &T, index: usize, after_end: u64) -> u64
+    ensures soon { result ≤ after_end }
+    ensures none_before { NoneBefore result (drop index (T.entries run.now)) }
+    ensures one { (time : ℕ) → time < after_end → IfSome (slice_get (T.entries run.now) index) (λ move. time < move.1.at)
+        → time < result }
 {
-    if walk.at >= at {
-        return Text::new();
+    match run.entry(index) {
+        Some((_, entry)) => after_end.min(entry.at),
+        None => after_end,
     }
-    let line = walk.line(scenario.force(walk.at));
-    walk.go_on(at, scenario.force(at - 1));
-    line
+}
+
+/// The sooner of two times, of which the second may be none.
+fn sooner(at: u64, other: Option<u64>) -> u64
+    ensures first { result ≤ at }
+    ensures second { IfSome other (λ time. result ≤ time) }
+    ensures one { (time : ℕ) → time < at → IfSome other (λ later. time < later) → time < result }
+{
+    match other {
+        Some(other) if other < at => other,
+        _ => at,
+    }
 }

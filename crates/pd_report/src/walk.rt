@@ -1,9 +1,8 @@
 //! What the contracts take of the shared budget, from instant to instant.
 
-ghost use Rattle.std.specs.Prelude.{◌≡◌, ◌+◌, ◌-◌, ◌*◌, ◌<◌, ◌≤◌, ◌++◌, ◌^◌, List, ℕ, [], length, sum, take, decimal, codes, replicate, Some};
+ghost use Rattle.std.specs.Prelude.{◌≡◌, ◌+◌, ◌-◌, ◌*◌, ◌<◌, ◌≤◌, ◌++◌, ◌^◌, List, ℕ, [], length, sum, take, decimal, codes, replicate, IfSome};
 ghost use Rattle.pd_report.specs.Margins.{margin_text, power_left};
-ghost use Rattle.pd_report.specs.Walk.{line_after, noted};
-ghost use Rattle.pd_scenario.specs.Plan.{IsPlan, force};
+ghost use Rattle.pd_report.specs.Walk.{GoesOnTo, KnowsBudget, line_after, noted_walk, standing_of};
 ghost use Rattle.pd_scenario.specs.Plans.{plan_of};
 
 use pd_device::Text;
@@ -20,61 +19,92 @@ pub(crate) struct Standing {
     pub budget: u64,
 }
 
-/// How far a walk over the entries of a run has come: the power of each port's contract in microwatts, the instant at
-/// which it stands, and what stood before that.
+/// How far a walk over the entries of a run and the changes of the budget has come: how many entries it has seen, the power
+/// of each port's contract after them in microwatts, the instant at which it stands in microseconds, what stood before that,
+/// the budget there in microwatts, and when it changes next.
 #[derive(Drop)]
 pub(crate) struct Walk {
+    pub seen: usize,
     pub powers: [u64; 8],
     pub at: u64,
     pub before: Option<Standing>,
+    pub budget: u64,
+    pub next: Option<u64>,
 }
 
 impl Walk {
-    /// A walk that has seen nothing.
-    pub fn new() -> Walk
+    /// A walk that has seen nothing, at the instant 0.
+    pub fn new<const N: usize>(scenario: &Scenario<N>) -> Walk
+        ensures seen { result.seen ≡ 0 }
         ensures powers { result.powers ≡ replicate 8 0 }
         ensures at { result.at ≡ 0 }
         ensures before { result.before ≡ None }
+        ensures knows { KnowsBudget (plan_of scenario.now) result }
     {
         Walk {
+            seen: 0,
             powers: [0; 8],
             at: 0,
             before: None,
+            budget: scenario.force(0),
+            next: scenario.next_change(0),
         }
     }
 
-    /// The change of a port's contract.
+    /// Sees one more entry: its port, and the change of that port's contract.
     pub fn note(&mut self, port: usize, change: Option<ContractChange>)
         requires from_one { 1 ≤ port }
         requires known { port ≤ 8 }
-        ensures { self.new ≡ record self.old { powers = noted self.old.powers port change } }
+        requires room { self.old.seen < 2 ^ 64 - 1 }
+        ensures { self.new ≡ noted_walk self.old port change }
     {
         if let Some(change) = change {
             self.powers[port - 1] = power_of(change);
         }
+        self.seen += 1;
     }
 
-    /// The line of the instant at which the walk stands, if there is one.
-    pub fn line(&self, budget: u64) -> Text<WIDTH>
-        ensures { result ≡ line_after self.now.before self.now.at (record { contracts = sum self.now.powers; budget = budget }) }
+    /// What stands at the instant of the walk, once all its entries are seen.
+    fn standing(&self) -> Standing
+        ensures { result ≡ standing_of self.now }
     {
-        let contracts = total(&self.powers);
-        match self.before {
-            Some(before) if before.contracts == contracts && before.budget == budget => Text::new(),
-            _ => margin_line(self.at, contracts, budget),
+        Standing {
+            contracts: total(&self.powers),
+            budget: self.budget,
         }
     }
 
-    /// The walk goes on to a later instant, before which the budget was this.
-    pub fn go_on(&mut self, at: u64, budget: u64)
-        ensures { self.new ≡ record self.old { at = at; before = Some (record { contracts = sum self.old.powers; budget = budget }) } }
+    /// The line of the instant at which the walk stands, if there is one.
+    pub fn line(&self) -> Text<WIDTH>
+        ensures { result ≡ line_after self.now.before self.now.at (standing_of self.now) }
     {
-        let contracts = total(&self.powers);
-        self.before = Some(Standing { contracts, budget });
+        let standing = self.standing();
+        match self.before {
+            Some(before) if before == standing => Text::new(),
+            _ => margin_line(self.at, standing),
+        }
+    }
+
+    /// Goes on to a later instant, up to which the budget doesn't change.
+    pub fn go_on<const N: usize>(&mut self, scenario: &Scenario<N>, at: u64)
+        requires later { self.old.at < at }
+        requires knows { KnowsBudget (plan_of scenario.now) self.old }
+        requires no_later { IfSome self.old.next (λ next. at ≤ next) }
+        ensures { GoesOnTo (plan_of scenario.now) self.old at self.new }
+    {
+        self.before = Some(self.standing());
         self.at = at;
+        let Some(next) = self.next else {
+            return;
+        };
+        if next <= at {
+            self.budget = scenario.force(at);
+            self.next = scenario.next_change(at);
+        }
     }
 }
 
+/// The power in microwatts that a change of a contract leaves.
 fn power_of(change: ContractChange) -> u64
     ensures { result ≡ power_left change }
 {
@@ -95,15 +125,16 @@ fn total(powers: &[u64; 8]) -> u128
     total
 }
 
+/// The line of what stands at the end of an instant.
 #[tactic(auto, unfolding(crate::specs::Margins::margin_text))]
-fn margin_line(at: u64, contracts: u128, budget: u64) -> Text<WIDTH>
-    ensures { result ≡ margin_text at contracts budget }
+fn margin_line(at: u64, standing: Standing) -> Text<WIDTH>
+    ensures { result ≡ margin_text at standing.contracts standing.budget }
 {
-    let margin = u128::from(budget).saturating_sub(contracts);
+    let margin = u128::from(standing.budget).saturating_sub(standing.contracts);
     let mut text = Text::new();
     text.push_right(at);
     text.push_all(b" contracts ");
-    text.push_wide(contracts);
+    text.push_wide(standing.contracts);
     text.push_all(b" margin ");
     text.push_wide(margin);
     text.push_all(b"\n");

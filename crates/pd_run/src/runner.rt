@@ -4,7 +4,7 @@ ghost use Rattle.std.specs.Prelude.{◌≡◌, ℕ, ◌≤◌, List, [], Option,
 ghost use Rattle.pd_port.specs.declared.entry.Entry.{Entry as EntryData};
 ghost use Rattle.pd_scenario.specs.Plan.{Plan};
 ghost use Rattle.pd_scenario.specs.Plans.{plan_of};
-ghost use Rattle.pd_run.specs.Shown.{Shows, IsShown};
+ghost use Rattle.pd_run.specs.Shown.{Shows, AreEntriesOf};
 
 use pd_port::{Entry, Meter};
 use pd_scenario::Scenario;
@@ -42,10 +42,10 @@ pub trait Runner<const N: usize> {
     /// The number of moves.
     fn len(&self) -> usize
         ensures count { result ≡ length (entries self.now) }
-        ensures run { IfSome (plan self.now) (λ p. IsShown N p (entries self.now)) };
+        ensures run { AreEntriesOf N (plan self.now) (entries self.now) };
 
     /// The port of a move and its entry, by its place in the run.
     fn entry(&self, i: usize) -> Option<(usize, &Entry)>
         ensures entry { option_map (λ r. (r.0, r.1.now)) result ≡ slice_get (entries self.now) i }
-        ensures run { IfSome (plan self.now) (λ p. IsShown N p (entries self.now)) };
+        ensures run { AreEntriesOf N (plan self.now) (entries self.now) };
 }

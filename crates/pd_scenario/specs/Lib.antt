@@ -2,6 +2,7 @@ pub mod Events
 pub mod Laws
 pub mod Limits
 pub mod Names
+pub mod NextChange
 pub mod Plan
 pub mod Plans
 pub mod Scenarios
