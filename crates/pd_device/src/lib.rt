@@ -8,5 +8,5 @@ mod text;
 
 pub use device::{DeviceFault, TextIn, TextOut, write_all};
 pub use fault::BenchFault;
-pub use stream::{Input, Output};
+pub use stream::{Output, SliceIn};
 pub use text::{Text, write_text};

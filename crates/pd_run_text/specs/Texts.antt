@@ -1,11 +1,11 @@
 -- What a session over texts comes to.
-use Rattle.std.specs.Prelude.{◌≡◌, ℕ, ◌⊎◌, List, ◌++◌, Result, Ok, Err, Option, Some, IfSome}
+use Rattle.std.specs.Prelude.{◌≡◌, ◌≢◌, ℕ, ◌⊎◌, List, ◌++◌, Result, Ok, Err, Option, Some, IfSome}
 use Rattle.pd_scenario.specs.Scenarios.{ScenarioData}
 use Rattle.pd_scenario_tables.specs.declared.fault.ScenarioFault.{ScenarioFault}
 use Rattle.pd_scenario_tables.specs.Numbers.{number_of}
 use Rattle.pd_scenario_text.specs.Reading.{Counts, Reads}
 use Rattle.pd_device.specs.Device.{one_more}
-use Rattle.pd_device.specs.declared.fault.BenchFault.TheVariants.{WriteFailed}
+use Rattle.pd_device.specs.declared.fault.BenchFault.TheVariants.{ReadFailed, WriteFailed}
 use Rattle.pd_bench.specs.declared.tally.Tally.{Tally}
 use Rattle.pd_bench.specs.Session.{Session, SessionEnds}
 use Rattle.pd_run_text.specs.declared.texts.RunFault.{RunFault}
@@ -34,12 +34,14 @@ WritesAnswer text edits tally taken taken' = IfSome taken (λ before. (out : Lis
 abbrev pub IsRefused : List ℕ → ScenarioFault → Type 0
 IsRefused text fault = Counts text (Err fault) ⊎ ((n : ℕ) × Counts text (Ok n) × Reads n text (Err fault))
 
--- Where the text is refused, nothing is written; where the session fails, it ends as sessions over these edits do.
+-- Where the text is refused, nothing is written; where the session fails, it ends as sessions over these edits do. Edits that
+-- are there need no device, so no read of them fails.
 abbrev pub RunsText : Result Tally RunFault → List ℕ → List ℕ → Option (List ℕ) → Option (List ℕ) → Type 0
 RunsText (Ok tally) text edits taken taken' = WritesAnswer text edits tally taken taken'
 RunsText (Err (faults.Scenario fault)) text edits taken taken' = IsRefused text fault × (taken' ≡ taken)
 RunsText (Err (faults.Session fault)) text edits taken taken' =
-    (n : ℕ) × (s : ScenarioData) × (left' : Option (List ℕ)) × IsScenarioText text n s × SessionEnds n (Err fault) (Some edits) left' taken taken' s
+    (fault ≢ ReadFailed) × (n : ℕ) × (s : ScenarioData) × (left' : Option (List ℕ))
+    × IsScenarioText text n s × SessionEnds n (Err fault) (Some edits) left' taken taken' s
 
 -- the count of failed writes says whether one failed
 abbrev pub CountsWrites : Result Tally RunFault → ℕ → ℕ → Type 0

@@ -8,5 +8,5 @@ mod texts;
 
 pub use check::check_text;
 pub use files::read_whole;
-pub use pd_device::{Input, Output};
+pub use pd_device::{Output, SliceIn};
 pub use texts::{RunFault, run_kept, run_plain};

@@ -5,7 +5,7 @@ ghost use Rattle.pd_scenario_text.specs.Reading.{Counts};
 ghost use Rattle.pd_run_text.specs.Texts.{CountsWrites, RunsText};
 
 use pd_bench::{Tally, session};
-use pd_device::{BenchFault, Input, TextOut};
+use pd_device::{BenchFault, SliceIn, TextOut};
 use pd_keep::Kept;
 use pd_port::Meter;
 use pd_run::{Plain, Runner};
@@ -36,7 +36,7 @@ macro_rules! run_by {
 /// start.
 ///
 /// # Errors
-/// `Scenario` where the text is refused, and nothing is written; `Session` where the session fails.
+/// `Scenario` where the text is refused, and nothing is written; `Session` where the session fails, but never for a read.
 pub fn run_plain<W: TextOut>(
     alloc: Global,
     text: &[u8],
@@ -54,7 +54,7 @@ pub fn run_plain<W: TextOut>(
 /// for the next.
 ///
 /// # Errors
-/// `Scenario` where the text is refused, and nothing is written; `Session` where the session fails.
+/// `Scenario` where the text is refused, and nothing is written; `Session` where the session fails, but never for a read.
 pub fn run_kept<W: TextOut>(
     alloc: Global,
     text: &[u8],
@@ -87,9 +87,6 @@ fn run_text<const N: usize, T: Runner<N> + Drop, W: TextOut>(
         Err(fault) => return Err(RunFault::Scenario(fault)),
     };
     let mut runner = T::empty(alloc);
-    let mut reader = Input {
-        reader: edits,
-        failures: 0,
-    };
+    let mut reader = SliceIn { rest: edits };
     session(alloc, scenario, &mut runner, &mut reader, writer, meter).map_err(RunFault::Session)
 }
