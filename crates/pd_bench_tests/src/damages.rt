@@ -2,43 +2,12 @@
 
 ghost use Rattle.std.specs.Prelude.{◌<◌};
 
-use super::*;
+use crate::scenarios::SEVEN_SUPPLIES;
 use pd_device::Output;
 use pd_port::Meter;
 use pd_run_text::{run_kept, run_plain};
 use std::alloc::{AllocError, Global};
 use std::test::Fail;
-
-const SEVEN_SUPPLIES: &[u8] = b"
-version = 1
-end = 55000
-budget = 60000
-
-[[port]]
-floor = 2500
-identity_tries = 0
-supplies = [
-  [5000, 3000], [6000, 3000], [7000, 3000], [8000, 3000], [9000, 3000], [10000, 3000], [11000, 3000],
-]
-
-[[cable]]
-name = \"thin\"
-plug = \"none\"
-rating = 3000
-
-[[sink]]
-name = \"phone\"
-max = 5000
-demand = 15000
-
-[[event]]
-id = 1
-at = 0
-port = 1
-kind = \"attach\"
-cable = \"thin\"
-sink = \"phone\"
-";
 
 /// The codes of the offer.
 const OFFER: [u8; 73] = [
@@ -116,35 +85,23 @@ fn first_other(alloc: Global, text: &[u8]) -> Result<Option<u32>, AllocError> {
     Ok(if rest == DONE { None } else { Some(DAMAGES) })
 }
 
+/// Runs a session over the script, and answers whether each damage is answered as it should be.
+macro_rules! answers_all {
+    ($run:ident, $alloc:expr, $script:ident) => {{
+        let mut out = Output {
+            writer: Vec::new($alloc),
+            failures: 0,
+        };
+        let mut meter = Meter::new();
+        let run = $run($alloc, SEVEN_SUPPLIES, $script.as_bytes(), &mut out, &mut meter);
+        run.is_ok() && first_other($alloc, out.writer.as_slice())?.is_none()
+    }};
+}
+
 #[test]
 fn each_damaged_offer_is_made_again(rt: HostRuntime) -> Result<(), Fail> {
     let script = script(rt.alloc())?;
-    let mut out = Output {
-        writer: Vec::new(rt.alloc()),
-        failures: 0,
-    };
-    let script = script.as_bytes();
-    let plain = run_plain(
-        rt.alloc(),
-        SEVEN_SUPPLIES,
-        script,
-        &mut out,
-        &mut Meter::new(),
-    );
-    assert!(rt; plain.is_ok());
-    assert_eq!(rt; first_other(rt.alloc(), out.writer.as_slice())?, None);
-    let mut out = Output {
-        writer: Vec::new(rt.alloc()),
-        failures: 0,
-    };
-    let kept = run_kept(
-        rt.alloc(),
-        SEVEN_SUPPLIES,
-        script,
-        &mut out,
-        &mut Meter::new(),
-    );
-    assert!(rt; kept.is_ok());
-    assert_eq!(rt; first_other(rt.alloc(), out.writer.as_slice())?, None);
+    assert!(rt; answers_all!(run_plain, rt.alloc(), script));
+    assert!(rt; answers_all!(run_kept, rt.alloc(), script));
     Ok(())
 }

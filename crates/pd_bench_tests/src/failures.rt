@@ -1,41 +1,28 @@
 //! Sessions whose reader or writer fails at each of its calls in turn.
 
-use super::scripts::{REFUSED, REFUSED_ANSWER};
-use super::shows::PHONE;
-use super::*;
-use pd_bench::{Tally, session};
+use crate::devices::{Page, Script};
+use crate::scenarios::{ALL, PHONE, run_session};
+use crate::scripts::{REFUSED, REFUSED_ANSWER};
+use pd_bench::Tally;
 use pd_device::BenchFault;
 use pd_keep::Kept;
-use pd_port::Meter;
 use pd_run::{Plain, Runner};
-use pd_scenario_text::scenario_from_text;
 use std::alloc::Global;
 
-/// A session of the phone's scenario with a new runner.
-pub(super) fn phone_session<T: Runner<1> + Drop>(
+/// A session of the phone's scenario.
+fn phone_session<T: Runner<1> + Drop>(
     alloc: Global,
     reader: &mut Script,
     page: &mut Page,
 ) -> Result<Tally, BenchFault> {
-    let Ok(scenario) = scenario_from_text::<1>(alloc, PHONE) else {
-        return Err(BenchFault::Memory);
-    };
-    let mut runner = T::empty(alloc);
-    session(
-        alloc,
-        scenario,
-        &mut runner,
-        reader,
-        page,
-        &mut Meter::new(),
-    )
+    run_session::<1, T, Script, Page>(alloc, PHONE, reader, page)
 }
 
 /// Whether a reader of so many bytes a call that fails at a call ends the session with its failure, after a beginning of
 /// the whole text.
 fn ends_at_read<T: Runner<1> + Drop>(alloc: Global, most: usize, fails_at: u32) -> bool {
     let mut reader = Script::new(REFUSED, most, fails_at);
-    let mut page = Page::new(600, 0, false);
+    let mut page = Page::new(ALL, 0, false);
     let answer = phone_session::<T>(alloc, &mut reader, &mut page);
     answer == Err(BenchFault::ReadFailed) && REFUSED_ANSWER.starts_with(page.text())
 }
@@ -49,7 +36,7 @@ fn ends_at_write<T: Runner<1> + Drop>(
     takes_none: bool,
 ) -> bool {
     let mut page = Page::new(most, fails_at, takes_none);
-    let answer = phone_session::<T>(alloc, &mut Script::new(REFUSED, 600, 0), &mut page);
+    let answer = phone_session::<T>(alloc, &mut Script::new(REFUSED, ALL, 0), &mut page);
     answer == Err(BenchFault::WriteFailed) && REFUSED_ANSWER.starts_with(page.text())
 }
 
@@ -69,8 +56,8 @@ fn each_read_may_fail(rt: HostRuntime) {
         assert!(rt; ends_at_read::<Kept<1>>(rt.alloc(), 1, at), "at {at}");
     }
     for at in 1..3 {
-        assert!(rt; ends_at_read::<Plain<1>>(rt.alloc(), 600, at), "at {at}");
-        assert!(rt; ends_at_read::<Kept<1>>(rt.alloc(), 600, at), "at {at}");
+        assert!(rt; ends_at_read::<Plain<1>>(rt.alloc(), ALL, at), "at {at}");
+        assert!(rt; ends_at_read::<Kept<1>>(rt.alloc(), ALL, at), "at {at}");
     }
 }
 
@@ -97,11 +84,11 @@ fn each_write_of_a_line_may_fail(rt: HostRuntime) {
     for takes_none in [false, true] {
         for at in 1..9 {
             assert!(rt;
-                ends_at_write::<Plain<1>>(rt.alloc(), 600, at, takes_none),
+                ends_at_write::<Plain<1>>(rt.alloc(), ALL, at, takes_none),
                 "at {at}"
             );
             assert!(rt;
-                ends_at_write::<Kept<1>>(rt.alloc(), 600, at, takes_none),
+                ends_at_write::<Kept<1>>(rt.alloc(), ALL, at, takes_none),
                 "at {at}"
             );
         }
@@ -113,6 +100,6 @@ fn each_write_of_a_line_may_fail(rt: HostRuntime) {
 fn no_later_call_is_made(rt: HostRuntime) {
     assert!(rt; goes_on::<Plain<1>>(rt.alloc(), 1, 79, 177));
     assert!(rt; goes_on::<Kept<1>>(rt.alloc(), 1, 79, 177));
-    assert!(rt; goes_on::<Plain<1>>(rt.alloc(), 600, 3, 9));
-    assert!(rt; goes_on::<Kept<1>>(rt.alloc(), 600, 3, 9));
+    assert!(rt; goes_on::<Plain<1>>(rt.alloc(), ALL, 3, 9));
+    assert!(rt; goes_on::<Kept<1>>(rt.alloc(), ALL, 3, 9));
 }

@@ -1,7 +1,7 @@
 //! Sessions in which some growth is refused.
 
-use super::failures::phone_session;
-use super::*;
+use crate::devices::Page;
+use crate::scenarios::{ALL, PHONE, run_script};
 use pd_bench::Tally;
 use pd_device::BenchFault;
 use pd_keep::Kept;
@@ -47,7 +47,7 @@ const SHOWN_WITH_LOSS: &[u8] = b"= transcript 1
 
 /// A session over an edit between two shows.
 fn run<T: Runner<1> + Drop>(alloc: Global, page: &mut Page) -> Result<Tally, BenchFault> {
-    phone_session::<T>(alloc, &mut Script::new(LOSS, 600, 0), page)
+    run_script::<1, T>(alloc, PHONE, LOSS, page)
 }
 
 /// Whether a text is made of these parts.
@@ -65,7 +65,7 @@ fn is_made_of(text: &[u8], parts: &[&[u8]]) -> bool {
 /// Whether the session fails for want of memory and writes nothing, refuses the edit for it and shows the same run twice,
 /// or makes the edit.
 fn is_answered<T: Runner<1> + Drop>(alloc: Global) -> bool {
-    let mut page = Page::new(600, 0, false);
+    let mut page = Page::new(ALL, 0, false);
     match run::<T>(alloc, &mut page) {
         Err(fault) => fault == BenchFault::Memory && page.text().is_empty(),
         Ok(tally) if tally.refused == 1 => {
@@ -85,7 +85,7 @@ fn edit_without_memory(rt: HostRuntime) {
     assert!(rt; is_answered::<Plain<1>>(rt.alloc()));
 }
 
-/// The same with the runner that keeps its moves.
+/// Nor does the runner that keeps its moves answer otherwise.
 #[test]
 fn edit_without_memory_of_kept_moves(rt: HostRuntime) {
     assert!(rt; is_answered::<Kept<1>>(rt.alloc()));
@@ -94,10 +94,10 @@ fn edit_without_memory_of_kept_moves(rt: HostRuntime) {
 /// With memory enough the edit is made.
 #[test]
 fn edit_with_memory(rt: HostRuntime) {
-    let mut page = Page::new(600, 0, false);
+    let mut page = Page::new(ALL, 0, false);
     let plain = run::<Plain<1>>(rt.alloc(), &mut page);
     assert!(rt; plain.is_ok_and(|tally| tally.edits == 1));
-    let mut page = Page::new(600, 0, false);
+    let mut page = Page::new(ALL, 0, false);
     let kept = run::<Kept<1>>(rt.alloc(), &mut page);
     assert!(rt; kept.is_ok_and(|tally| tally.edits == 1));
 }

@@ -1,41 +1,9 @@
 //! Whole sessions, with answers from outside.
 
-ghost use Rattle.std.specs.Prelude.{◌≤◌};
-
-use super::shows::PHONE;
-use super::*;
-use pd_bench::{Tally, session};
-use pd_device::BenchFault;
-use pd_port::Meter;
-use pd_run::{Plain, Runner};
-use pd_scenario_text::scenario_from_text;
-use std::alloc::Global;
+use crate::devices::Page;
+use crate::scenarios::{ALL, DERATED, PHONE, run_script};
+use pd_run::Plain;
 use std::test::Fail;
-
-/// A session of the scenario of a text.
-fn answers<const N: usize>(
-    alloc: Global,
-    text: &[u8],
-    script: &[u8],
-    page: &mut Page,
-) -> Result<Tally, BenchFault>
-    requires from_one { 1 ≤ N }
-    requires to_eight { N ≤ 8 }
-{
-    let Ok(scenario) = scenario_from_text::<N>(alloc, text) else {
-        return Err(BenchFault::Memory);
-    };
-    let mut runner = Plain::<N>::empty(alloc);
-    let mut reader = Script::new(script, 600, 0);
-    session(
-        alloc,
-        scenario,
-        &mut runner,
-        &mut reader,
-        page,
-        &mut Meter::new(),
-    )
-}
 
 pub(super) const REFUSED: &[u8] = b"show contracts
 insert 1 0 1 detach
@@ -56,8 +24,8 @@ done 0 edits 3 refused 2 shows
 
 #[test]
 fn refused_lines_change_nothing(rt: HostRuntime) -> Result<(), Fail> {
-    let mut page = Page::new(600, 0, false);
-    answers::<1>(rt.alloc(), PHONE, REFUSED, &mut page)?;
+    let mut page = Page::new(ALL, 0, false);
+    run_script::<1, Plain<1>>(rt.alloc(), PHONE, REFUSED, &mut page)?;
     assert_eq!(rt; page.text(), REFUSED_ANSWER);
     Ok(())
 }
@@ -97,8 +65,8 @@ const DONE: &[u8] = b"done 20 edits 0 refused 8 shows\n";
 
 #[test]
 fn edits_are_taken_back(rt: HostRuntime) -> Result<(), Fail> {
-    let mut page = Page::new(600, 0, false);
-    answers::<1>(rt.alloc(), PHONE, THERE_AND_BACK, &mut page)?;
+    let mut page = Page::new(ALL, 0, false);
+    run_script::<1, Plain<1>>(rt.alloc(), PHONE, THERE_AND_BACK, &mut page)?;
     let text = page.text();
     assert!(rt; text.ends_with(DONE) && text.len() > DONE.len() + 60);
     let shows = (text.len() - DONE.len() - 60) / 2;
@@ -113,26 +81,6 @@ fn edits_are_taken_back(rt: HostRuntime) -> Result<(), Fail> {
     }
     Ok(())
 }
-
-/// Three ports whose budget falls at 500,000.
-const DERATED: &[u8] = b"
-version = 2
-end = 2000000
-budget = 50000
-port = [
-  { floor = 2500, identity_tries = 1, supplies = [[5000, 3000]] },
-  { floor = 2500, identity_tries = 1, supplies = [[5000, 3000]] },
-  { floor = 2500, identity_tries = 1, supplies = [[5000, 3000]] },
-]
-cable = [{ name = \"thin\", plug = \"none\", rating = 3000 }]
-sink = [{ name = \"phone\", max = 5000, demand = 15000 }]
-event = [
-  { id = 1, at = 0, port = 1, kind = \"attach\", cable = \"thin\", sink = \"phone\" },
-  { id = 2, at = 0, port = 2, kind = \"attach\", cable = \"thin\", sink = \"phone\" },
-  { id = 3, at = 0, port = 3, kind = \"attach\", cable = \"thin\", sink = \"phone\" },
-  { id = 4, at = 500000, kind = \"budget\", mw = 25000 },
-]
-";
 
 const DERATING: &[u8] = b"show contracts
 show margins
@@ -175,8 +123,8 @@ done 2 edits 4 refused 3 shows
 
 #[test]
 fn a_budget_that_falls(rt: HostRuntime) -> Result<(), Fail> {
-    let mut page = Page::new(600, 0, false);
-    answers::<3>(rt.alloc(), DERATED, DERATING, &mut page)?;
+    let mut page = Page::new(ALL, 0, false);
+    run_script::<3, Plain<3>>(rt.alloc(), DERATED, DERATING, &mut page)?;
     assert_eq!(rt; page.text(), DERATING_ANSWER);
     Ok(())
 }

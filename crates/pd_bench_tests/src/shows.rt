@@ -1,9 +1,9 @@
 //! The shows of contracts, faults and margins over whole runs, with texts from outside.
 
-ghost use Rattle.std.specs.Prelude.{◌≡◌, ◌≤◌, ℕ, Some};
-ghost use Rattle.pd_scenario.specs.Plans.{plan_of};
+ghost use Rattle.std.specs.Prelude.{◌≤◌};
 
-use super::*;
+use crate::devices::Page;
+use crate::scenarios::{ALL, GREEDY, PAIR, PHONE};
 use pd_device::BenchFault;
 use pd_port::Meter;
 use pd_report::{contracts, faults, margins};
@@ -12,123 +12,6 @@ use pd_scenario::Scenario;
 use pd_scenario_text::scenario_from_text;
 use std::alloc::Global;
 use std::test::Fail;
-
-pub(super) const PHONE: &[u8] = b"
-version = 1
-end = 1000000
-budget = 60000
-
-[[port]]
-floor = 2500
-identity_tries = 1
-supplies = [[5000, 3000]]
-
-[[cable]]
-name = \"thin\"
-plug = \"none\"
-rating = 3000
-
-[[sink]]
-name = \"phone\"
-max = 5000
-demand = 15000
-
-[[event]]
-id = 1
-at = 0
-port = 1
-kind = \"attach\"
-cable = \"thin\"
-sink = \"phone\"
-";
-
-const GREEDY: &[u8] = b"
-version = 1
-end = 10000000
-budget = 60000
-
-[[port]]
-floor = 2500
-identity_tries = 0
-supplies = [[5000, 3000]]
-
-[[cable]]
-name = \"thin\"
-plug = \"none\"
-rating = 3000
-
-[[sink]]
-name = \"phone\"
-max = 5000
-demand = 30000
-mode = \"greedy\"
-
-[[event]]
-id = 1
-at = 0
-port = 1
-kind = \"attach\"
-cable = \"thin\"
-sink = \"phone\"
-";
-
-const PAIR: &[u8] = b"
-version = 1
-end = 2000000
-budget = 60000
-
-[[port]]
-floor = 2500
-identity_tries = 1
-supplies = [[5000, 3000], [20000, 5000]]
-
-[[port]]
-floor = 2500
-identity_tries = 1
-supplies = [[5000, 3000]]
-
-[[cable]]
-name = \"thick\"
-plug = \"ack\"
-rating = 5000
-
-[[cable]]
-name = \"thin\"
-plug = \"none\"
-rating = 3000
-
-[[sink]]
-name = \"big\"
-max = 20000
-demand = 60000
-
-[[sink]]
-name = \"phone\"
-max = 5000
-demand = 15000
-
-[[event]]
-id = 1
-at = 0
-port = 1
-kind = \"attach\"
-cable = \"thick\"
-sink = \"big\"
-
-[[event]]
-id = 2
-at = 200000
-port = 2
-kind = \"attach\"
-cable = \"thin\"
-sink = \"phone\"
-
-[[event]]
-id = 3
-at = 500000
-port = 1
-kind = \"detach\"
-";
 
 /// The three shows of a scenario's run, one after the other.
 fn shows<const N: usize>(alloc: Global, text: &[u8], page: &mut Page) -> Result<(), BenchFault>
@@ -149,9 +32,7 @@ fn show_all<const N: usize, T: Runner<N>>(
     runner: &T,
     scenario: &Scenario<N>,
     page: &mut Page,
-) -> Result<(), BenchFault>
-    requires { T.plan runner.now ≡ Some (plan_of scenario.now) }
-{
+) -> Result<(), BenchFault> {
     contracts(runner, page)?;
     faults(runner, page)?;
     margins(runner, scenario, page)
@@ -169,7 +50,7 @@ const OF_PHONE: &[u8] = b"= contracts
 
 #[test]
 fn of_a_phone(rt: HostRuntime) -> Result<(), Fail> {
-    let mut page = Page::new(600, 0, false);
+    let mut page = Page::new(ALL, 0, false);
     shows::<1>(rt.alloc(), PHONE, &mut page)?;
     assert_eq!(rt; page.text(), OF_PHONE);
     Ok(())
@@ -178,7 +59,7 @@ fn of_a_phone(rt: HostRuntime) -> Result<(), Fail> {
 #[test]
 fn of_a_writer_that_fails(rt: HostRuntime) -> Result<(), Fail> {
     for at in 1..9 {
-        let mut page = Page::new(600, at, at > 4);
+        let mut page = Page::new(ALL, at, at > 4);
         let answer = shows::<1>(rt.alloc(), PHONE, &mut page);
         assert_eq!(rt; answer, Err(BenchFault::WriteFailed), "at {at}");
         assert!(rt; OF_PHONE.starts_with(page.text()), "at {at}");
@@ -206,7 +87,7 @@ const OF_A_GREEDY_SINK: &[u8] = b"= contracts
 
 #[test]
 fn of_a_greedy_sink(rt: HostRuntime) -> Result<(), Fail> {
-    let mut page = Page::new(600, 0, false);
+    let mut page = Page::new(ALL, 0, false);
     shows::<1>(rt.alloc(), GREEDY, &mut page)?;
     assert_eq!(rt; page.text(), OF_A_GREEDY_SINK);
     Ok(())
@@ -230,7 +111,7 @@ const MARGINS_OF_TWO_PORTS: &[u8] = b"= margins
 
 #[test]
 fn of_two_ports(rt: HostRuntime) -> Result<(), Fail> {
-    let mut page = Page::new(600, 0, false);
+    let mut page = Page::new(ALL, 0, false);
     shows::<2>(rt.alloc(), PAIR, &mut page)?;
     assert!(rt; page.text().starts_with(OF_TWO_PORTS));
     assert!(rt; page.text().ends_with(MARGINS_OF_TWO_PORTS));

@@ -1,56 +1,16 @@
-use super::*;
-use pd_bench::{Tally, session};
-use pd_device::BenchFault;
-use pd_port::Meter;
-use pd_run::{Plain, Runner};
-use pd_scenario_text::scenario_from_text;
+//! Sessions of the scenario `FIRST`: their lines, their devices and their memory.
+
+use crate::devices::{Endless, Page, Script};
+use crate::scenarios::{ALL, FIRST, run_session};
+use pd_bench::Tally;
+use pd_device::{BenchFault, TextIn};
+use pd_run::Plain;
 use std::alloc::Global;
-use std::test::Fail;
+use std::test::*;
 
-/// The scenario `first`: one port of 5 V and 3 A, to which the sink `phone` is attached at 0 through the cable `thin`, for
-/// 52 milliseconds, until its first packets have passed.
-const FIRST: &[u8] = b"version = 1
-end = 52000
-budget = 60000
-
-[[port]]
-floor = 2500
-identity_tries = 0
-supplies = [[5000, 3000]]
-
-[[cable]]
-name = \"thin\"
-plug = \"none\"
-rating = 3000
-
-[[sink]]
-name = \"phone\"
-max = 5000
-demand = 15000
-
-[[event]]
-id = 1
-at = 0
-port = 1
-kind = \"attach\"
-cable = \"thin\"
-sink = \"phone\"
-";
-
-/// A session of the scenario `first`.
+/// A session of that scenario.
 fn run<R: TextIn>(alloc: Global, reader: &mut R, page: &mut Page) -> Result<Tally, BenchFault> {
-    let Ok(scenario) = scenario_from_text::<1>(alloc, FIRST) else {
-        return Err(BenchFault::Memory);
-    };
-    let mut runner = Plain::<1>::empty(alloc);
-    session(
-        alloc,
-        scenario,
-        &mut runner,
-        reader,
-        page,
-        &mut Meter::new(),
-    )
+    run_session::<1, Plain<1>, R, Page>(alloc, FIRST, reader, page)
 }
 
 const SCRIPT: &[u8] =
@@ -70,7 +30,7 @@ done 2 edits 3 refused 2 shows
 
 #[test]
 fn answers_each_line(rt: HostRuntime) -> Result<(), Fail> {
-    for most in [1usize, 2, 7, 600] {
+    for most in [1usize, 2, 7, ALL] {
         let mut page = Page::new(most, 0, false);
         let tally = run(rt.alloc(), &mut Script::new(SCRIPT, most, 0), &mut page)?;
         assert_eq!(rt; page.text(), ANSWER, "at {most}");
@@ -82,7 +42,7 @@ fn answers_each_line(rt: HostRuntime) -> Result<(), Fail> {
 #[test]
 fn fails_with_the_reader(rt: HostRuntime) -> Result<(), Fail> {
     for at in 1..106 {
-        let mut page = Page::new(600, 0, false);
+        let mut page = Page::new(ALL, 0, false);
         let answer = run(rt.alloc(), &mut Script::new(SCRIPT, 1, at), &mut page);
         assert_eq!(rt; answer, Err(BenchFault::ReadFailed), "at {at}");
         assert!(rt; ANSWER.starts_with(page.text()), "at {at}");
@@ -94,8 +54,8 @@ fn fails_with_the_reader(rt: HostRuntime) -> Result<(), Fail> {
 fn fails_with_the_writer(rt: HostRuntime) -> Result<(), Fail> {
     for takes_none in [false, true] {
         for at in 1..11 {
-            let mut page = Page::new(600, at, takes_none);
-            let answer = run(rt.alloc(), &mut Script::new(SCRIPT, 600, 0), &mut page);
+            let mut page = Page::new(ALL, at, takes_none);
+            let answer = run(rt.alloc(), &mut Script::new(SCRIPT, ALL, 0), &mut page);
             assert_eq!(rt; answer, Err(BenchFault::WriteFailed), "at {at}");
             assert!(rt; ANSWER.starts_with(page.text()), "at {at}");
         }
@@ -103,33 +63,13 @@ fn fails_with_the_writer(rt: HostRuntime) -> Result<(), Fail> {
     Ok(())
 }
 
-/// Gives one byte for ever.
-#[derive(Drop)]
-struct Endless {
-    given: u64,
-    failures: u64,
-}
-
-impl TextIn for Endless {
-    ghost failures = { λ s. s.failures };
-
-    fn read(&mut self, space: &mut [u8]) -> Result<usize, DeviceFault> {
-        space.fill(b'#');
-        self.given = self.given.saturating_add(space.len() as u64);
-        Ok(space.len())
-    }
-}
-
 #[test]
 fn gives_up_on_an_endless_reader(rt: HostRuntime) -> Result<(), Fail> {
-    let mut reader = Endless {
-        given: 0,
-        failures: 0,
-    };
-    let mut page = Page::new(600, 0, false);
+    let mut reader = Endless::new();
+    let mut page = Page::new(ALL, 0, false);
     let answer = run(rt.alloc(), &mut reader, &mut page);
     assert_eq!(rt; answer, Err(BenchFault::ReaderTooLong));
-    assert_eq!(rt; reader.given, 16_777_217);
+    assert_eq!(rt; reader.given(), 16_777_217);
     assert_eq!(rt; page.text().len(), 0);
     Ok(())
 }
@@ -153,7 +93,7 @@ fn keeps_long_lines(rt: HostRuntime) -> Result<(), Fail> {
     for (spaces, end, want) in cases {
         let mut text = vec![in rt.alloc(); b' '; spaces]?;
         text.extend_from_slice(end)?;
-        let mut page = Page::new(600, 0, false);
+        let mut page = Page::new(ALL, 0, false);
         let _ = run(
             rt.alloc(),
             &mut Script::new(text.as_slice(), 5, 0),
@@ -189,8 +129,8 @@ done 0 edits 1 refused 2 shows
 /// Whatever allocation fails, the answer is one of these: `rt try --test --fail-alloc N` for N from 1 on.
 #[test]
 fn answers_without_memory(rt: HostRuntime) -> Result<(), Fail> {
-    let mut page = Page::new(600, 0, false);
-    match run(rt.alloc(), &mut Script::new(SHORT, 600, 0), &mut page) {
+    let mut page = Page::new(ALL, 0, false);
+    match run(rt.alloc(), &mut Script::new(SHORT, ALL, 0), &mut page) {
         Err(fault) => {
             assert_eq!(rt; fault, BenchFault::Memory);
             assert_eq!(rt; page.text().len(), 0);
@@ -232,16 +172,16 @@ done 3 edits 2 refused 4 shows
 
 #[test]
 fn refuses_and_goes_on(rt: HostRuntime) -> Result<(), Fail> {
-    let mut page = Page::new(600, 0, false);
-    let _ = run(rt.alloc(), &mut Script::new(EDITS, 600, 0), &mut page)?;
+    let mut page = Page::new(ALL, 0, false);
+    let _ = run(rt.alloc(), &mut Script::new(EDITS, ALL, 0), &mut page)?;
     assert_eq!(rt; page.text(), REPLIES);
     Ok(())
 }
 
 #[test]
 fn answers_an_empty_script(rt: HostRuntime) -> Result<(), Fail> {
-    let mut page = Page::new(600, 0, false);
-    let _ = run(rt.alloc(), &mut Script::new(b"", 600, 0), &mut page)?;
+    let mut page = Page::new(ALL, 0, false);
+    let _ = run(rt.alloc(), &mut Script::new(b"", ALL, 0), &mut page)?;
     let none: &[u8] = b"done 0 edits 0 refused 0 shows\n";
     assert_eq!(rt; page.text(), none);
     Ok(())

@@ -1,5 +1,5 @@
 use Rattle.std.proofs.Common.{rules, sym, take, drop, take-append-drop}
-use Rattle.pd_bench_tests.proofs.torn.TornTextOut.write.Goals as goal
+use Rattle.pd_bench_tests.proofs.devices.TornTextOut.write.Goals as goal
 
 -- what was taken, and what was left of what was handed
 pub returns-then-fails-2-clause-bytes : goal.returns-then-fails-2-clause-bytes
