@@ -33,44 +33,47 @@ fn packets(rt: HostRuntime) -> Result<(), Fail> {
     Ok(())
 }
 
+/// What spells no packet, and what is printed for it.
+const OTHERS: [(&str, &str); 18] = [
+    ("18 18 18", "fault 1\n"),
+    ("1F", "fault 1\n"),
+    ("FF", "fault 1\n"),
+    (
+        "18 18 18 11 09 0D 1E 1E 0B 1D 17 17 09 0A 15 0E 0D",
+        "fault 2\n",
+    ),
+    (
+        "18 18 18 11 09 FF 1E 1E 0B 1D 17 17 09 0A 15 0E 0D",
+        "fault 2\n",
+    ),
+    (
+        "18 18 18 11 09 12 1E 1E 0B 1D 17 17 09 0A 15 0E",
+        "fault 3\n",
+    ),
+    (
+        "18 18 18 11 09 12 1E 1E 0B 1D 17 17 09 0A 15 0E 1E",
+        "fault 4\n",
+    ),
+    (
+        "18 18 18 11 14 12 1E 1E 0B 1D 17 17 09 0A 15 0E 0D",
+        "fault 5\n",
+    ),
+    ("", "input refused\n"),
+    (" ", "input refused\n"),
+    ("18  18", "input refused\n"),
+    (" 18", "input refused\n"),
+    ("18 ", "input refused\n"),
+    ("18\t18", "input refused\n"),
+    ("1818", "input refused\n"),
+    ("8 18", "input refused\n"),
+    ("1G", "input refused\n"),
+    ("+8", "input refused\n"),
+];
+
 /// What is printed for anything else.
 #[test]
 fn others(rt: HostRuntime) -> Result<(), Fail> {
-    for (text, line) in [
-        ("18 18 18", "fault 1\n"),
-        ("1F", "fault 1\n"),
-        ("FF", "fault 1\n"),
-        (
-            "18 18 18 11 09 0D 1E 1E 0B 1D 17 17 09 0A 15 0E 0D",
-            "fault 2\n",
-        ),
-        (
-            "18 18 18 11 09 FF 1E 1E 0B 1D 17 17 09 0A 15 0E 0D",
-            "fault 2\n",
-        ),
-        (
-            "18 18 18 11 09 12 1E 1E 0B 1D 17 17 09 0A 15 0E",
-            "fault 3\n",
-        ),
-        (
-            "18 18 18 11 09 12 1E 1E 0B 1D 17 17 09 0A 15 0E 1E",
-            "fault 4\n",
-        ),
-        (
-            "18 18 18 11 14 12 1E 1E 0B 1D 17 17 09 0A 15 0E 0D",
-            "fault 5\n",
-        ),
-        ("", "input refused\n"),
-        (" ", "input refused\n"),
-        ("18  18", "input refused\n"),
-        (" 18", "input refused\n"),
-        ("18 ", "input refused\n"),
-        ("18\t18", "input refused\n"),
-        ("1818", "input refused\n"),
-        ("8 18", "input refused\n"),
-        ("1G", "input refused\n"),
-        ("+8", "input refused\n"),
-    ] {
+    for (text, line) in OTHERS {
         let decoded = decode(rt.alloc(), text.as_bytes())?;
         assert_eq!(rt; decoded.text().as_slice(), line.as_bytes());
         assert_eq!(rt; decoded.status(), 1);

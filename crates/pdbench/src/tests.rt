@@ -1,9 +1,9 @@
 //! The program's words, what it prints, and its status.
 
-mod desk;
+mod runtime;
 
 use super::*;
-use desk::Desk;
+use runtime::FolderRuntime;
 use std::fs;
 use std::test::Fail;
 
@@ -46,17 +46,17 @@ fn folder(rt: HostRuntime, name: &str) -> Result<String, Fail> {
     Ok(folder)
 }
 
-/// Runs the program at a desk, and answers whether it ends and prints as the case says.
+/// Runs the program over the folder, and answers whether it ends and prints as the case says.
 fn is_told(rt: HostRuntime, folder: &str, case: &Case, is_mute: bool) -> Result<bool, Fail> {
-    let desk = Desk {
+    let runtime = FolderRuntime {
         system: rt,
         folder,
         words: case.words,
         is_mute,
     };
-    desk.clear()?;
-    let status = bench(&desk).status();
-    let left = desk.left()?;
+    runtime.clear()?;
+    let status = bench(&runtime).status();
+    let left = runtime.left()?;
     Ok(status == case.status && left.out.as_str() == case.out && left.err.as_str() == case.err)
 }
 
@@ -193,7 +193,7 @@ const FILES: [Case; 11] = [
 #[test]
 fn files(rt: HostRuntime) -> Result<(), Fail> {
     let folder = folder(rt, "files")?;
-    let desk = Desk {
+    let runtime = FolderRuntime {
         system: rt,
         folder: folder.as_str(),
         words: &[],
@@ -201,12 +201,12 @@ fn files(rt: HostRuntime) -> Result<(), Fail> {
     };
     let longest = vec![in rt.alloc(); b'#'; 1_048_576]?;
     let too_long = vec![in rt.alloc(); b'#'; 1_048_577]?;
-    fs::write(&rt, desk.path("base")?.as_str(), BASE)?;
-    fs::write(&rt, desk.path("none")?.as_str(), "")?;
-    fs::write(&rt, desk.path("no_toml")?.as_str(), "x = ")?;
-    fs::write(&rt, desk.path("edits")?.as_str(), EDITS)?;
-    fs::write(&rt, desk.path("longest")?.as_str(), longest.as_slice())?;
-    fs::write(&rt, desk.path("too_long")?.as_str(), too_long.as_slice())?;
+    fs::write(&rt, runtime.path("base")?.as_str(), BASE)?;
+    fs::write(&rt, runtime.path("none")?.as_str(), "")?;
+    fs::write(&rt, runtime.path("no_toml")?.as_str(), "x = ")?;
+    fs::write(&rt, runtime.path("edits")?.as_str(), EDITS)?;
+    fs::write(&rt, runtime.path("longest")?.as_str(), longest.as_slice())?;
+    fs::write(&rt, runtime.path("too_long")?.as_str(), too_long.as_slice())?;
     for case in &FILES {
         assert!(rt;
             is_told(rt, folder.as_str(), case, false)?,
@@ -221,14 +221,14 @@ fn files(rt: HostRuntime) -> Result<(), Fail> {
 #[test]
 fn mute_output(rt: HostRuntime) -> Result<(), Fail> {
     let folder = folder(rt, "mute")?;
-    let desk = Desk {
+    let runtime = FolderRuntime {
         system: rt,
         folder: folder.as_str(),
         words: &[],
         is_mute: false,
     };
-    fs::write(&rt, desk.path("base")?.as_str(), BASE)?;
-    fs::write(&rt, desk.path("none")?.as_str(), "")?;
+    fs::write(&rt, runtime.path("base")?.as_str(), BASE)?;
+    fs::write(&rt, runtime.path("none")?.as_str(), "")?;
     let cases: [&'static [&'static str]; 5] = [
         &["pdbench", "check", "base"],
         &["pdbench", "check", "none"],

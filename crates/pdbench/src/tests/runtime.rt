@@ -1,4 +1,4 @@
-//! A runtime of the tests' own: words, files in a folder, and what is printed in two of them.
+//! A runtime for tests: the words of a command line, and a folder that stands for all files and for what is printed.
 
 use std::alloc::{Allocator, Global};
 use std::env::FillError;
@@ -7,10 +7,10 @@ use std::fs::{self, Metadata, OpenOptions};
 use std::io::{self, Write};
 use std::rt::{Env, Files};
 
-/// A desk with these words on its command line. What is printed goes to its files `out` and `err`; where it is mute,
-/// standard output fails.
+/// Gives a program these words on its command line, and the files of a folder. What the program prints goes to the files
+/// `out` and `err` there. Where the runtime is mute, standard output fails.
 #[derive(Drop)]
-pub struct Desk<'a> {
+pub struct FolderRuntime<'a> {
     pub system: HostRuntime,
     pub folder: &'a str,
     pub words: &'a [&'a str],
@@ -21,13 +21,13 @@ fn unsupported<T>() -> io::Result<T> {
     Err(io::Error::from(io::ErrorKind::Unsupported))
 }
 
-impl Desk<'_> {
-    /// The path of a file in the desk's folder.
+impl FolderRuntime<'_> {
+    /// The path of a file in the folder.
     pub fn path(&self, name: &str) -> io::Result<String> {
         Ok(format!(in self.system.alloc(); "{}/{}", self.folder, name)?)
     }
 
-    /// Adds bytes to a file in the desk's folder.
+    /// Adds bytes to a file in the folder.
     fn add(&self, name: &str, bytes: &[u8]) -> io::Result<()> {
         let path = self.path(name)?;
         let mut how = OpenOptions::new();
@@ -37,7 +37,7 @@ impl Desk<'_> {
     }
 }
 
-impl Alloc for Desk<'_> {
+impl Alloc for FolderRuntime<'_> {
     type A = Global;
 
     fn alloc(&self) -> Global {
@@ -45,7 +45,7 @@ impl Alloc for Desk<'_> {
     }
 }
 
-impl Print for Desk<'_> {
+impl Print for FolderRuntime<'_> {
     fn print<D: Display + Drop>(&self, value: D) -> io::Result<()> {
         let text = format!(in self.system.alloc(); "{value}")?;
         self.write_all(text.as_bytes())
@@ -64,7 +64,7 @@ impl Print for Desk<'_> {
     }
 }
 
-impl Eprint for Desk<'_> {
+impl Eprint for FolderRuntime<'_> {
     fn eprint<D: Display + Drop>(&self, value: D) -> io::Result<()> {
         let text = format!(in self.system.alloc(); "{value}")?;
         self.add("err", text.as_bytes())
@@ -76,7 +76,7 @@ impl Eprint for Desk<'_> {
     }
 }
 
-impl Env for Desk<'_> {
+impl Env for FolderRuntime<'_> {
     fn arg(&self, i: usize, buf: &mut [u8]) -> Result<usize, FillError> {
         let Some(word) = self.words.get(i) else {
             return Err(FillError::NotPresent);
@@ -98,8 +98,8 @@ impl Env for Desk<'_> {
     }
 }
 
-/// Files are those of the desk's folder; the program opens them, and does nothing else.
-impl Files for Desk<'_> {
+/// The program opens files of the folder, and does nothing else with files.
+impl Files for FolderRuntime<'_> {
     type File = <HostRuntime as Files>::File;
 
     type Dir = <HostRuntime as Files>::Dir;
@@ -146,14 +146,14 @@ impl Files for Desk<'_> {
     }
 }
 
-/// What a program has left at a desk.
+/// What a program has printed.
 #[derive(Drop)]
 pub struct Left {
     pub out: String,
     pub err: String,
 }
 
-impl Desk<'_> {
+impl FolderRuntime<'_> {
     /// Clears what was printed.
     pub fn clear(&self) -> io::Result<()> {
         fs::write(&self.system, self.path("out")?.as_str(), "")?;
