@@ -1,5 +1,6 @@
 -- The kept bytes say what the line says, and how lines are cut off the front of a text.
-use Rattle.std.proofs.Common.{rules, ◌≡◌, ℕ, ◌+◌, ◌-◌, ◌<◌, Bool, true, false, cond, eqb, ltb, List, [], ◌∷◌, ◌++◌, length, take, get_or, Result, Ok, Err, inl, inr, refl, sym, ap, ◌∙◌, append_assoc, arith, All}
+use Rattle.std.proofs.Common.{rules, ◌≡◌, ℕ, ◌+◌, ◌-◌, ◌<◌, Bool, true, false, cond, eqb, ltb, List, [], ◌∷◌, ◌++◌, length, take, get_or}
+use Rattle.std.proofs.Common.{Result, Ok, Err, inl, inr, refl, sym, ap, ◌∙◌, append_assoc, arith, All}
 use Rattle.std.specs.Prelude.{◌&&◌, ◌||◌}
 use Rattle.std.proofs.Math.Bool.{and-true}
 use Rattle.std.proofs.lemmas.Bool.{lt-ltb, cases_lt, ne_eqb}
@@ -62,7 +63,18 @@ StandsFor-push line kept b (inl h) =
     let after : kept_after kept b ≡ line ++ b ∷ [] = kept_after-short kept b (omega (arith, ap length h.0)) ∙ ap (λ v. v ++ b ∷ []) h.0 in
     elim (cases_lt (length line) 257) [
       | inl short ↦ inl (after, omega (arith, length_push line b))
-      | inr full ↦ inr (record { front = line; more = []; last = b; byte = b; full = omega arith; line_is = refl; kept_is = after; stands = StandsForEnd-one b })
+      | inr full ↦ inr
+          (record {
+            front = line;
+            more = [];
+            last = b;
+            byte = b;
+            full = omega arith;
+            line_is = refl;
+            kept_is = after;
+            stands =
+                StandsForEnd-one b;
+          })
     ]
 StandsFor-push line kept b (inr h) = inr (record {
   front = h.front;
@@ -102,15 +114,19 @@ reading-long front rest full =
     let over : ltb 256 (length (front ++ rest)) ≡ true = lt-ltb 256 (length (front ++ rest)) (omega (arith, length-append front rest)) in
     rw (first, blank, over) refl
 
-reading-cut : (front more : List ℕ) (last : ℕ) → length front ≡ 257 → line_of (strip_carriage_return (front ++ (more ++ last ∷ []))) ≡ too_long front (are_spaces more && (eqb last 13 || eqb last 32))
+reading-cut : (front more : List ℕ) (last : ℕ) → length front ≡ 257 →
+    line_of (strip_carriage_return (front ++ (more ++ last ∷ []))) ≡ too_long front (are_spaces more && (eqb last 13 || eqb last 32))
 reading-cut front more last full =
     let strip : strip_carriage_return (front ++ (more ++ last ∷ [])) ≡ cond (eqb last 13) (front ++ more) ((front ++ more) ++ last ∷ []) =
     ap strip_carriage_return (sym (append_assoc front more (last ∷ []))) ∙ strip-push (front ++ more) last in
     ap line_of strip ∙ by_last (eqb last 13) refl
   where
-    by_last : (t : Bool) → eqb last 13 ≡ t → line_of (cond t (front ++ more) ((front ++ more) ++ last ∷ [])) ≡ too_long front (are_spaces more && (t || eqb last 32))
+    by_last : (t : Bool) → eqb last 13 ≡ t →
+        line_of (cond t (front ++ more) ((front ++ more) ++ last ∷ [])) ≡ too_long front (are_spaces more && (t || eqb last 32))
     by_last true e = reading-long front more full ∙ ap (too_long front) (sym (and-true (are_spaces more)))
-    by_last false e = ap line_of (append_assoc front more (last ∷ [])) ∙ reading-long front (more ++ last ∷ []) full ∙ ap (too_long front) (blank-push more last)
+    by_last false e =
+        ap line_of (append_assoc front more (last ∷ [])) ∙ reading-long front (more ++ last ∷ []) full
+        ∙ ap (too_long front) (blank-push more last)
 
 -- the kept bytes say what the line says, where it ends without a line feed ..
 pub reading-kept : (line kept : List ℕ) → StandsFor line kept → line_of line ≡ line_of kept
@@ -121,7 +137,8 @@ reading-kept line kept (inr h) =
     ∙ sym (reading-long h.front (h.byte ∷ []) h.full) ∙ sym (ap line_of h.kept_is)
 
 -- .. and before one
-pub reading-kept_cut : (line kept : List ℕ) → StandsFor line kept → line_of (strip_carriage_return line) ≡ line_of (strip_carriage_return kept)
+pub reading-kept_cut : (line kept : List ℕ) → StandsFor line kept →
+    line_of (strip_carriage_return line) ≡ line_of (strip_carriage_return kept)
 reading-kept_cut line kept (inl h) = ap (λ v. line_of (strip_carriage_return v)) (sym h.0)
 reading-kept_cut line kept (inr h) =
     ap (λ v. line_of (strip_carriage_return v)) h.line_is ∙ reading-cut h.front h.more h.last h.full
@@ -130,11 +147,13 @@ reading-kept_cut line kept (inr h) =
 
 -- 4. Lines are cut off the front
 
-lines_of_parts-cons : (x : List ℕ) (parts : List (List ℕ)) → 0 < length parts → lines_of_parts (x ∷ parts) ≡ strip_carriage_return x ∷ lines_of_parts parts
+lines_of_parts-cons : (x : List ℕ) (parts : List (List ℕ)) → 0 < length parts →
+    lines_of_parts (x ∷ parts) ≡ strip_carriage_return x ∷ lines_of_parts parts
 lines_of_parts-cons x [] l = absurd (omega arith)
 lines_of_parts-cons x (y ∷ more) l = refl
 
-pub lines-cut : (line rest : List ℕ) → All (λ b. eqb b 10 ≡ false) line → lines (line ++ 10 ∷ rest) ≡ strip_carriage_return line ∷ lines rest
+pub lines-cut : (line rest : List ℕ) → All (λ b. eqb b 10 ≡ false) line →
+    lines (line ++ 10 ∷ rest) ≡ strip_carriage_return line ∷ lines rest
 lines-cut line rest open_yet =
     ap lines_of_parts (slice_split_at (λ b. eqb b 10) line 10 rest open_yet refl)
     ∙ lines_of_parts-cons line (slice_split (λ b. eqb b 10) rest) (omega (arith, length-slice_split (λ b. eqb b 10) rest))

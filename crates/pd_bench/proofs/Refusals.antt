@@ -20,16 +20,19 @@ pub record Stays (s : ScenarioData) (reply : List ℕ) (s' : ScenarioData) : Typ
   pub reply_is : reply ≡ refused_text number
   pub same : s' ≡ s
 
-refused_edit : (s : ScenarioData) (r : Result ScenarioData EditFault) (reply : List ℕ) (s' : ScenarioData) (outcome : Outcome) → outcome ≡ Refused → EditReply s r reply s' outcome → Stays s reply s'
+refused_edit : (s : ScenarioData) (r : Result ScenarioData EditFault) (reply : List ℕ) (s' : ScenarioData) (outcome : Outcome) →
+    outcome ≡ Refused → EditReply s r reply s' outcome → Stays s reply s'
 refused_edit s (Err fault) reply s' outcome is h = record { number = number_of fault; reply_is = h.0; same = h.1 }
 refused_edit s (Ok after) reply s' outcome is (inl h) = let both = sym h.2 ∙ is in absurd (cc)
 refused_edit s (Ok after) reply s' outcome is (inr h) = record { number = number_of edit_faults.Memory; reply_is = h.0; same = h.1 }
 
-refused_show : (can : Bool) (show : Show) (s : ScenarioData) (reply : List ℕ) (s' : ScenarioData) (outcome : Outcome) → outcome ≡ Refused → ShowReply can show s reply s' outcome → Stays s reply s'
+refused_show : (can : Bool) (show : Show) (s : ScenarioData) (reply : List ℕ) (s' : ScenarioData) (outcome : Outcome) → outcome ≡ Refused →
+    ShowReply can show s reply s' outcome → Stays s reply s'
 refused_show true show s reply s' outcome is h = let both = sym h.4 ∙ is in absurd (cc)
 refused_show false show s reply s' outcome is h = record { number = number_of edit_faults.NoSuchPort; reply_is = h.0; same = h.1 }
 
-refused_stays : (n : ℕ) (s : ScenarioData) (r : Result Line EditFault) (reply : List ℕ) (s' : ScenarioData) (outcome : Outcome) → outcome ≡ Refused → Reply n s r reply s' outcome → Stays s reply s'
+refused_stays : (n : ℕ) (s : ScenarioData) (r : Result Line EditFault) (reply : List ℕ) (s' : ScenarioData) (outcome : Outcome) →
+    outcome ≡ Refused → Reply n s r reply s' outcome → Stays s reply s'
 refused_stays n s (Ok lines_read.Skip) reply s' outcome is h = let both = sym h.2 ∙ is in absurd (cc)
 refused_stays n s (Ok (lines_read.Edit edit)) reply s' outcome is h = refused_edit s (edited n s edit) reply s' outcome is h
 refused_stays n s (Ok (lines_read.Show show)) reply s' outcome is h = refused_show (can_show n show) show s reply s' outcome is h
@@ -43,7 +46,8 @@ refused_changes_nothing n s line more text others (reply, rest, s', outcome, res
     (stays.number, rest, text_is ∙ ap (λ v. v ++ rest) stays.reply_is, rw (← rests_are, ← stays.same) replies)
 
 -- a refusal for its own sake
-own_refusal : (n : ℕ) (s : ScenarioData) (r : Result Line EditFault) (number : ℕ) (reply : List ℕ) (s' : ScenarioData) (outcome : Outcome) → RefusedAs n s r number → Reply n s r reply s' outcome → IsRefused number s reply s' outcome
+own_refusal : (n : ℕ) (s : ScenarioData) (r : Result Line EditFault) (number : ℕ) (reply : List ℕ) (s' : ScenarioData)
+    (outcome : Outcome) → RefusedAs n s r number → Reply n s r reply s' outcome → IsRefused number s reply s' outcome
 own_refusal n s (Ok lines_read.Skip) number reply s' outcome h k = absurd h
 own_refusal n s (Ok (lines_read.Edit edit)) number reply s' outcome (fault, is, number_is) k = rw number_is (rw is at k)
 own_refusal n s (Ok (lines_read.Show show)) number reply s' outcome (none, number_is) k = rw number_is (rw none at k)

@@ -1,5 +1,6 @@
 -- How the pieces of a session join.
-use Rattle.std.proofs.Common.{◌≡◌, ℕ, ◌+◌, ◌<◌, ◌≤◌, Bool, true, false, eqb, List, [], ◌∷◌, ◌++◌, length, fold, Result, Ok, Err, inr, refl, sym, ap, subst, ◌∙◌, append_assoc, arith}
+use Rattle.std.proofs.Common.{◌≡◌, ℕ, ◌+◌, ◌<◌, ◌≤◌, Bool, true, false, eqb, List, [], ◌∷◌, ◌++◌, length, fold, Result, Ok, Err, inr, refl}
+use Rattle.std.proofs.Common.{sym, ap, subst, ◌∙◌, append_assoc, arith}
 use Rattle.std.proofs.Common.{take, drop, get_or}
 use Rattle.std.proofs.lemmas.List.{append-nil, length-append, take-append-drop, drop_more, take_more}
 use Rattle.std.proofs.lemmas.Bool.{ne_eqb, eq-eqb}
@@ -26,33 +27,41 @@ use Rattle.pd_bench.specs.declared.tally.Tally.{Tally}
 use Rattle.pd_bench.specs.declared.tally.Outcome.{Outcome}
 use Rattle.pd_bench.specs.declared.tally.Outcome.TheVariants.{Skipped, Refused, Shown}
 use Rattle.pd_bench.specs.Pending.{IsPending, kept_after}
-use Rattle.pd_bench.specs.Session.{Reply, EditReply, ShowReply, can_show, show_text, Replies, Session, BeginsSession, SessionDone, SessionStopped, SessionCut, SessionEnds, WritesSession, counted, no_lines, done_text, refused_text}
-use Rattle.pd_bench.specs.Stream.{Replied, Answers, HasRun, IsRunning, Leads, LeadsPart, Ends, EndsPart, Fed, FedPart, Finished, FinishedPart, TookIn, TookPart, Taking}
-use Rattle.pd_bench.proofs.PendingLemmas.{IsPending-push, IsPending-empty, reading-kept, reading-kept_cut, lines-cut, lines-last, empty-kept}
+use Rattle.pd_bench.specs.Session.{Reply, EditReply, ShowReply, can_show, show_text, Replies, Session, BeginsSession, SessionDone}
+use Rattle.pd_bench.specs.Session.{SessionStopped, SessionCut, SessionEnds, WritesSession, counted, no_lines, done_text, refused_text}
+use Rattle.pd_bench.specs.Stream.{Replied, Answers, HasRun, IsRunning, Leads, LeadsPart, Ends, EndsPart, Fed, FedPart, Finished}
+use Rattle.pd_bench.specs.Stream.{FinishedPart, TookIn, TookPart, Taking}
+use Rattle.pd_bench.proofs.PendingLemmas.{IsPending-push, IsPending-empty, reading-kept, reading-kept_cut, lines-cut, lines-last}
+use Rattle.pd_bench.proofs.PendingLemmas.{empty-kept}
 
 module _ (n : ℕ) where
   -- 1. There is always a text: each edit that is accepted may be refused for want of memory
 
-  some_edit : (s : ScenarioData) (r : Result ScenarioData EditFault) → (reply : List ℕ) × (outcome : Outcome) × EditReply s r reply s outcome
+  some_edit : (s : ScenarioData) (r : Result ScenarioData EditFault) → (reply : List ℕ) × (outcome : Outcome)
+      × EditReply s r reply s outcome
   some_edit s (Err fault) = (refused_text (number_of fault), Refused, (refl, refl, refl))
   some_edit s (Ok after) = (refused_text (number_of edit_faults.Memory), Refused, inr (refl, refl, refl))
 
-  some_show : (can : Bool) (show : Show) (s : ScenarioData) → HasRun s → (reply : List ℕ) × (outcome : Outcome) × ShowReply can show s reply s outcome
+  some_show : (can : Bool) (show : Show) (s : ScenarioData) → HasRun s → (reply : List ℕ) × (outcome : Outcome)
+      × ShowReply can show s reply s outcome
   some_show true show s run = (show_text show (plan_of s) run.0, Shown, (run.0, run.1, refl, refl, refl))
   some_show false show s run = (refused_text (number_of edit_faults.NoSuchPort), Refused, (refl, refl, refl))
 
-  some_outcome : (s : ScenarioData) → HasRun s → (r : Result Line EditFault) → (reply : List ℕ) × (outcome : Outcome) × Reply n s r reply s outcome
+  some_outcome : (s : ScenarioData) → HasRun s → (r : Result Line EditFault) → (reply : List ℕ) × (outcome : Outcome)
+      × Reply n s r reply s outcome
   some_outcome s run (Ok lines_read.Skip) = ([], Skipped, (refl, refl, refl))
   some_outcome s run (Ok (lines_read.Edit edit)) = some_edit s (edited n s edit)
   some_outcome s run (Ok (lines_read.Show show)) = some_show (can_show n show) show s run
   some_outcome s run (Err fault) = (refused_text (number_of fault), Refused, (refl, refl, refl))
 
-  some_reply : (s : ScenarioData) → HasRun s → (t : Tally) (r : Result Line EditFault) → (reply : List ℕ) × (t' : Tally) × Replied n s t r reply s t'
+  some_reply : (s : ScenarioData) → HasRun s → (t : Tally) (r : Result Line EditFault) → (reply : List ℕ) × (t' : Tally)
+      × Replied n s t r reply s t'
   some_reply s run t r =
       let here = some_outcome s run r in
       (here.0, counted t here.1, (here.1, here.2, refl))
 
-  pub some_answers : (s : ScenarioData) → HasRun s → (t : Tally) (ls : List (List ℕ)) → (text : List ℕ) × (final : Tally) × Answers n s t ls text final
+  pub some_answers : (s : ScenarioData) → HasRun s → (t : Tally) (ls : List (List ℕ)) → (text : List ℕ) × (final : Tally)
+      × Answers n s t ls text final
   some_answers s run t [] = (done_text t, t, (refl, refl))
   some_answers s run t (line ∷ more) =
       let here = some_reply s run t (line_of line) in
@@ -61,21 +70,30 @@ module _ (n : ℕ) where
 
   -- 2. One byte
 
-  pub Leads-byte : (s : ScenarioData) (t : Tally) (kept : List ℕ) (b : ℕ) → eqb b 10 ≡ false → Leads n s t kept (b ∷ []) [] s t (kept_after kept b)
-  Leads-byte s t kept b other = λ line pending.
-      (line ++ b ∷ [], IsPending-push line kept b pending other, λ more text final answers. rw (sym (append_assoc line (b ∷ []) more)) answers)
+  pub Leads-byte : (s : ScenarioData) (t : Tally) (kept : List ℕ) (b : ℕ) → eqb b 10 ≡ false →
+      Leads n s t kept (b ∷ []) [] s t (kept_after kept b)
+  Leads-byte s t kept b other = λ line pending. (
+    line ++ b ∷ [],
+    IsPending-push line kept b pending other,
+    λ more text final answers. rw (sym (append_assoc line (b ∷ []) more))
+        answers,
+  )
 
   -- the answers to the line that a line feed ends, and to what comes after it
-  answers_cut : (s : ScenarioData) (t : Tally) (kept reply : List ℕ) (s' : ScenarioData) (t' : Tally) (line more text : List ℕ) (final : Tally) → IsPending line kept → Replied n s t (line_of (strip_carriage_return kept)) reply s' t' → Answers n s' t' (lines more) text final → Answers n s t (lines (line ++ 10 ∷ more)) (reply ++ text) final
+  answers_cut : (s : ScenarioData) (t : Tally) (kept reply : List ℕ) (s' : ScenarioData) (t' : Tally) (line more text : List ℕ)
+      (final : Tally) → IsPending line kept → Replied n s t (line_of (strip_carriage_return kept)) reply s' t' →
+      Answers n s' t' (lines more) text final → Answers n s t (lines (line ++ 10 ∷ more)) (reply ++ text) final
   answers_cut s t kept reply s' t' line more text final pending replies answers =
       rw (lines-cut line more pending.open_yet)
       (reply, text, s', t', rw (reading-kept_cut line kept pending.stands) replies, refl, answers)
 
-  pub Leads-line : (s : ScenarioData) (t : Tally) (kept reply : List ℕ) (s' : ScenarioData) (t' : Tally) → Replied n s t (line_of (strip_carriage_return kept)) reply s' t' → Leads n s t kept (10 ∷ []) reply s' t' []
+  pub Leads-line : (s : ScenarioData) (t : Tally) (kept reply : List ℕ) (s' : ScenarioData) (t' : Tally) →
+      Replied n s t (line_of (strip_carriage_return kept)) reply s' t' → Leads n s t kept (10 ∷ []) reply s' t' []
   Leads-line s t kept reply s' t' replies = λ line pending.
       ([], IsPending-empty, λ more text final answers. answers_cut s t kept reply s' t' line more text final pending replies answers)
 
-  pub LeadsPart-line : (s : ScenarioData) (t : Tally) (kept reply out : List ℕ) (s' : ScenarioData) (t' : Tally) → Replied n s t (line_of (strip_carriage_return kept)) reply s' t' → HasRun s' → Begins out reply → LeadsPart n s t kept (10 ∷ []) out
+  pub LeadsPart-line : (s : ScenarioData) (t : Tally) (kept reply out : List ℕ) (s' : ScenarioData) (t' : Tally) →
+      Replied n s t (line_of (strip_carriage_return kept)) reply s' t' → HasRun s' → Begins out reply → LeadsPart n s t kept (10 ∷ []) out
   LeadsPart-line s t kept reply out s' t' replies run begins = λ line pending more.
       let after = some_answers s' run t' (lines more) in (
         reply ++ after.0,
@@ -89,7 +107,8 @@ module _ (n : ℕ) where
   pub Leads-none : (s : ScenarioData) (t : Tally) (kept : List ℕ) → Leads n s t kept [] [] s t kept
   Leads-none s t kept = λ line pending. (line, pending, λ more text final answers. answers)
 
-  pub Leads-join : (s s' s'' : ScenarioData) (t t' t'' : Tally) (k k' k'' b b' o o' : List ℕ) → Leads n s t k b o s' t' k' → Leads n s' t' k' b' o' s'' t'' k'' → Leads n s t k (b ++ b') (o ++ o') s'' t'' k''
+  pub Leads-join : (s s' s'' : ScenarioData) (t t' t'' : Tally) (k k' k'' b b' o o' : List ℕ) → Leads n s t k b o s' t' k' →
+      Leads n s' t' k' b' o' s'' t'' k'' → Leads n s t k (b ++ b') (o ++ o') s'' t'' k''
   Leads-join s s' s'' t t' t'' k k' k'' b b' o o' first second = λ line pending.
       let one = first line pending in
       let two = second one.0 one.1 in (
@@ -99,7 +118,8 @@ module _ (n : ℕ) where
             rw (append_assoc b b' more, append_assoc o o' text) (one.2 (b' ++ more) (o' ++ text) final (two.2 more text final answers)),
       )
 
-  pub LeadsPart-join : (s s' : ScenarioData) (t t' : Tally) (k k' b b' o o' : List ℕ) → Leads n s t k b o s' t' k' → LeadsPart n s' t' k' b' o' → LeadsPart n s t k (b ++ b') (o ++ o')
+  pub LeadsPart-join : (s s' : ScenarioData) (t t' : Tally) (k k' b b' o o' : List ℕ) → Leads n s t k b o s' t' k' →
+      LeadsPart n s' t' k' b' o' → LeadsPart n s t k (b ++ b') (o ++ o')
   LeadsPart-join s s' t t' k k' b b' o o' first second = λ line pending more.
       let one = first line pending in
       let two = second one.0 one.1 more in (
@@ -114,7 +134,8 @@ module _ (n : ℕ) where
 
   -- 4. The end
 
-  pub Ends-line : (s : ScenarioData) (t : Tally) (kept reply : List ℕ) (s' : ScenarioData) (t' : Tally) → 0 < length kept → Replied n s t (line_of kept) reply s' t' → Ends n s t kept (reply ++ done_text t') t'
+  pub Ends-line : (s : ScenarioData) (t : Tally) (kept reply : List ℕ) (s' : ScenarioData) (t' : Tally) → 0 < length kept →
+      Replied n s t (line_of kept) reply s' t' → Ends n s t kept (reply ++ done_text t') t'
   Ends-line s t kept reply s' t' some replies = λ line pending.
       let some_line : eqb (length line) 0 ≡ false = empty-kept line kept pending.stands ∙ ne_eqb (length kept) 0 (λ e. omega arith) in
       rw (lines-last line pending.open_yet, some_line)
@@ -127,14 +148,17 @@ module _ (n : ℕ) where
 
   -- 5. With what was written
 
-  pub Fed-byte : (a : Option (List ℕ)) (s : ScenarioData) (t : Tally) (kept : List ℕ) (b : ℕ) → eqb b 10 ≡ false → Fed n a a s t kept (b ∷ []) s t (kept_after kept b)
+  pub Fed-byte : (a : Option (List ℕ)) (s : ScenarioData) (t : Tally) (kept : List ℕ) (b : ℕ) → eqb b 10 ≡ false →
+      Fed n a a s t kept (b ∷ []) s t (kept_after kept b)
   Fed-byte a s t kept b other = record { out = []; appends = Appends-nil a; leads = Leads-byte s t kept b other }
 
   -- a line was answered, or the writer failed
-  pub Fed-answer : {X : Type 0} (r : Result X BenchFault) (a b : Option (List ℕ)) (s : ScenarioData) (t : Tally) (kept : List ℕ) (s' : ScenarioData) (t' : Tally) (plan : Option Plan) (moves : List (ℕ × Entry))
+  pub Fed-answer : {X : Type 0} (r : Result X BenchFault) (a b : Option (List ℕ)) (s : ScenarioData) (t : Tally) (kept : List ℕ)
+      (s' : ScenarioData) (t' : Tally) (plan : Option Plan) (moves : List (ℕ × Entry))
       → (reply : List ℕ) × Replied n s t (line_of (strip_carriage_return kept)) reply s' t' × Writes a b r reply → IsRunning plan moves s'
       → MatchResult r (λ _. Fed n a b s t kept (10 ∷ []) s' t' []) (λ fault. (fault ≡ WriteFailed) × FedPart n a b s t kept (10 ∷ []))
-  Fed-answer (Ok x) a b s t kept s' t' plan moves (reply, replies, appends) runs = record { out = reply; appends = appends; leads = Leads-line s t kept reply s' t' replies }
+  Fed-answer (Ok x) a b s t kept s' t' plan moves (reply, replies, appends) runs =
+      record { out = reply; appends = appends; leads = Leads-line s t kept reply s' t' replies }
   Fed-answer (Err e) a b s t kept s' t' plan moves (reply, replies, failed) runs = (
     failed.0,
     record {
@@ -147,36 +171,45 @@ module _ (n : ℕ) where
   pub Fed-none : (a : Option (List ℕ)) (s : ScenarioData) (t : Tally) (kept : List ℕ) → Fed n a a s t kept [] s t kept
   Fed-none a s t kept = record { out = []; appends = Appends-nil a; leads = Leads-none s t kept }
 
-  pub Fed-join : {a b c : Option (List ℕ)} {s s' s'' : ScenarioData} {t t' t'' : Tally} {k k' k'' bytes bytes' : List ℕ} → Fed n a b s t k bytes s' t' k' → Fed n b c s' t' k' bytes' s'' t'' k'' → Fed n a c s t k (bytes ++ bytes') s'' t'' k''
+  pub Fed-join : {a b c : Option (List ℕ)} {s s' s'' : ScenarioData} {t t' t'' : Tally} {k k' k'' bytes bytes' : List ℕ} →
+      Fed n a b s t k bytes s' t' k' → Fed n b c s' t' k' bytes' s'' t'' k'' → Fed n a c s t k (bytes ++ bytes') s'' t'' k''
   Fed-join {a} {b} {c} {s} {s'} {s''} {t} {t'} {t''} {k} {k'} {k''} {bytes} {bytes'} one two = record {
     out = one.out ++ two.out;
     appends = Appends-trans a b c one.out two.out one.appends two.appends;
     leads = Leads-join s s' s'' t t' t'' k k' k'' bytes bytes' one.out two.out one.leads two.leads;
   }
 
-  pub FedPart-join : {a b c : Option (List ℕ)} {s s' : ScenarioData} {t t' : Tally} {k k' bytes bytes' : List ℕ} → Fed n a b s t k bytes s' t' k' → FedPart n b c s' t' k' bytes' → FedPart n a c s t k (bytes ++ bytes')
+  pub FedPart-join : {a b c : Option (List ℕ)} {s s' : ScenarioData} {t t' : Tally} {k k' bytes bytes' : List ℕ} →
+      Fed n a b s t k bytes s' t' k' → FedPart n b c s' t' k' bytes' → FedPart n a c s t k (bytes ++ bytes')
   FedPart-join {a} {b} {c} {s} {s'} {t} {t'} {k} {k'} {bytes} {bytes'} one two = record {
     out = one.out ++ two.out;
     appends = Appends-trans a b c one.out two.out one.appends two.appends;
     leads = LeadsPart-join s s' t t' k k' bytes bytes' one.out two.out one.leads two.leads;
   }
 
-  pub FedPart-longer : {a b : Option (List ℕ)} {s : ScenarioData} {t : Tally} {k bytes : List ℕ} (more : List ℕ) → FedPart n a b s t k bytes → FedPart n a b s t k (bytes ++ more)
-  FedPart-longer {a} {b} {s} {t} {k} {bytes} more one = record { out = one.out; appends = one.appends; leads = LeadsPart-longer s t k bytes more one.out one.leads }
+  pub FedPart-longer : {a b : Option (List ℕ)} {s : ScenarioData} {t : Tally} {k bytes : List ℕ} (more : List ℕ) →
+      FedPart n a b s t k bytes → FedPart n a b s t k (bytes ++ more)
+  FedPart-longer {a} {b} {s} {t} {k} {bytes} more one =
+      record { out = one.out; appends = one.appends; leads = LeadsPart-longer s t k bytes more one.out one.leads }
 
   -- the next byte of a chunk
-  pub Fed-next : {a b c : Option (List ℕ)} {s s' s'' : ScenarioData} {t t' t'' : Tally} {k k' k'' : List ℕ} (chunk : List ℕ) (i : ℕ) → i < length chunk
-      → Fed n a b s t k (take i chunk) s' t' k' → Fed n b c s' t' k' (get_or chunk i 0 ∷ []) s'' t'' k'' → Fed n a c s t k (take (i + 1) chunk) s'' t'' k''
+  pub Fed-next : {a b c : Option (List ℕ)} {s s' s'' : ScenarioData} {t t' t'' : Tally} {k k' k'' : List ℕ} (chunk : List ℕ) (i : ℕ) →
+      i < length chunk
+      → Fed n a b s t k (take i chunk) s' t' k' → Fed n b c s' t' k' (get_or chunk i 0 ∷ []) s'' t'' k'' →
+      Fed n a c s t k (take (i + 1) chunk) s'' t'' k''
   Fed-next chunk i within one two = rw (take_more chunk i 0 within) (Fed-join one two)
 
-  pub FedPart-next : {a b c : Option (List ℕ)} {s s' : ScenarioData} {t t' : Tally} {k k' : List ℕ} (chunk : List ℕ) (i : ℕ) → i < length chunk
+  pub FedPart-next : {a b c : Option (List ℕ)} {s s' : ScenarioData} {t t' : Tally} {k k' : List ℕ} (chunk : List ℕ) (i : ℕ) →
+      i < length chunk
       → Fed n a b s t k (take i chunk) s' t' k' → FedPart n b c s' t' k' (get_or chunk i 0 ∷ []) → FedPart n a c s t k chunk
   FedPart-next {a} {c = c} {s = s} {t = t} {k = k} chunk i within one two =
-      let split : chunk ≡ take i chunk ++ (get_or chunk i 0 ∷ drop (i + 1) chunk) = sym (take-append-drop i chunk) ∙ ap (λ v. take i chunk ++ v) (drop_more chunk i 0 within) in
+      let split : chunk ≡ take i chunk ++ (get_or chunk i 0 ∷ drop (i + 1) chunk) =
+      sym (take-append-drop i chunk) ∙ ap (λ v. take i chunk ++ v) (drop_more chunk i 0 within) in
       subst (λ v. FedPart n a c s t k v) (sym split) (FedPart-join one (FedPart-longer (drop (i + 1) chunk) two))
 
   -- what was written so far begins a text of what was read
-  pub FedPart-from_all : {a b : Option (List ℕ)} {s s' : ScenarioData} {t t' : Tally} {k k' bytes : List ℕ} → HasRun s' → Fed n a b s t k bytes s' t' k' → FedPart n a b s t k bytes
+  pub FedPart-from_all : {a b : Option (List ℕ)} {s s' : ScenarioData} {t t' : Tally} {k k' bytes : List ℕ} → HasRun s' →
+      Fed n a b s t k bytes s' t' k' → FedPart n a b s t k bytes
   FedPart-from_all {s' = s'} {t' = t'} run one = record {
     out = one.out;
     appends = one.appends;
@@ -188,28 +221,43 @@ module _ (n : ℕ) where
 
   -- 6. The end, with what was written
 
-  EndsPart-from_all : (s : ScenarioData) (t : Tally) (kept text : List ℕ) (final : Tally) (out : List ℕ) → Ends n s t kept text final → Begins out text → EndsPart n s t kept out
+  EndsPart-from_all : (s : ScenarioData) (t : Tally) (kept text : List ℕ) (final : Tally) (out : List ℕ) → Ends n s t kept text final →
+      Begins out text → EndsPart n s t kept out
   EndsPart-from_all s t kept text final out ends begins = λ line pending. (text, final, ends line pending, begins)
 
-  pub Finish-none : {X : Type 0} (r : Result X BenchFault) (a b : Option (List ℕ)) (s : ScenarioData) (t : Tally) (kept : List ℕ) → length kept ≡ 0 → Writes a b r (done_text t)
+  pub Finish-none : {X : Type 0} (r : Result X BenchFault) (a b : Option (List ℕ)) (s : ScenarioData) (t : Tally) (kept : List ℕ) →
+      length kept ≡ 0 → Writes a b r (done_text t)
       → MatchResult r (λ _. Finished n a b s t kept t) (λ fault. (fault ≡ WriteFailed) × FinishedPart n a b s t kept)
   Finish-none (Ok x) a b s t kept none writes = record { out = done_text t; appends = writes; ends = Ends-none s t kept none }
-  Finish-none (Err e) a b s t kept none failed =
-      (failed.0, record { out = failed.1.out; appends = failed.1.appends; ends = EndsPart-from_all s t kept (done_text t) t failed.1.out (Ends-none s t kept none) failed.1.begins })
+  Finish-none (Err e) a b s t kept none failed = (
+    failed.0,
+    record {
+      out = failed.1.out;
+      appends = failed.1.appends;
+      ends = EndsPart-from_all s t kept (done_text t) t failed.1.out
+          (Ends-none s t kept none) failed.1.begins;
+    },
+  )
 
-  pub Finish-failed : (a b : Option (List ℕ)) (s : ScenarioData) (t : Tally) (kept : List ℕ) (s' : ScenarioData) (t' : Tally) (fault : BenchFault) → 0 < length kept
-      → (reply : List ℕ) × Replied n s t (line_of kept) reply s' t' × ((fault ≡ WriteFailed) × WrotePart a b reply) → (fault ≡ WriteFailed) × FinishedPart n a b s t kept
+  pub Finish-failed : (a b : Option (List ℕ)) (s : ScenarioData) (t : Tally) (kept : List ℕ) (s' : ScenarioData) (t' : Tally)
+      (fault : BenchFault) → 0 < length kept
+      → (reply : List ℕ) × Replied n s t (line_of kept) reply s' t' × ((fault ≡ WriteFailed) × WrotePart a b reply) → (fault ≡ WriteFailed)
+      × FinishedPart n a b s t kept
   Finish-failed a b s t kept s' t' fault some (reply, replies, failed) = (
     failed.0,
     record {
       out = failed.1.out;
       appends = failed.1.appends;
-      ends = EndsPart-from_all s t kept (reply ++ done_text t') t' failed.1.out (Ends-line s t kept reply s' t' some replies)
-          (failed.1.begins.0 ++ done_text t', ap (λ v. v ++ done_text t') failed.1.begins.1 ∙ append_assoc failed.1.out failed.1.begins.0 (done_text t'));
+      ends = EndsPart-from_all s t kept (reply ++ done_text t') t' failed.1.out (Ends-line s t kept reply s' t' some replies) (
+        failed.1.begins.0 ++ done_text t',
+        ap (λ v. v ++ done_text t') failed.1.begins.1
+            ∙ append_assoc failed.1.out failed.1.begins.0 (done_text t'),
+      );
     },
   )
 
-  pub Finish-line : {X : Type 0} (r : Result X BenchFault) (a b c : Option (List ℕ)) (s : ScenarioData) (t : Tally) (kept : List ℕ) (s' : ScenarioData) (t' : Tally) → 0 < length kept
+  pub Finish-line : {X : Type 0} (r : Result X BenchFault) (a b c : Option (List ℕ)) (s : ScenarioData) (t : Tally) (kept : List ℕ)
+      (s' : ScenarioData) (t' : Tally) → 0 < length kept
       → (reply : List ℕ) × Replied n s t (line_of kept) reply s' t' × Appends a b reply → Writes b c r (done_text t')
       → MatchResult r (λ _. Finished n a c s t kept t') (λ fault. (fault ≡ WriteFailed) × FinishedPart n a c s t kept)
   Finish-line (Ok x) a b c s t kept s' t' some (reply, replies, appends) writes = record {
@@ -229,8 +277,10 @@ module _ (n : ℕ) where
 
   -- 7. The replies of a session, and their counts
 
-  pub Replies-from_answers : (s : ScenarioData) (t : Tally) (ls : List (List ℕ)) (text : List ℕ) (final : Tally) → Answers n s t ls text final
-      → (replies : List ℕ) × (outcomes : List Outcome) × Replies n s ls replies outcomes × (final ≡ fold counted t outcomes) × (text ≡ replies ++ done_text final)
+  pub Replies-from_answers : (s : ScenarioData) (t : Tally) (ls : List (List ℕ)) (text : List ℕ) (final : Tally) →
+      Answers n s t ls text final
+      → (replies : List ℕ) × (outcomes : List Outcome) × Replies n s ls replies outcomes × (final ≡ fold counted t outcomes)
+      × (text ≡ replies ++ done_text final)
   Replies-from_answers s t [] text final (text_is, final_is) = ([], [], (refl, refl), final_is, text_is ∙ ap done_text (sym final_is))
   Replies-from_answers s t (line ∷ more) text final (reply, rest, s', t', replied, text_is, answers) =
       let others = Replies-from_answers s' t' more rest final answers in (
@@ -241,17 +291,21 @@ module _ (n : ℕ) where
         text_is ∙ ap (λ v. reply ++ v) others.4 ∙ sym (append_assoc reply others.0 (done_text final)),
       )
 
-  Session-from_answers : (s : ScenarioData) (bytes text : List ℕ) (final : Tally) → Answers n s no_lines (lines bytes) text final → Session n s bytes text final
+  Session-from_answers : (s : ScenarioData) (bytes text : List ℕ) (final : Tally) → Answers n s no_lines (lines bytes) text final →
+      Session n s bytes text final
   Session-from_answers s bytes text final answers =
       let replies = Replies-from_answers s no_lines (lines bytes) text final answers in
       record { replies = replies.0; outcomes = replies.1; are_replies = replies.2; tally_is = replies.3; text_is = replies.4 }
 
-  BeginsSession-from : (s : ScenarioData) (bytes out text : List ℕ) (final : Tally) → Answers n s no_lines (lines bytes) text final → Begins out text → BeginsSession n s bytes out
-  BeginsSession-from s bytes out text final answers begins = record { text = text; tally = final; session = Session-from_answers s bytes text final answers; begins = begins }
+  BeginsSession-from : (s : ScenarioData) (bytes out text : List ℕ) (final : Tally) → Answers n s no_lines (lines bytes) text final →
+      Begins out text → BeginsSession n s bytes out
+  BeginsSession-from s bytes out text final answers begins =
+      record { text = text; tally = final; session = Session-from_answers s bytes text final answers; begins = begins }
 
   -- 8. The whole session
 
-  pub SessionDone-from : {left left' a b c : Option (List ℕ)} {s s' : ScenarioData} {t' final : Tally} {k' : List ℕ} → TookIn n left left' a b s no_lines [] s' t' k' → Finished n b c s' t' k' final → SessionDone n left left' a c s final
+  pub SessionDone-from : {left left' a b c : Option (List ℕ)} {s s' : ScenarioData} {t' final : Tally} {k' : List ℕ} →
+      TookIn n left left' a b s no_lines [] s' t' k' → Finished n b c s' t' k' final → SessionDone n left left' a c s final
   SessionDone-from {a = a} {b = b} {c = c} {s = s} {s' = s'} {t' = t'} {final = final} took finished =
       let here = took.fed.leads [] IsPending-empty in
       let last : Answers n s' t' (lines (here.0 ++ [])) finished.out final = rw (append-nil here.0) (finished.ends here.0 here.1) in
@@ -266,7 +320,8 @@ module _ (n : ℕ) where
         session = Session-from_answers s took.bytes (took.fed.out ++ finished.out) final (rw (append-nil took.bytes) at whole);
       }
 
-  pub SessionCut-from_end : {left left' a b c : Option (List ℕ)} {s s' : ScenarioData} {t' : Tally} {k' : List ℕ} → TookIn n left left' a b s no_lines [] s' t' k' → FinishedPart n b c s' t' k' → SessionCut n left left' a c s
+  pub SessionCut-from_end : {left left' a b c : Option (List ℕ)} {s s' : ScenarioData} {t' : Tally} {k' : List ℕ} →
+      TookIn n left left' a b s no_lines [] s' t' k' → FinishedPart n b c s' t' k' → SessionCut n left left' a c s
   SessionCut-from_end {a = a} {b = b} {c = c} {s = s} {s' = s'} {t' = t'} took finished =
       let here = took.fed.leads [] IsPending-empty in
       let part = finished.ends here.0 here.1 in
@@ -278,16 +333,20 @@ module _ (n : ℕ) where
         few = omega (arith, took.few);
         out = took.fed.out ++ finished.out;
         appends = Appends-trans a b c took.fed.out finished.out took.fed.appends finished.appends;
-        begins = BeginsSession-from s took.bytes (took.fed.out ++ finished.out) (took.fed.out ++ part.0) part.1 (rw (append-nil took.bytes) at whole)
+        begins =
+            BeginsSession-from s took.bytes (took.fed.out ++ finished.out) (took.fed.out ++ part.0) part.1
+            (rw (append-nil took.bytes) at whole)
             (part.3.0, ap (λ v. took.fed.out ++ v) part.3.1 ∙ sym (append_assoc took.fed.out finished.out part.3.0));
       }
 
-  begins_any : {a b : Option (List ℕ)} {s : ScenarioData} {bytes : List ℕ} (fed : FedPart n a b s no_lines [] bytes) (more : List ℕ) → BeginsSession n s (bytes ++ more) fed.out
+  begins_any : {a b : Option (List ℕ)} {s : ScenarioData} {bytes : List ℕ} (fed : FedPart n a b s no_lines [] bytes) (more : List ℕ) →
+      BeginsSession n s (bytes ++ more) fed.out
   begins_any {s = s} {bytes = bytes} fed more =
       let part = fed.leads [] IsPending-empty more in
       BeginsSession-from s (bytes ++ more) fed.out part.0 part.1 part.2 part.3
 
-  SessionStopped-from : {fault : BenchFault} {left left' a b : Option (List ℕ)} {s : ScenarioData} (count : ℕ) (took : TookPart n fault left left' a b s no_lines []) → length took.bytes ≡ count → SessionStopped n left left' a b s count
+  SessionStopped-from : {fault : BenchFault} {left left' a b : Option (List ℕ)} {s : ScenarioData} (count : ℕ)
+      (took : TookPart n fault left left' a b s no_lines []) → length took.bytes ≡ count → SessionStopped n left left' a b s count
   SessionStopped-from count took counts = record {
     bytes = took.bytes;
     consumes = took.consumes;
@@ -297,7 +356,8 @@ module _ (n : ℕ) where
     begins = begins_any took.fed;
   }
 
-  SessionCut-from_part : {fault : BenchFault} {left left' a b : Option (List ℕ)} {s : ScenarioData} → TookPart n fault left left' a b s no_lines [] → SessionCut n left left' a b s
+  SessionCut-from_part : {fault : BenchFault} {left left' a b : Option (List ℕ)} {s : ScenarioData} →
+      TookPart n fault left left' a b s no_lines [] → SessionCut n left left' a b s
   SessionCut-from_part took = record {
     bytes = took.bytes;
     consumes = took.consumes;
@@ -307,19 +367,24 @@ module _ (n : ℕ) where
     begins = let all = begins_any took.fed [] in rw (append-nil took.bytes) at all;
   }
 
-  pub SessionEnds-from_part : (fault : BenchFault) (left left' a b : Option (List ℕ)) (s : ScenarioData) → TookPart n fault left left' a b s no_lines [] → SessionEnds n (Err fault) left left' a b s
-  SessionEnds-from_part ReadFailed left left' a b s took = (length took.bytes, took.read_failed refl, SessionStopped-from (length took.bytes) took refl)
+  pub SessionEnds-from_part : (fault : BenchFault) (left left' a b : Option (List ℕ)) (s : ScenarioData) →
+      TookPart n fault left left' a b s no_lines [] → SessionEnds n (Err fault) left left' a b s
+  SessionEnds-from_part ReadFailed left left' a b s took =
+      (length took.bytes, took.read_failed refl, SessionStopped-from (length took.bytes) took refl)
   SessionEnds-from_part WriteFailed left left' a b s took = SessionCut-from_part took
   SessionEnds-from_part Memory left left' a b s took = absurd (took.not_memory refl)
   SessionEnds-from_part ReaderTooLong left left' a b s took = SessionStopped-from 16777217 took (took.long refl)
 
   -- 9. The loop over the reader
 
-  pub Taking-none : (left taken : Option (List ℕ)) (s : ScenarioData) (t : Tally) (kept : List ℕ) → Taking n 0 left left taken taken s t kept s t kept
+  pub Taking-none : (left taken : Option (List ℕ)) (s : ScenarioData) (t : Tally) (kept : List ℕ) →
+      Taking n 0 left left taken taken s t kept s t kept
   Taking-none left taken s t kept = record { bytes = []; count = refl; consumes = Consumes-nil left; fed = Fed-none taken s t kept }
 
-  pub Taking-more : {total : ℕ} {a b c p q r : Option (List ℕ)} {s s' s'' : ScenarioData} {t t' t'' : Tally} {k k' k'' : List ℕ} (chunk : List ℕ) (m : ℕ) → length chunk ≡ m
-      → Taking n total a b p q s t k s' t' k' → Consumes b c chunk → Fed n q r s' t' k' chunk s'' t'' k'' → Taking n (total + m) a c p r s t k s'' t'' k''
+  pub Taking-more : {total : ℕ} {a b c p q r : Option (List ℕ)} {s s' s'' : ScenarioData} {t t' t'' : Tally} {k k' k'' : List ℕ}
+      (chunk : List ℕ) (m : ℕ) → length chunk ≡ m
+      → Taking n total a b p q s t k s' t' k' → Consumes b c chunk → Fed n q r s' t' k' chunk s'' t'' k'' →
+      Taking n (total + m) a c p r s t k s'' t'' k''
   Taking-more {a = a} {b = b} {c = c} chunk m count one consumes fed = record {
     bytes = one.bytes ++ chunk;
     count = omega (arith, length-append one.bytes chunk, one.count);
@@ -327,7 +392,8 @@ module _ (n : ℕ) where
     fed = Fed-join one.fed fed;
   }
 
-  pub TookIn-from : {total : ℕ} {a b c p q : Option (List ℕ)} {s s' : ScenarioData} {t t' : Tally} {k k' : List ℕ} → Taking n total a b p q s t k s' t' k' → total ≤ 16777216 → Consumes b c [] → IsAtEnd c → TookIn n a c p q s t k s' t' k'
+  pub TookIn-from : {total : ℕ} {a b c p q : Option (List ℕ)} {s s' : ScenarioData} {t t' : Tally} {k k' : List ℕ} →
+      Taking n total a b p q s t k s' t' k' → total ≤ 16777216 → Consumes b c [] → IsAtEnd c → TookIn n a c p q s t k s' t' k'
   TookIn-from {a = a} {b = b} {c = c} one few consumes at_end = record {
     bytes = one.bytes ++ [];
     consumes = Consumes-trans a b c one.bytes [] one.consumes consumes;
@@ -337,7 +403,8 @@ module _ (n : ℕ) where
   }
 
   -- a read failed
-  pub TookPart-read : {total : ℕ} {a b c p q : Option (List ℕ)} {s s' : ScenarioData} {t t' : Tally} {k k' : List ℕ} → HasRun s' → Taking n total a b p q s t k s' t' k' → total ≤ 16777216 → Keeps b c → TookPart n ReadFailed a c p q s t k
+  pub TookPart-read : {total : ℕ} {a b c p q : Option (List ℕ)} {s s' : ScenarioData} {t t' : Tally} {k k' : List ℕ} → HasRun s' →
+      Taking n total a b p q s t k s' t' k' → total ≤ 16777216 → Keeps b c → TookPart n ReadFailed a c p q s t k
   TookPart-read {a = a} {b = b} {c = c} run one few keeps = record {
     bytes = one.bytes;
     consumes = Consumes-kept a b c one.bytes one.consumes keeps;
@@ -349,7 +416,8 @@ module _ (n : ℕ) where
   }
 
   -- the reader doesn't end in time
-  pub TookPart-long : {a b p q : Option (List ℕ)} {s s' : ScenarioData} {t t' : Tally} {k k' : List ℕ} → HasRun s' → Taking n 16777217 a b p q s t k s' t' k' → TookPart n ReaderTooLong a b p q s t k
+  pub TookPart-long : {a b p q : Option (List ℕ)} {s s' : ScenarioData} {t t' : Tally} {k k' : List ℕ} → HasRun s' →
+      Taking n 16777217 a b p q s t k s' t' k' → TookPart n ReaderTooLong a b p q s t k
   TookPart-long run one = record {
     bytes = one.bytes;
     consumes = one.consumes;
@@ -361,7 +429,8 @@ module _ (n : ℕ) where
   }
 
   -- a write failed
-  pub TookPart-write : {total : ℕ} {a b c p q r : Option (List ℕ)} {s s' : ScenarioData} {t t' : Tally} {k k' : List ℕ} (chunk : List ℕ) → total + length chunk ≤ 16777217
+  pub TookPart-write : {total : ℕ} {a b c p q r : Option (List ℕ)} {s s' : ScenarioData} {t t' : Tally} {k k' : List ℕ} (chunk : List ℕ) →
+      total + length chunk ≤ 16777217
       → Taking n total a b p q s t k s' t' k' → Consumes b c chunk → FedPart n q r s' t' k' chunk → TookPart n WriteFailed a c p r s t k
   TookPart-write {a = a} {b = b} {c = c} chunk few one consumes part = record {
     bytes = one.bytes ++ chunk;
@@ -375,7 +444,8 @@ module _ (n : ℕ) where
 
   -- 10. Over devices that tell their bytes
 
-  pub WritesSession-from : (left left' taken taken' : Option (List ℕ)) (s : ScenarioData) (final : Tally) → SessionDone n left left' taken taken' s final → WritesSession n (Ok final) left taken taken' s
+  pub WritesSession-from : (left left' taken taken' : Option (List ℕ)) (s : ScenarioData) (final : Tally) →
+      SessionDone n left left' taken taken' s final → WritesSession n (Ok final) left taken taken' s
   WritesSession-from None left' taken taken' s final done = tt
   WritesSession-from (Some xs) None taken taken' s final done = absurd done.consumes
   WritesSession-from (Some xs) (Some ys) None taken' s final done = tt

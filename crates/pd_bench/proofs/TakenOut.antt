@@ -9,7 +9,8 @@ use Rattle.pd_bench.specs.Traces.{HasNoLineFeed, LinesCanBeTakenOut, ended}
 use Rattle.pd_bench.proofs.PendingLemmas.{lines-cut, lines-last}
 
 -- ended lines in front of others
-lines-ended : (front : List (List ℕ)) (rest : List ℕ) → All HasNoLineFeed front → lines (ended front ++ rest) ≡ map strip_carriage_return front ++ lines rest
+lines-ended : (front : List (List ℕ)) (rest : List ℕ) → All HasNoLineFeed front →
+    lines (ended front ++ rest) ≡ map strip_carriage_return front ++ lines rest
 lines-ended [] rest h = refl
 lines-ended (line ∷ more) rest h =
     ap lines (append_assoc line (10 ∷ ended more) rest)
@@ -24,7 +25,8 @@ one_line line h some =
 pub lines_can_be_taken_out : LinesCanBeTakenOut
 lines_can_be_taken_out = record {
   ended_line = λ front line rest h k. record {
-    with_line = lines-ended front (line ++ 10 ∷ rest) h ∙ ap (λ (l : List (List ℕ)). map strip_carriage_return front ++ l) (lines-cut line rest k);
+    with_line =
+        lines-ended front (line ++ 10 ∷ rest) h ∙ ap (λ (l : List (List ℕ)). map strip_carriage_return front ++ l) (lines-cut line rest k);
     without_line = lines-ended front rest h;
   };
   last_line = λ front line h k some. record {

@@ -15,7 +15,8 @@ use Rattle.pd_bench.specs.Session.{Replies, can_show, refused_text}
 -- A refused line changes nothing: after its own reply, the replies and the outcomes are those of the other lines alone.
 abbrev pub RefusedChangesNothing : Type 0
 RefusedChangesNothing = (n : ℕ) (s : ScenarioData) (line : List ℕ) (more : List (List ℕ)) (text : List ℕ) (others : List Outcome)
-    → Replies n s (line ∷ more) text (Refused ∷ others) → (number : ℕ) × (rest : List ℕ) × (text ≡ refused_text number ++ rest) × Replies n s more rest others
+    → Replies n s (line ∷ more) text (Refused ∷ others) → (number : ℕ) × (rest : List ℕ) × (text ≡ refused_text number ++ rest)
+    × Replies n s more rest others
 
 -- a line that is refused for its own sake, by a number: it can't be read, its edit is refused, or it shows a port that isn't there
 abbrev pub RefusedAs : ℕ → ScenarioData → Result Line EditFault → ℕ → Type 0
@@ -26,5 +27,8 @@ RefusedAs n s (Err fault) number = number ≡ number_of fault
 
 -- such a line is always refused, by its number
 abbrev pub RefusalsAreShown : Type 0
-RefusalsAreShown = (n : ℕ) (s : ScenarioData) (line : List ℕ) (more : List (List ℕ)) (text : List ℕ) (outcomes : List Outcome) (number : ℕ) → RefusedAs n s (line_of line) number
-    → Replies n s (line ∷ more) text outcomes → (rest : List ℕ) × (others : List Outcome) × (text ≡ refused_text number ++ rest) × (outcomes ≡ Refused ∷ others) × Replies n s more rest others
+RefusalsAreShown =
+    (n : ℕ) (s : ScenarioData) (line : List ℕ) (more : List (List ℕ)) (text : List ℕ) (outcomes : List Outcome) (number : ℕ) →
+    RefusedAs n s (line_of line) number
+    → Replies n s (line ∷ more) text outcomes → (rest : List ℕ) × (others : List Outcome) × (text ≡ refused_text number ++ rest)
+    × (outcomes ≡ Refused ∷ others) × Replies n s more rest others

@@ -1,5 +1,6 @@
 -- A line that hasn't ended yet, and the 258 bytes at most that stand for it.
-use Rattle.std.specs.Prelude.{◌≡◌, ℕ, ◌≤◌, ◌⊎◌, false, ◌&&◌, ◌||◌, List, [], ◌∷◌, ◌++◌, length, take, slice_index, ◌==◌, nat_lt, if◌then◌else◌, All}
+use Rattle.std.specs.Prelude.{◌≡◌, ℕ, ◌≤◌, ◌⊎◌, false, ◌&&◌, ◌||◌, List, [], ◌∷◌, ◌++◌, length, take, slice_index, ◌==◌, nat_lt}
+use Rattle.std.specs.Prelude.{if◌then◌else◌, All}
 use Rattle.pd_edit_lines.specs.Grammar.{are_spaces}
 
 -- what stands for the bytes after the first 257: a space for spaces alone, that byte for spaces and then that byte, else x

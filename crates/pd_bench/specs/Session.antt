@@ -1,5 +1,6 @@
 -- What a session writes for the bytes that it reads.
-use Rattle.std.specs.Prelude.{IfOk, IfSome, ◌≡◌, ℕ, ◌+◌, ◌≤◌, ◌⊎◌, Bool, true, false, length, List, [], ◌∷◌, ◌++◌, fold, Result, Ok, Err, Option, Some, codes, decimal}
+use Rattle.std.specs.Prelude.{IfOk, IfSome, ◌≡◌, ℕ, ◌+◌, ◌≤◌, ◌⊎◌, Bool, true, false, length, List, [], ◌∷◌, ◌++◌, fold, Result, Ok, Err}
+use Rattle.std.specs.Prelude.{Option, Some, codes, decimal}
 use Rattle.std.specs.Str.Lines.{lines}
 use Rattle.std.specs.Io.KnownBytes.{Appends, Consumes, IsAtEnd}
 use Rattle.pd_port.specs.declared.entry.Entry.{Entry}
@@ -38,7 +39,8 @@ abbrev pub refused_text : ℕ → List ℕ
 refused_text number = codes "refused " ++ decimal number ++ codes "\n"
 
 abbrev pub done_text : Tally → List ℕ
-done_text t = codes "done " ++ decimal t.edits ++ codes " edits " ++ decimal t.refused ++ codes " refused " ++ decimal t.shows ++ codes " shows\n"
+done_text t =
+    codes "done " ++ decimal t.edits ++ codes " edits " ++ decimal t.refused ++ codes " refused " ++ decimal t.shows ++ codes " shows\n"
 
 -- ---- the counts
 
@@ -96,7 +98,8 @@ Reply n s (Err fault) reply s' outcome = IsRefused (edit_numbers.number_of fault
 -- the replies to these lines in their order, each with the scenario as edited by then, and what became of each line
 abbrev pub Replies : ℕ → ScenarioData → List (List ℕ) → List ℕ → List Outcome → Type 0
 Replies n s [] text outcomes = (text ≡ []) × (outcomes ≡ [])
-Replies n s (line ∷ more) text outcomes = (reply : List ℕ) × (rest : List ℕ) × (s' : ScenarioData) × (outcome : Outcome) × (others : List Outcome)
+Replies n s (line ∷ more) text outcomes =
+    (reply : List ℕ) × (rest : List ℕ) × (s' : ScenarioData) × (outcome : Outcome) × (others : List Outcome)
     × Reply n s (line_of line) reply s' outcome × (text ≡ reply ++ rest) × (outcomes ≡ outcome ∷ others) × Replies n s' more rest others
 
 -- the text of a session over these bytes, and its counts
@@ -145,9 +148,11 @@ pub record SessionCut (n : ℕ) (left left' taken taken' : Option (List ℕ)) (s
   pub begins : BeginsSession n s bytes out
 
 -- Without memory for the first run nothing is read or written.
-abbrev pub SessionEnds : ℕ → Result Tally BenchFault → Option (List ℕ) → Option (List ℕ) → Option (List ℕ) → Option (List ℕ) → ScenarioData → Type 0
+abbrev pub SessionEnds : ℕ → Result Tally BenchFault → Option (List ℕ) → Option (List ℕ) → Option (List ℕ) → Option (List ℕ) →
+    ScenarioData → Type 0
 SessionEnds n (Ok tally) left left' taken taken' s = SessionDone n left left' taken taken' s tally
-SessionEnds n (Err ReadFailed) left left' taken taken' s = (count : ℕ) × (count ≤ 16777216) × SessionStopped n left left' taken taken' s count
+SessionEnds n (Err ReadFailed) left left' taken taken' s =
+    (count : ℕ) × (count ≤ 16777216) × SessionStopped n left left' taken taken' s count
 SessionEnds n (Err WriteFailed) left left' taken taken' s = SessionCut n left left' taken taken' s
 SessionEnds n (Err Memory) left left' taken taken' s = (left' ≡ left) × (taken' ≡ taken)
 SessionEnds n (Err ReaderTooLong) left left' taken taken' s = SessionStopped n left left' taken taken' s 16777217
@@ -163,4 +168,6 @@ CountsFault (Err ReaderTooLong) reads reads' writes writes' = (reads' ≡ reads)
 -- over devices that tell their bytes: what was written is the text for all that the reader had
 abbrev pub WritesSession : ℕ → Result Tally BenchFault → Option (List ℕ) → Option (List ℕ) → Option (List ℕ) → ScenarioData → Type 0
 WritesSession n result left taken taken' s =
-    IfOk result (λ tally. IfSome left (λ bytes. IfSome taken (λ before. (out : List ℕ) × Session n s bytes out tally × (taken' ≡ Some (before ++ out)))))
+    IfOk result
+    (λ tally. IfSome left
+    (λ bytes. IfSome taken (λ before. (out : List ℕ) × Session n s bytes out tally × (taken' ≡ Some (before ++ out)))))

@@ -40,11 +40,14 @@ IsRunning plan entries s = (plan ≡ Some (plan_of s)) × Shows (plan_of s) entr
 -- out, them and what comes after.
 abbrev pub Leads : ℕ → ScenarioData → Tally → List ℕ → List ℕ → List ℕ → ScenarioData → Tally → List ℕ → Type 0
 Leads n s t kept bytes out s' t' kept' = (line : List ℕ) → IsPending line kept → (line' : List ℕ) × IsPending line' kept'
-    × ((more text : List ℕ) (final : Tally) → Answers n s' t' (lines (line' ++ more)) text final → Answers n s t (lines (line ++ (bytes ++ more))) (out ++ text) final)
+    × ((more text : List ℕ) (final : Tally) → Answers n s' t' (lines (line' ++ more)) text final →
+    Answers n s t (lines (line ++ (bytes ++ more))) (out ++ text) final)
 
 -- out begins a text that answers these bytes, whatever comes after them
 abbrev pub LeadsPart : ℕ → ScenarioData → Tally → List ℕ → List ℕ → List ℕ → Type 0
-LeadsPart n s t kept bytes out = (line : List ℕ) → IsPending line kept → (more : List ℕ) → (text : List ℕ) × (final : Tally) × Answers n s t (lines (line ++ (bytes ++ more))) text final × Begins out text
+LeadsPart n s t kept bytes out =
+    (line : List ℕ) → IsPending line kept → (more : List ℕ) → (text : List ℕ) × (final : Tally)
+    × Answers n s t (lines (line ++ (bytes ++ more))) text final × Begins out text
 
 -- the text answers what is pending and then nothing
 abbrev pub Ends : ℕ → ScenarioData → Tally → List ℕ → List ℕ → Tally → Type 0
@@ -52,10 +55,12 @@ Ends n s t kept out final = (line : List ℕ) → IsPending line kept → Answer
 
 -- out begins such a text
 abbrev pub EndsPart : ℕ → ScenarioData → Tally → List ℕ → List ℕ → Type 0
-EndsPart n s t kept out = (line : List ℕ) → IsPending line kept → (text : List ℕ) × (final : Tally) × Answers n s t (lines line) text final × Begins out text
+EndsPart n s t kept out =
+    (line : List ℕ) → IsPending line kept → (text : List ℕ) × (final : Tally) × Answers n s t (lines line) text final × Begins out text
 
 -- these bytes were taken in, and what they ask for was written
-pub record Fed (n : ℕ) (taken taken' : Option (List ℕ)) (s : ScenarioData) (t : Tally) (kept bytes : List ℕ) (s' : ScenarioData) (t' : Tally) (kept' : List ℕ) : Type 0 where
+pub record Fed (n : ℕ) (taken taken' : Option (List ℕ)) (s : ScenarioData) (t : Tally) (kept bytes : List ℕ) (s' : ScenarioData)
+    (t' : Tally) (kept' : List ℕ) : Type 0 where
   pub out : List ℕ
   pub appends : Appends taken taken' out
   pub leads : Leads n s t kept bytes out s' t' kept'
@@ -79,7 +84,8 @@ pub record FinishedPart (n : ℕ) (taken taken' : Option (List ℕ)) (s : Scenar
   pub ends : EndsPart n s t kept out
 
 -- all was read, and what it asks for before the end was written
-pub record TookIn (n : ℕ) (left left' taken taken' : Option (List ℕ)) (s : ScenarioData) (t : Tally) (kept : List ℕ) (s' : ScenarioData) (t' : Tally) (kept' : List ℕ) : Type 0 where
+pub record TookIn (n : ℕ) (left left' taken taken' : Option (List ℕ)) (s : ScenarioData) (t : Tally) (kept : List ℕ) (s' : ScenarioData)
+    (t' : Tally) (kept' : List ℕ) : Type 0 where
   pub bytes : List ℕ
   pub consumes : Consumes left left' bytes
   pub at_end : IsAtEnd left'
@@ -87,7 +93,8 @@ pub record TookIn (n : ℕ) (left left' taken taken' : Option (List ℕ)) (s : S
   pub fed : Fed n taken taken' s t kept bytes s' t' kept'
 
 -- the session stopped after some bytes, and the first bytes of what they ask for were written
-pub record TookPart (n : ℕ) (fault : BenchFault) (left left' taken taken' : Option (List ℕ)) (s : ScenarioData) (t : Tally) (kept : List ℕ) : Type 0 where
+pub record TookPart (n : ℕ) (fault : BenchFault) (left left' taken taken' : Option (List ℕ)) (s : ScenarioData) (t : Tally)
+    (kept : List ℕ) : Type 0 where
   pub bytes : List ℕ
   pub consumes : Consumes left left' bytes
   pub few : length bytes ≤ 16777217
@@ -97,7 +104,8 @@ pub record TookPart (n : ℕ) (fault : BenchFault) (left left' taken taken' : Op
   pub fed : FedPart n taken taken' s t kept bytes
 
 -- so many bytes were read, and what they ask for was written
-pub record Taking (n total : ℕ) (left left' taken taken' : Option (List ℕ)) (s : ScenarioData) (t : Tally) (kept : List ℕ) (s' : ScenarioData) (t' : Tally) (kept' : List ℕ) : Type 0 where
+pub record Taking (n total : ℕ) (left left' taken taken' : Option (List ℕ)) (s : ScenarioData) (t : Tally) (kept : List ℕ)
+    (s' : ScenarioData) (t' : Tally) (kept' : List ℕ) : Type 0 where
   pub bytes : List ℕ
   pub count : length bytes ≡ total
   pub consumes : Consumes left left' bytes

@@ -25,19 +25,23 @@ HasNoLineFeed line = All (λ b. (b == 10) ≡ false) line
 -- Each line can be taken out, with the line feed that ends it; and so can a last one that none ends.
 pub record LinesCanBeTakenOut : Type 0 where
   pub ended_line : (front : List (List ℕ)) (line rest : List ℕ) → All HasNoLineFeed front → HasNoLineFeed line
-      → IsWithoutLine (ended front ++ (line ++ 10 ∷ rest)) (ended front ++ rest) (map strip_carriage_return front) (strip_carriage_return line) (lines rest)
+      → IsWithoutLine (ended front ++ (line ++ 10 ∷ rest)) (ended front ++ rest) (map strip_carriage_return front)
+      (strip_carriage_return line) (lines rest)
   pub last_line : (front : List (List ℕ)) (line : List ℕ) → All HasNoLineFeed front → HasNoLineFeed line → 0 < length line
       → IsWithoutLine (ended front ++ line) (ended front) (map strip_carriage_return front) line []
 
 -- the scenario as edited by the first so many of these lines
-abbrev pub edited_by : (n : ℕ) (s : ScenarioData) (ls : List (List ℕ)) (text : List ℕ) (outcomes : List Outcome) → Replies n s ls text outcomes → ℕ → ScenarioData
+abbrev pub edited_by : (n : ℕ) (s : ScenarioData) (ls : List (List ℕ)) (text : List ℕ) (outcomes : List Outcome) →
+    Replies n s ls text outcomes → ℕ → ScenarioData
 edited_by n s [] text outcomes replies count = s
 edited_by n s (line ∷ more) text outcomes replies zero = s
-edited_by n s (line ∷ more) text outcomes (reply, rest, s', outcome, others, is_reply, text_is, outcomes_are, replies) (suc count) = edited_by n s' more rest others replies count
+edited_by n s (line ∷ more) text outcomes (reply, rest, s', outcome, others, is_reply, text_is, outcomes_are, replies) (suc count) =
+    edited_by n s' more rest others replies count
 
 -- The text is the replies to the lines before, one refusal by this number, and what follows it; without the refusal, and
 -- with one less in the count of the refused, it is the text of a session over the other lines.
-pub record LeavesNoTrace (n : ℕ) (s : ScenarioData) (others : List ℕ) (before : List (List ℕ)) (text : List ℕ) (tally : Tally) (number : ℕ) : Type 0 where
+pub record LeavesNoTrace (n : ℕ) (s : ScenarioData) (others : List ℕ) (before : List (List ℕ)) (text : List ℕ) (tally : Tally)
+    (number : ℕ) : Type 0 where
   pub earlier : List ℕ
   pub later : List ℕ
   pub fewer : Tally
@@ -49,14 +53,19 @@ pub record LeavesNoTrace (n : ℕ) (s : ScenarioData) (others : List ℕ) (befor
 
 -- A line that is refused, for whatever cause, leaves no trace: it could as well not stand there.
 abbrev pub RefusedLeavesNoTrace : Type 0
-RefusedLeavesNoTrace = (n : ℕ) (s : ScenarioData) (bytes others : List ℕ) (before : List (List ℕ)) (line : List ℕ) (after : List (List ℕ)) (text : List ℕ) (tally : Tally)
-    → IsWithoutLine bytes others before line after → (session : Session n s bytes text tally) → slice_get session.outcomes (length before) ≡ Some Refused
+RefusedLeavesNoTrace =
+    (n : ℕ) (s : ScenarioData) (bytes others : List ℕ) (before : List (List ℕ)) (line : List ℕ) (after : List (List ℕ)) (text : List ℕ)
+    (tally : Tally)
+    → IsWithoutLine bytes others before line after → (session : Session n s bytes text tally) →
+    slice_get session.outcomes (length before) ≡ Some Refused
     → (number : ℕ) × LeavesNoTrace n s others before text tally number
 
 -- A line that is refused for its own sake, with the scenario as edited by the lines before it, is always refused, by its
 -- number, and leaves no trace.
 abbrev pub RefusalsLeaveNoTrace : Type 0
-RefusalsLeaveNoTrace = (n : ℕ) (s : ScenarioData) (bytes others : List ℕ) (before : List (List ℕ)) (line : List ℕ) (after : List (List ℕ)) (text : List ℕ) (tally : Tally) (number : ℕ)
+RefusalsLeaveNoTrace =
+    (n : ℕ) (s : ScenarioData) (bytes others : List ℕ) (before : List (List ℕ)) (line : List ℕ) (after : List (List ℕ)) (text : List ℕ)
+    (tally : Tally) (number : ℕ)
     → IsWithoutLine bytes others before line after → (session : Session n s bytes text tally)
     → RefusedAs n (edited_by n s (lines bytes) session.replies session.outcomes session.are_replies (length before)) (line_of line) number
     → (slice_get session.outcomes (length before) ≡ Some Refused) × LeavesNoTrace n s others before text tally number

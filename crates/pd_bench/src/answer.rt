@@ -41,7 +41,8 @@ pub(crate) fn answer<const N: usize, T: Runner<N>, W: TextOut>(
 ) -> Result<(), BenchFault>
     requires runs { IsRunning (T.plan runner.old) (T.entries runner.old) state.old.scenario }
     requires room { answered state.old.tally + 1 < 2 ^ 32 }
-    ensures reply { (reply : List ℕ) × Replied N state.old.scenario state.old.tally (line_of line.now) reply state.new.scenario state.new.tally
+    ensures reply { (reply : List ℕ)
+        × Replied N state.old.scenario state.old.tally (line_of line.now) reply state.new.scenario state.new.tally
         × Writes (W.taken writer.old) (W.taken writer.new) result reply }
     ensures counts { CountsFailure (W.failures writer.old) (W.failures writer.new) result }
     ensures runs { IsRunning (T.plan runner.new) (T.entries runner.new) state.new.scenario }
@@ -66,7 +67,8 @@ fn change<const N: usize, T: Runner<N>, W: TextOut>(
 ) -> Result<(), BenchFault>
     requires runs { IsRunning (T.plan runner.old) (T.entries runner.old) state.old.scenario }
     requires room { answered state.old.tally + 1 < 2 ^ 32 }
-    ensures reply { (reply : List ℕ) × (outcome : OutcomeData) × EditReply state.old.scenario (edited N state.old.scenario edit.now) reply state.new.scenario outcome
+    ensures reply { (reply : List ℕ) × (outcome : OutcomeData)
+        × EditReply state.old.scenario (edited N state.old.scenario edit.now) reply state.new.scenario outcome
         × (state.new.tally ≡ counted state.old.tally outcome) × Writes (W.taken writer.old) (W.taken writer.new) result reply }
     ensures counts { CountsFailure (W.failures writer.old) (W.failures writer.new) result }
     ensures runs { IsRunning (T.plan runner.new) (T.entries runner.new) state.new.scenario }
@@ -93,7 +95,8 @@ fn show<const N: usize, T: Runner<N>, W: TextOut>(
 ) -> Result<(), BenchFault>
     requires runs { IsRunning (T.plan runner.now) (T.entries runner.now) state.old.scenario }
     requires room { answered state.old.tally + 1 < 2 ^ 32 }
-    ensures reply { (reply : List ℕ) × (outcome : OutcomeData) × ShowReply (can_show N shown) shown state.old.scenario reply state.new.scenario outcome
+    ensures reply { (reply : List ℕ) × (outcome : OutcomeData)
+        × ShowReply (can_show N shown) shown state.old.scenario reply state.new.scenario outcome
         × (state.new.tally ≡ counted state.old.tally outcome) × Writes (W.taken writer.old) (W.taken writer.new) result reply }
     ensures counts { CountsFailure (W.failures writer.old) (W.failures writer.new) result }
     ensures same { state.new.scenario ≡ state.old.scenario }

@@ -106,8 +106,10 @@ fn feed<const N: usize, T: Runner<N>, W: TextOut>(
     requires runs { IsRunning (T.plan runner.old) (T.entries runner.old) state.old.scenario }
     requires room { answered state.old.tally + length chunk.now < 2 ^ 32 }
     ensures text { MatchResult result
-        (λ _. Fed N (W.taken writer.old) (W.taken writer.new) state.old.scenario state.old.tally line.old chunk.now state.new.scenario state.new.tally line.new)
-        (λ fault. (fault ≡ write_failed) × FedPart N (W.taken writer.old) (W.taken writer.new) state.old.scenario state.old.tally line.old chunk.now) }
+        (λ _. Fed N (W.taken writer.old) (W.taken writer.new) state.old.scenario state.old.tally line.old chunk.now state.new.scenario
+        state.new.tally line.new)
+        (λ fault. (fault ≡ write_failed)
+        × FedPart N (W.taken writer.old) (W.taken writer.new) state.old.scenario state.old.tally line.old chunk.now) }
     ensures counts { CountsFailure (W.failures writer.old) (W.failures writer.new) result }
     ensures runs { IsRunning (T.plan runner.new) (T.entries runner.new) state.new.scenario }
     ensures room { OnOk result (answered state.new.tally ≤ answered state.old.tally + length chunk.now) }
@@ -131,8 +133,10 @@ fn take_byte<const N: usize, T: Runner<N>, W: TextOut>(
     requires runs { IsRunning (T.plan runner.old) (T.entries runner.old) state.old.scenario }
     requires room { answered state.old.tally + 1 < 2 ^ 32 }
     ensures text { MatchResult result
-        (λ _. Fed N (W.taken writer.old) (W.taken writer.new) state.old.scenario state.old.tally line.old (byte ∷ []) state.new.scenario state.new.tally line.new)
-        (λ fault. (fault ≡ write_failed) × FedPart N (W.taken writer.old) (W.taken writer.new) state.old.scenario state.old.tally line.old (byte ∷ [])) }
+        (λ _. Fed N (W.taken writer.old) (W.taken writer.new) state.old.scenario state.old.tally line.old (byte ∷ []) state.new.scenario
+        state.new.tally line.new)
+        (λ fault. (fault ≡ write_failed)
+        × FedPart N (W.taken writer.old) (W.taken writer.new) state.old.scenario state.old.tally line.old (byte ∷ [])) }
     ensures counts { CountsFailure (W.failures writer.old) (W.failures writer.new) result }
     ensures runs { IsRunning (T.plan runner.new) (T.entries runner.new) state.new.scenario }
     ensures room { answered state.new.tally ≤ answered state.old.tally + 1 }
@@ -160,7 +164,8 @@ fn finish<const N: usize, T: Runner<N>, W: TextOut>(
     requires room { answered state.old.tally + 1 < 2 ^ 32 }
     ensures text { MatchResult result
         (λ _. Finished N (W.taken writer.old) (W.taken writer.new) state.old.scenario state.old.tally line.now state.new.tally)
-        (λ fault. (fault ≡ write_failed) × FinishedPart N (W.taken writer.old) (W.taken writer.new) state.old.scenario state.old.tally line.now) }
+        (λ fault. (fault ≡ write_failed)
+        × FinishedPart N (W.taken writer.old) (W.taken writer.new) state.old.scenario state.old.tally line.now) }
     ensures counts { CountsFailure (W.failures writer.old) (W.failures writer.new) result }
 {
     if line.is_empty() {

@@ -57,7 +57,9 @@ digits_code_text part high low lt lt' digits = by_case part digits
     by_case (a ∷ b ∷ e ∷ more) d = let e = d.two in absurd (omega arith)
 
 -- each part is the text of a code
-pub part_is_code : (parts : List (List ℕ)) (codes : List ℕ) (i : ℕ) (part : List ℕ) → map (map to_ascii_uppercase) parts ≡ map (hex_digits 2) codes → i < length parts → (code : ℕ) × IsCodeText (slice_index_or parts i part) code
+pub part_is_code : (parts : List (List ℕ)) (codes : List ℕ) (i : ℕ) (part : List ℕ) →
+    map (map to_ascii_uppercase) parts ≡ map (hex_digits 2) codes → i < length parts → (code : ℕ)
+    × IsCodeText (slice_index_or parts i part) code
 part_is_code [] codes i part e lt = absurd (omega arith)
 part_is_code (p ∷ parts) [] i part e lt = absurd cc
 part_is_code (p ∷ parts) (code ∷ codes) zero part e lt = (code, cc)
@@ -71,11 +73,13 @@ pub record IsSoFar (parts : List (List ℕ)) (codes : List ℕ) : Type 0 where
 pub SoFar-nothing : IsSoFar [] []
 SoFar-nothing = record { bytes = tt; texts = refl }
 
-bytes-push : (codes : List ℕ) (code : ℕ) → AllByRecursion (λ c. c < 256) codes → code < 256 → AllByRecursion (λ c. c < 256) (codes ++ code ∷ [])
+bytes-push : (codes : List ℕ) (code : ℕ) → AllByRecursion (λ c. c < 256) codes → code < 256 →
+    AllByRecursion (λ c. c < 256) (codes ++ code ∷ [])
 bytes-push [] code all lt = (lt, tt)
 bytes-push (c ∷ codes) code all lt = (all.0, bytes-push codes code all.1 lt)
 
-pub SoFar-push : (parts : List (List ℕ)) (codes : List ℕ) (part : List ℕ) (code : ℕ) → IsSoFar parts codes → IsCodeText part code → code < 256 → IsSoFar (parts ++ part ∷ []) (codes ++ code ∷ [])
+pub SoFar-push : (parts : List (List ℕ)) (codes : List ℕ) (part : List ℕ) (code : ℕ) → IsSoFar parts codes → IsCodeText part code →
+    code < 256 → IsSoFar (parts ++ part ∷ []) (codes ++ code ∷ [])
 SoFar-push parts codes part code s e lt = record {
   bytes = bytes-push codes code s.bytes lt;
   texts =
@@ -84,7 +88,8 @@ SoFar-push parts codes part code s e lt = record {
 }
 
 -- All parts are the texts of these codes.
-pub SoFar-all : (text : List ℕ) (parts : List (List ℕ)) (codes : List ℕ) → IsSoFar parts codes → parts ≡ slice_split (λ byte. byte == 32) text → Gives text codes
+pub SoFar-all : (text : List ℕ) (parts : List (List ℕ)) (codes : List ℕ) → IsSoFar parts codes →
+    parts ≡ slice_split (λ byte. byte == 32) text → Gives text codes
 SoFar-all text parts codes s e = record { bytes = s.bytes; parts = ap (map (map to_ascii_uppercase)) (sym e) ∙ s.texts }
 
 -- A part is not the text of a code.

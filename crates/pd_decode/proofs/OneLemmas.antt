@@ -24,7 +24,8 @@ code-one c d lt lt' e =
     let low : c % 16 ≡ d % 16 = hex_digit-one (c % 16) (d % 16) (omega arith) (omega arith) (cc) in
     omega arith
 
-codes-one : (cs ds : List ℕ) → AllByRecursion (λ c. c < 256) cs → AllByRecursion (λ c. c < 256) ds → map (hex_digits 2) cs ≡ map (hex_digits 2) ds → cs ≡ ds
+codes-one : (cs ds : List ℕ) → AllByRecursion (λ c. c < 256) cs → AllByRecursion (λ c. c < 256) ds →
+    map (hex_digits 2) cs ≡ map (hex_digits 2) ds → cs ≡ ds
 codes-one [] [] a b e = refl
 codes-one [] (d ∷ ds) a b e = absurd cc
 codes-one (c ∷ cs) [] a b e = absurd cc
@@ -70,7 +71,8 @@ reads-one s (Ok p) t h k = sym (k.only p h.found)
 reads-one s (Err f) (Ok q) h k = h.only q k.found
 reads-one s (Err f) (Err g) h k = ap (λ e. Err e) (faults-one s f g h.first k.first)
 
-answers-one : (text : List ℕ) (cs ds : List ℕ) (r t : Result Contents PacketFault) → Gives text cs → Gives text ds → Reads cs r → Reads ds t → r ≡ t
+answers-one : (text : List ℕ) (cs ds : List ℕ) (r t : Result Contents PacketFault) → Gives text cs → Gives text ds → Reads cs r →
+    Reads ds t → r ≡ t
 answers-one text cs ds r t g h read other =
     let same : ds ≡ cs = giving-one text ds cs h g in
     reads-one cs r t read (subst (λ (s : List ℕ). Reads s t) same other)

@@ -14,7 +14,8 @@ pub record Wrote (all rest : List ℕ) (old new : Option (List ℕ)) : Type 0 wh
 pub Wrote-nothing : (all : List ℕ) (a : Option (List ℕ)) → Wrote all all a a
 Wrote-nothing all a = record { out = []; whole = refl; appends = Appends-nil a }
 
-pub Wrote-more : (all rest : List ℕ) (a b c : Option (List ℕ)) (n : ℕ) → Wrote all rest a b → Appends b c (take n rest) → Wrote all (drop n rest) a c
+pub Wrote-more : (all rest : List ℕ) (a b c : Option (List ℕ)) (n : ℕ) → Wrote all rest a b → Appends b c (take n rest) →
+    Wrote all (drop n rest) a c
 Wrote-more all rest a b c n w more = record {
   out = w.out ++ take n rest;
   whole = w.whole ∙ ap (λ v. w.out ++ v) (sym (take-append-drop n rest)) ∙ sym (append_assoc w.out (take n rest) (drop n rest));

@@ -1,5 +1,6 @@
 -- The budget stays from one of its changes to the next.
-use Rattle.std.proofs.Common.{◌≡◌, ℕ, suc, ◌<◌, ◌≤◌, ◌⊎◌, inl, inr, ⊎_elim, Bool, cond, leb, List, [], ◌∷◌, fold, Option, Some, None, refl, sym, ap, subst, ◌∙◌, arith}
+use Rattle.std.proofs.Common.{◌≡◌, ℕ, suc, ◌<◌, ◌≤◌, ◌⊎◌, inl, inr, ⊎_elim, Bool, cond, leb, List, [], ◌∷◌, fold, Option, Some, None, refl}
+use Rattle.std.proofs.Common.{sym, ap, subst, ◌∙◌, arith}
 use Rattle.std.specs.Prelude.{Contains, IfSome, ◌&&◌}
 use Rattle.std.specs.List.{AllByRecursion}
 use Rattle.std.proofs.lemmas.Bool.{le-leb, lt-leb}
@@ -17,11 +18,13 @@ with_test : Option BudgetChange → BudgetChange → Bool → Option BudgetChang
 with_test last c x = cond (x && is_later last c) (Some c) last
 
 -- changes that are up to both times, or to neither, leave the same at both
-same_last : (a t : ℕ) (cs : List BudgetChange) (last : Option BudgetChange) → AllByRecursion (λ (c : BudgetChange). leb c.at t ≡ leb c.at a) cs →
+same_last : (a t : ℕ) (cs : List BudgetChange) (last : Option BudgetChange) →
+    AllByRecursion (λ (c : BudgetChange). leb c.at t ≡ leb c.at a) cs →
     fold (with_change t) last cs ≡ fold (with_change a) last cs
 unfolding with_test
 same_last a t [] last h = refl
-same_last a t (c ∷ cs) last h = ap (λ o. fold (with_change t) o cs) (ap (with_test last c) h.0) ∙ same_last a t cs (with_change a last c) h.1
+same_last a t (c ∷ cs) last h =
+    ap (λ o. fold (with_change t) o cs) (ap (with_test last c) h.0) ∙ same_last a t cs (with_change a last c) h.1
 
 same_side : (c a t : ℕ) → a ≤ t → (c ≤ a) ⊎ (t < c) → leb c t ≡ leb c a
 same_side c a t le h =
@@ -31,29 +34,37 @@ same_side c a t le h =
     h
 
 -- a change is not between a time and one before the next change
-outside : (changes : List BudgetChange) (a t : ℕ) (next : Option ℕ) → IsNextChange changes a next → IfSome next (λ n. t < n) → (c : BudgetChange) → Contains changes c →
+outside : (changes : List BudgetChange) (a t : ℕ) (next : Option ℕ) → IsNextChange changes a next → IfSome next (λ n. t < n) →
+    (c : BudgetChange) → Contains changes c →
     (c.at ≤ a) ⊎ (t < c.at)
 outside changes a t None is before c there = inl (is c there)
-outside changes a t (Some n) is before c there = ⊎_elim (λ (past : c.at ≤ a). inl past) (λ (later : n ≤ c.at). inr (omega arith)) (is.2 c there)
+outside changes a t (Some n) is before c there =
+    ⊎_elim (λ (past : c.at ≤ a). inl past) (λ (later : n ≤ c.at). inr (omega arith)) (is.2 c there)
 
-pub force-stays : (plan : Plan) (a t : ℕ) (next : Option ℕ) → IsNextChange plan.forces a next → IfSome next (λ n. t < n) → a ≤ t → force plan t ≡ force plan a
+pub force-stays : (plan : Plan) (a t : ℕ) (next : Option ℕ) → IsNextChange plan.forces a next → IfSome next (λ n. t < n) → a ≤ t →
+    force plan t ≡ force plan a
 unfolding force
 force-stays plan a t next is before le =
     ap (budget_after plan.budget)
     (same_last a t plan.forces None
-    (all-of (λ (c : BudgetChange). leb c.at t ≡ leb c.at a) plan.forces (λ c there. same_side c.at a t le (outside plan.forces a t next is before c there))))
+    (all-of (λ (c : BudgetChange). leb c.at t ≡ leb c.at a) plan.forces
+    (λ c there. same_side c.at a t le (outside plan.forces a t next is before c there))))
 
 -- and what comes next is the same
-next-stays : (changes : List BudgetChange) (a t : ℕ) (next : Option ℕ) → IsNextChange changes a next → IfSome next (λ n. t < n) → a ≤ t → IsNextChange changes t next
+next-stays : (changes : List BudgetChange) (a t : ℕ) (next : Option ℕ) → IsNextChange changes a next → IfSome next (λ n. t < n) → a ≤ t →
+    IsNextChange changes t next
 next-stays changes a t None is before le = λ c there. let past = is c there in omega arith
-next-stays changes a t (Some n) is before le = (before, is.1, λ c there. ⊎_elim (λ (past : c.at ≤ a). inl (omega arith)) (λ (later : n ≤ c.at). inr later) (is.2 c there))
+next-stays changes a t (Some n) is before le =
+    (before, is.1, λ c there. ⊎_elim (λ (past : c.at ≤ a). inl (omega arith)) (λ (later : n ≤ c.at). inr later) (is.2 c there))
 
 -- what a walk knows of the budget, it knows up to the next change
-pub knows-on : (plan : Plan) (walk : Walk) (at : ℕ) (next : Option ℕ) → walk.next ≡ next → IfSome next (λ n. at < n) → walk.at ≤ at → KnowsBudget plan walk →
+pub knows-on : (plan : Plan) (walk : Walk) (at : ℕ) (next : Option ℕ) → walk.next ≡ next → IfSome next (λ n. at < n) → walk.at ≤ at →
+    KnowsBudget plan walk →
     (walk.budget ≡ force plan at) × IsNextChange plan.forces at walk.next
 knows-on plan walk at next is before le knows =
     let now : IsNextChange plan.forces walk.at next = subst (IsNextChange plan.forces walk.at) is knows.next_is in
-    (knows.budget_is ∙ sym (force-stays plan walk.at at next now before le), subst (IsNextChange plan.forces at) (sym is) (next-stays plan.forces walk.at at next now before le))
+    let budget = knows.budget_is ∙ sym (force-stays plan walk.at at next now before le) in
+    (budget, subst (IsNextChange plan.forces at) (sym is) (next-stays plan.forces walk.at at next now before le))
 
 -- the next change is later
 pub next-later : (next : Option ℕ) (plan : Plan) (at : ℕ) → IsNextChange plan.forces at next → IfSome next (λ n. at < n)

@@ -1,10 +1,13 @@
 -- What a walk over the entries of a run knows of each instant.
-use Rattle.std.proofs.Common.{◌≡◌, ◌≢◌, ℕ, zero, suc, ◌+◌, ◌-◌, ◌<◌, ◌≤◌, Bool, true, false, cond, eqb, leb, ⊎_elim, inl, inr, List, [], ◌∷◌, ◌++◌, length, map, take, drop, get_or, set, replicate, Option, Some, None, refl, sym, ap, subst, ◌∙◌, arith, append_assoc}
+use Rattle.std.proofs.Common.{◌≡◌, ◌≢◌, ℕ, zero, suc, ◌+◌, ◌-◌, ◌<◌, ◌≤◌, Bool, true, false, cond, eqb, leb, ⊎_elim, inl, inr, List, []}
+use Rattle.std.proofs.Common.{◌∷◌, ◌++◌, length, map, take, drop, get_or, set, replicate, Option, Some, None, refl, sym, ap, subst, ◌∙◌}
+use Rattle.std.proofs.Common.{arith, append_assoc}
 use Rattle.std.specs.Prelude.{filter, slice_get}
 use Rattle.std.specs.List.{AllByRecursion, cons_option, flat_map, filter_map, last_or, range_with_len}
 use Rattle.std.specs.Option.{option_map_or}
 use Rattle.std.proofs.lemmas.Bool.{cases_eq, le-leb, lt-leb, eq-eqb, ne_eqb}
-use Rattle.std.proofs.lemmas.List.{append-nil, drop_all, take-append-drop, drop_more, take_more, length-set, get_or-set_same, get_or-set_other, same_lists}
+use Rattle.std.proofs.lemmas.List.{append-nil, drop_all, take-append-drop, drop_more, take_more, length-set, get_or-set_same}
+use Rattle.std.proofs.lemmas.List.{get_or-set_other, same_lists}
 use Rattle.std.proofs.lemmas.List.Concat.{flat_map-append}
 use Rattle.std.proofs.lemmas.List.Elements.{filter-append, filter_map-append}
 use Rattle.std.proofs.lemmas.List.FromFn.{get_or-map-range_with_len, length-map-range_with_len}
@@ -66,12 +69,15 @@ last_or-append o (y ∷ ys) x = last_or-append (Some y) ys x
 not_up : (t a : ℕ) → t < a → leb a t ≡ false
 not_up t a h = lt-leb a t h
 
-pub up_to-is : (moves : Moves) (i t : ℕ) → NoneLater t (take i moves) → AllByRecursion (λ m. t < m.1.at) (drop i moves) → up_to t moves ≡ take i moves
+pub up_to-is : (moves : Moves) (i t : ℕ) → NoneLater t (take i moves) → AllByRecursion (λ m. t < m.1.at) (drop i moves) →
+    up_to t moves ≡ take i moves
 up_to-is moves i t past ahead =
     let p : ℕ × Entry → Bool = λ m. leb m.1.at t in
     ap (filter p) (sym (take-append-drop i moves)) ∙ filter-append p (take i moves) (drop i moves)
-    ∙ ap (λ v. v ++ filter p (drop i moves)) (filter-all p (take i moves) (all-mono (λ m. m.1.at ≤ t) (λ m. p m ≡ true) (λ m h. le-leb m.1.at t h) (take i moves) past))
-    ∙ ap (λ v. take i moves ++ v) (filter-none p (drop i moves) (all-mono (λ m. t < m.1.at) (λ m. p m ≡ false) (λ m h. not_up t m.1.at h) (drop i moves) ahead))
+    ∙ ap (λ v. v ++ filter p (drop i moves))
+    (filter-all p (take i moves) (all-mono (λ m. m.1.at ≤ t) (λ m. p m ≡ true) (λ m h. le-leb m.1.at t h) (take i moves) past))
+    ∙ ap (λ v. take i moves ++ v)
+    (filter-none p (drop i moves) (all-mono (λ m. t < m.1.at) (λ m. p m ≡ false) (λ m h. not_up t m.1.at h) (drop i moves) ahead))
     ∙ append-nil (take i moves)
 
 -- ---- the powers
@@ -80,14 +86,18 @@ unfoldable pub power_then : Option ContractChange → ℕ → ℕ
 power_then None k = k
 power_then (Some c) k = power_left c
 
-pub change-then : (p : ℕ) (moves : Moves) (m : ℕ × Entry) (o : Option ContractChange) → change_on p m ≡ o → power_on (moves ++ m ∷ []) p ≡ power_then o (power_on moves p)
+pub change-then : (p : ℕ) (moves : Moves) (m : ℕ × Entry) (o : Option ContractChange) → change_on p m ≡ o →
+    power_on (moves ++ m ∷ []) p ≡ power_then o (power_on moves p)
 unfolding power_on power_then
 change-then p moves m None e =
     ap (λ l. option_map_or power_left (last_or None l) 0)
-    (filter_map-append (change_on p) moves (m ∷ []) ∙ ap (λ (o : Option ContractChange). filter_map (change_on p) moves ++ cons_option o []) e ∙ append-nil (filter_map (change_on p) moves))
+    (filter_map-append (change_on p) moves (m ∷ [])
+    ∙ ap (λ (o : Option ContractChange). filter_map (change_on p) moves ++ cons_option o []) e
+    ∙ append-nil (filter_map (change_on p) moves))
 change-then p moves m (Some c) e =
     ap (λ l. option_map_or power_left (last_or None l) 0)
-    (filter_map-append (change_on p) moves (m ∷ []) ∙ ap (λ (o : Option ContractChange). filter_map (change_on p) moves ++ cons_option o []) e)
+    (filter_map-append (change_on p) moves (m ∷ [])
+    ∙ ap (λ (o : Option ContractChange). filter_map (change_on p) moves ++ cons_option o []) e)
     ∙ ap (λ o. option_map_or power_left o 0) (last_or-append None (filter_map (change_on p) moves) c)
 
 pub change_here : (p : ℕ) (m : ℕ × Entry) → m.0 ≡ p → change_on p m ≡ m.1.contract
@@ -117,7 +127,8 @@ set-table f g n p v one lt others here =
     ap (λ i. get_or (set xs (p - 1) v) i d) place ∙ get_or-set_same xs (p - 1) v d inside ∙ sym here ∙ sym (at_g ∙ ap g same))
     (λ (other : k + 1 ≢ p).
     let place : k ≢ p - 1 = λ e. other (omega arith) in
-    get_or-set_other xs (p - 1) k v d place ∙ get_or-map-range_with_len f 1 n k (k + 1) d kn (omega arith) ∙ sym (others (k + 1) other) ∙ sym at_g)
+    get_or-set_other xs (p - 1) k v d place ∙ get_or-map-range_with_len f 1 n k (k + 1) d kn (omega arith) ∙ sym (others (k + 1) other)
+    ∙ sym at_g)
     (cases_eq (k + 1) p))
 
 -- a table that is the same at each port
@@ -156,7 +167,8 @@ module _ (f : ℕ → List ℕ) where
       ap (flat_map f) (range-more 0 n ∙ ap (λ k. range_with_len 0 n ++ k ∷ []) e) ∙ flat_map-append f (range_with_len 0 n) (n ∷ [])
       ∙ ap (λ v. flat_map f (range_with_len 0 n) ++ v) (append-nil (f n))
 
-  gap : (a k : ℕ) → ((v : ℕ) → a < v → v < suc a + k → f v ≡ []) → flat_map f (range_with_len 0 (suc a + k)) ≡ flat_map f (range_with_len 0 a) ++ f a
+  gap : (a k : ℕ) → ((v : ℕ) → a < v → v < suc a + k → f v ≡ []) →
+      flat_map f (range_with_len 0 (suc a + k)) ≡ flat_map f (range_with_len 0 a) ++ f a
   gap a zero silent =
       let e : suc a + 0 ≡ suc a = omega arith in
       ap (λ n. flat_map f (range_with_len 0 n)) e ∙ text-next a
@@ -167,7 +179,8 @@ module _ (f : ℕ → List ℕ) where
       ∙ append-nil (flat_map f (range_with_len 0 (suc a + k))) ∙ gap a k (λ v h l. silent v h (omega arith))
 
   -- the instants up to a later one, of which those between add nothing
-  pub text-to : (a b : ℕ) → a < b → ((v : ℕ) → a < v → v < b → f v ≡ []) → flat_map f (range_with_len 0 b) ≡ flat_map f (range_with_len 0 a) ++ f a
+  pub text-to : (a b : ℕ) → a < b → ((v : ℕ) → a < v → v < b → f v ≡ []) →
+      flat_map f (range_with_len 0 b) ≡ flat_map f (range_with_len 0 a) ++ f a
   text-to a b lt silent =
       let e : b ≡ suc a + (b - suc a) = omega arith in
       ap (λ n. flat_map f (range_with_len 0 n)) e ∙ gap a (b - suc a) (λ v h l. silent v h (omega arith))
@@ -191,17 +204,20 @@ pub at-due : (plan : Plan) (past : List Move) (m : Move) → GoesOn plan past m 
 unfolding entry_of
 at-due plan past m h = ap (λ (e : Entry). e.at) h.entry_is
 
-shifted : {X : Type 0} (P : List X → X → Type 0) (a b : List X) (x : X) (rest : List X) → EachAfter P ((a ++ b) ++ x ∷ []) rest → EachAfter P (a ++ (b ++ x ∷ [])) rest
+shifted : {X : Type 0} (P : List X → X → Type 0) (a b : List X) (x : X) (rest : List X) → EachAfter P ((a ++ b) ++ x ∷ []) rest →
+    EachAfter P (a ++ (b ++ x ∷ [])) rest
 shifted {X} P a b x rest h = subst (λ (l : List X). EachAfter P l rest) (append_assoc a b (x ∷ [])) h
 
-none-before : (plan : Plan) (past more : List Move) (x : Move) (ms : List Move) → EachAfter (GoesOn plan) ((past ++ x ∷ []) ++ more) ms → EachAfter IsInOrder ((past ++ x ∷ []) ++ more) ms →
+none-before : (plan : Plan) (past more : List Move) (x : Move) (ms : List Move) → EachAfter (GoesOn plan) ((past ++ x ∷ []) ++ more) ms →
+    EachAfter IsInOrder ((past ++ x ∷ []) ++ more) ms →
     NoneBefore x.due.time (map shown ms)
 none-before plan past more x [] chained ordered = tt
 none-before plan past more x (m ∷ ms) chained ordered =
     let later = in_order-member past more x m ordered.0 in
     let e = at-due plan ((past ++ x ∷ []) ++ more) m chained.0 in (
       omega (arith, later.by_time, e),
-      none-before plan past (more ++ m ∷ []) x ms (shifted (GoesOn plan) (past ++ x ∷ []) more m ms chained.1) (shifted IsInOrder (past ++ x ∷ []) more m ms ordered.1),
+      none-before plan past (more ++ m ∷ []) x ms (shifted (GoesOn plan) (past ++ x ∷ []) more m ms chained.1)
+          (shifted IsInOrder (past ++ x ∷ []) more m ms ordered.1),
     )
 
 rises : (plan : Plan) (past ms : List Move) → EachAfter (GoesOn plan) past ms → EachAfter IsInOrder past ms → Rising (map shown ms)
@@ -212,11 +228,13 @@ rises plan past (m ∷ ms) chained ordered =
     let none : List Move → Type 0 = λ l. EachAfter (GoesOn plan) l ms in
     let order : List Move → Type 0 = λ l. EachAfter IsInOrder l ms in (
       subst (λ t. NoneBefore t (map shown ms)) (sym e)
-          (none-before plan past [] m ms (subst none (sym (append-nil (past ++ m ∷ []))) chained.1) (subst order (sym (append-nil (past ++ m ∷ []))) ordered.1)),
+          (none-before plan past [] m ms (subst none (sym (append-nil (past ++ m ∷ []))) chained.1)
+          (subst order (sym (append-nil (past ++ m ∷ []))) ordered.1)),
       rises plan (past ++ m ∷ []) ms chained.1 ordered.1,
     )
 
-all-on_ports : (plan : Plan) (past ms : List Move) → count plan ≤ most_ports → EachAfter (GoesOn plan) past ms → AllByRecursion OnPort (map shown ms)
+all-on_ports : (plan : Plan) (past ms : List Move) → count plan ≤ most_ports → EachAfter (GoesOn plan) past ms →
+    AllByRecursion OnPort (map shown ms)
 all-on_ports plan past [] few chained = tt
 all-on_ports plan past (m ∷ ms) few chained =
     let k = chained.0.known in
@@ -253,13 +271,15 @@ module _ (moves : Moves) (i : ℕ) (m : ℕ × Entry) (e : slice_get moves i ≡
   -- where an entry is no sooner than a time, none from it on is
   pub none-before-here : (t : ℕ) → t ≤ m.1.at → InOrder moves → NoneBefore t (drop i moves)
   none-before-here t le h =
-      let more = all-mono (λ (x : ℕ × Entry). m.1.at ≤ x.1.at) (λ x. t ≤ x.1.at) (λ x k. omega arith) (drop (i + 1) moves) (none-before-next h) in
+      let more =
+      all-mono (λ (x : ℕ × Entry). m.1.at ≤ x.1.at) (λ x. t ≤ x.1.at) (λ x k. omega arith) (drop (i + 1) moves) (none-before-next h) in
       subst (NoneBefore t) (sym (drop-next moves i m e)) (le, more)
 
   pub none-later-next : (t : ℕ) → t ≤ m.1.at → NoneLater t (take i moves) → NoneLater m.1.at (take (i + 1) moves)
   none-later-next t le h =
       subst (NoneLater m.1.at) (sym (take-next moves i m e))
-      (all-append (λ x. x.1.at ≤ m.1.at) (take i moves) (m ∷ []) (all-mono (λ x. x.1.at ≤ t) (λ x. x.1.at ≤ m.1.at) (λ x k. omega arith) (take i moves) h) (omega arith, tt))
+      (all-append (λ x. x.1.at ≤ m.1.at) (take i moves) (m ∷ [])
+      (all-mono (λ x. x.1.at ≤ t) (λ x. x.1.at ≤ m.1.at) (λ x k. omega arith) (take i moves) h) (omega arith, tt))
 
 -- after the last entry there is none
 pub none-after : (moves : Moves) (i t : ℕ) → slice_get moves i ≡ None → NoneBefore t (drop i moves)
@@ -270,7 +290,8 @@ none-after moves i t e =
     ]
 
 -- none from an index on is before a time, where the entry there isn't
-pub none-before-some : (n : ℕ) (plan : Option Plan) (moves : Moves) (i t : ℕ) (m : ℕ × Entry) → slice_get moves i ≡ Some m → t ≤ m.1.at → AreEntriesOf n plan moves → NoneBefore t (drop i moves)
+pub none-before-some : (n : ℕ) (plan : Option Plan) (moves : Moves) (i t : ℕ) (m : ℕ × Entry) → slice_get moves i ≡ Some m → t ≤ m.1.at →
+    AreEntriesOf n plan moves → NoneBefore t (drop i moves)
 none-before-some n plan moves i t m here le are = none-before-here moves i m here t le (in-order n plan moves are)
 
 pub none-before-less : (t u : ℕ) (moves : Moves) → t ≤ u → NoneBefore u moves → NoneBefore t moves

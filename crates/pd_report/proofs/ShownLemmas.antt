@@ -1,5 +1,6 @@
 -- Facts on a show that is written entry by entry.
-use Rattle.std.proofs.Common.{◌≡◌, ℕ, ◌+◌, ◌<◌, ◌≤◌, List, [], ◌∷◌, ◌++◌, length, take, drop, get_or, Option, refl, sym, ap, ◌∙◌, append_assoc}
+use Rattle.std.proofs.Common.{◌≡◌, ℕ, ◌+◌, ◌<◌, ◌≤◌, List, [], ◌∷◌, ◌++◌, length, take, drop, get_or, Option, refl, sym, ap, ◌∙◌}
+use Rattle.std.proofs.Common.{append_assoc}
 use Rattle.std.specs.Prelude.{MatchOption, slice_get, Some, None}
 use Rattle.std.specs.List.{flat_map}
 use Rattle.std.proofs.lemmas.List.{append-nil, take-append-drop, drop_more, take_more, take_all}
@@ -23,7 +24,8 @@ module _ {X : Type 0} (f : X → List ℕ) (head : List ℕ) (xs : List X) where
   split_at : (i : ℕ) (x : X) → slice_get xs i ≡ Some x → xs ≡ take i xs ++ x ∷ drop (i + 1) xs
   split_at i x e =
       let within : i < length xs = slice_get_within xs i x e in
-      sym (take-append-drop i xs) ∙ ap (λ v. take i xs ++ v) (drop_more xs i x within ∙ ap (λ y. y ∷ drop (i + 1) xs) (get_or_from_slice_get xs i x x e))
+      sym (take-append-drop i xs)
+      ∙ ap (λ v. take i xs ++ v) (drop_more xs i x within ∙ ap (λ y. y ∷ drop (i + 1) xs) (get_or_from_slice_get xs i x x e))
 
   text_at : (i : ℕ) (x : X) → slice_get xs i ≡ Some x → flat_map f xs ≡ flat_map f (take i xs) ++ (f x ++ flat_map f (drop (i + 1) xs))
   text_at i x e = ap (flat_map f) (split_at i x e) ∙ flat_map-append f (take i xs) (x ∷ drop (i + 1) xs)
@@ -34,17 +36,20 @@ module _ {X : Type 0} (f : X → List ℕ) (head : List ℕ) (xs : List X) where
       ap (flat_map f) (take_more xs i x within ∙ ap (λ y. take i xs ++ y ∷ []) (get_or_from_slice_get xs i x x e))
       ∙ flat_map-append f (take i xs) (x ∷ []) ∙ ap (λ v. flat_map f (take i xs) ++ v) (append-nil (f x))
 
-  pub Walked-more : (i : ℕ) (a b c : Option (List ℕ)) (t : List ℕ) → Walked f head xs i a b → MatchOption (slice_get xs i) ⊥ (λ x. t ≡ f x) → Appends b c t → Walked f head xs (i + 1) a c
+  pub Walked-more : (i : ℕ) (a b c : Option (List ℕ)) (t : List ℕ) → Walked f head xs i a b →
+      MatchOption (slice_get xs i) ⊥ (λ x. t ≡ f x) → Appends b c t → Walked f head xs (i + 1) a c
   Walked-more i a b c t w h more = by_case (slice_get xs i) refl h
     where
       by_case : (o : Option X) → slice_get xs i ≡ o → MatchOption o ⊥ (λ x. t ≡ f x) → Walked f head xs (i + 1) a c
       by_case None e k = absurd k
       by_case (Some x) e k = record {
         appends =
-            rw (text_more i x e, sym (append_assoc head (flat_map f (take i xs)) (f x)), sym k) (Appends-trans a b c (head ++ flat_map f (take i xs)) t w.appends more);
+            rw (text_more i x e, sym (append_assoc head (flat_map f (take i xs)) (f x)), sym k)
+            (Appends-trans a b c (head ++ flat_map f (take i xs)) t w.appends more);
       }
 
-  pub Walked-part : (i : ℕ) (a b c : Option (List ℕ)) (t : List ℕ) → Walked f head xs i a b → MatchOption (slice_get xs i) ⊥ (λ x. t ≡ f x) → WrotePart b c t → WrotePart a c (head ++ flat_map f xs)
+  pub Walked-part : (i : ℕ) (a b c : Option (List ℕ)) (t : List ℕ) → Walked f head xs i a b →
+      MatchOption (slice_get xs i) ⊥ (λ x. t ≡ f x) → WrotePart b c t → WrotePart a c (head ++ flat_map f xs)
   Walked-part i a b c t w h part = by_case (slice_get xs i) refl h
     where
       by_case : (o : Option X) → slice_get xs i ≡ o → MatchOption o ⊥ (λ x. t ≡ f x) → WrotePart a c (head ++ flat_map f xs)
@@ -53,14 +58,16 @@ module _ {X : Type 0} (f : X → List ℕ) (head : List ℕ) (xs : List X) where
           let all : head ++ flat_map f xs ≡ (head ++ flat_map f (take i xs)) ++ (t ++ flat_map f (drop (i + 1) xs)) =
           ap (λ v. head ++ v) (text_at i x e ∙ ap (λ v. flat_map f (take i xs) ++ (v ++ flat_map f (drop (i + 1) xs))) (sym k))
           ∙ sym (append_assoc head (flat_map f (take i xs)) (t ++ flat_map f (drop (i + 1) xs))) in
-          rw all (WrotePart-after a b c (head ++ flat_map f (take i xs)) (t ++ flat_map f (drop (i + 1) xs)) w.appends (WrotePart-longer b c t (flat_map f (drop (i + 1) xs)) part))
+          rw all (WrotePart-after a b c (head ++ flat_map f (take i xs)) (t ++ flat_map f (drop (i + 1) xs)) w.appends
+          (WrotePart-longer b c t (flat_map f (drop (i + 1) xs)) part))
 
   -- the text of the element at an index
   pub Walked-at : (i : ℕ) (d : X) (t : List ℕ) → i < length xs → t ≡ f (get_or xs i d) → MatchOption (slice_get xs i) ⊥ (λ x. t ≡ f x)
   Walked-at i d t h e = rw (slice_get-get_or xs i d h) e
 
   -- one more element, where what is said of a write is said of the element there
-  pub Walked-wrote : (i : ℕ) (a b c : Option (List ℕ)) → Walked f head xs i a b → MatchOption (slice_get xs i) ⊥ (λ x. Appends b c (f x)) → Walked f head xs (i + 1) a c
+  pub Walked-wrote : (i : ℕ) (a b c : Option (List ℕ)) → Walked f head xs i a b → MatchOption (slice_get xs i) ⊥ (λ x. Appends b c (f x)) →
+      Walked f head xs (i + 1) a c
   Walked-wrote i a b c w h = by_case (slice_get xs i) refl h
     where
       by_case : (o : Option X) → slice_get xs i ≡ o → MatchOption o ⊥ (λ x. Appends b c (f x)) → Walked f head xs (i + 1) a c
@@ -69,10 +76,12 @@ module _ {X : Type 0} (f : X → List ℕ) (head : List ℕ) (xs : List X) where
 
   -- the same of a write that failed
   pub Walked-cut : (i : ℕ) (a b c : Option (List ℕ)) (fault : BenchFault) → Walked f head xs i a b →
-      MatchOption (slice_get xs i) ⊥ (λ x. (fault ≡ WriteFailed) × WrotePart b c (f x)) → (fault ≡ WriteFailed) × WrotePart a c (head ++ flat_map f xs)
+      MatchOption (slice_get xs i) ⊥ (λ x. (fault ≡ WriteFailed) × WrotePart b c (f x)) → (fault ≡ WriteFailed)
+      × WrotePart a c (head ++ flat_map f xs)
   Walked-cut i a b c fault w h = by_case (slice_get xs i) refl h
     where
-      by_case : (o : Option X) → slice_get xs i ≡ o → MatchOption o ⊥ (λ x. (fault ≡ WriteFailed) × WrotePart b c (f x)) → (fault ≡ WriteFailed) × WrotePart a c (head ++ flat_map f xs)
+      by_case : (o : Option X) → slice_get xs i ≡ o → MatchOption o ⊥ (λ x. (fault ≡ WriteFailed) × WrotePart b c (f x)) →
+          (fault ≡ WriteFailed) × WrotePart a c (head ++ flat_map f xs)
       by_case None e k = absurd k
       by_case (Some x) e k = (k.0, Walked-part i a b c (f x) w (rw e refl) k.1)
 

@@ -1,5 +1,6 @@
 -- What the entries tell of contracts is what the ports' contracts are.
-use Rattle.std.proofs.Common.{◌≡◌, ◌≢◌, ℕ, zero, suc, ◌+◌, ◌-◌, ◌<◌, ◌≤◌, Bool, true, false, cond, leb, ltb, ⊎_elim, inl, inr, List, [], ◌∷◌, ◌++◌, map, sum, Option, Some, None, refl, sym, ap, subst, ◌∙◌, arith, append_assoc}
+use Rattle.std.proofs.Common.{◌≡◌, ◌≢◌, ℕ, zero, suc, ◌+◌, ◌-◌, ◌<◌, ◌≤◌, Bool, true, false, cond, leb, ltb, ⊎_elim, inl, inr, List, []}
+use Rattle.std.proofs.Common.{◌∷◌, ◌++◌, map, sum, Option, Some, None, refl, sym, ap, subst, ◌∙◌, arith, append_assoc}
 use Rattle.std.specs.Prelude.{filter, codes, decimal}
 use Rattle.std.specs.List.{AllByRecursion, range_with_len}
 use Rattle.std.proofs.lemmas.Bool.{cases_eq, cases_lt, le-leb, lt-leb, lt-ltb, le-ltb, leb-true, ltb-true, ne_eqb}
@@ -40,7 +41,8 @@ told_start : (plan : Plan) → Told plan []
 unfolding power_on
 told_start plan p = sym (contracts_are_told.at_start (settings_of plan p))
 
-entry_told : (plan : Plan) (past : List Move) (m : Move) → GoesOn plan past m → power_then m.entry.contract (contract_power (standing plan past m.port).state) ≡ contract_power (after plan m)
+entry_told : (plan : Plan) (past : List Move) (m : Move) → GoesOn plan past m →
+    power_then m.entry.contract (contract_power (standing plan past m.port).state) ≡ contract_power (after plan m)
 entry_told plan past m goes =
     let s = settings_of plan m.port in
     let e : m.entry.contract ≡ (entry_of s m.before m.due m.answer).contract = ap (λ (x : Entry). x.contract) goes.entry_is in
@@ -55,11 +57,13 @@ none_told p moves m e = change-then p moves m None e
 
 told_step : (plan : Plan) (past : List Move) (m : Move) → Told plan past → GoesOn plan past m → Told plan (past ++ m ∷ [])
 told_step plan past m told goes p =
-    let more : power_on (map shown (past ++ m ∷ [])) (p + 1) ≡ power_on (map shown past ++ shown m ∷ []) (p + 1) = ap (λ (l : Moves). power_on l (p + 1)) (map-append shown past (m ∷ [])) in
+    let more : power_on (map shown (past ++ m ∷ [])) (p + 1) ≡ power_on (map shown past ++ shown m ∷ []) (p + 1) =
+    ap (λ (l : Moves). power_on l (p + 1)) (map-append shown past (m ∷ [])) in
     ⊎_elim
     (λ (same : m.port ≡ p).
     let here : m.port + 1 ≡ p + 1 = omega arith in
-    let before : power_on (map shown past) (p + 1) ≡ contract_power (standing plan past m.port).state = told p ∙ ap (λ k. contract_power (standing plan past k).state) (sym same) in
+    let before : power_on (map shown past) (p + 1) ≡ contract_power (standing plan past m.port).state =
+    told p ∙ ap (λ k. contract_power (standing plan past k).state) (sym same) in
     more ∙ change-then (p + 1) (map shown past) (shown m) m.entry.contract (change_here (p + 1) (shown m) here)
     ∙ ap (power_then m.entry.contract) before
     ∙ entry_told plan past m goes
@@ -81,11 +85,13 @@ told_all plan past (m ∷ ms) told goes =
 abbrev moves_after : ℕ → List Move → List Move
 moves_after t moves = filter (λ m. ltb t m.due.time) moves
 
-shifted : {X : Type 0} (P : List X → X → Type 0) (a b : List X) (x : X) (rest : List X) → EachAfter P ((a ++ b) ++ x ∷ []) rest → EachAfter P (a ++ (b ++ x ∷ [])) rest
+shifted : {X : Type 0} (P : List X → X → Type 0) (a b : List X) (x : X) (rest : List X) → EachAfter P ((a ++ b) ++ x ∷ []) rest →
+    EachAfter P (a ++ (b ++ x ∷ [])) rest
 shifted {X} P a b x rest h = subst (λ (l : List X). EachAfter P l rest) (append_assoc a b (x ∷ [])) h
 
 -- none of the moves that follow one is earlier
-follow : (past more : List Move) (x : Move) (ms : List Move) → EachAfter IsInOrder ((past ++ x ∷ []) ++ more) ms → AllByRecursion (λ m. x.due.time ≤ m.due.time) ms
+follow : (past more : List Move) (x : Move) (ms : List Move) → EachAfter IsInOrder ((past ++ x ∷ []) ++ more) ms →
+    AllByRecursion (λ m. x.due.time ≤ m.due.time) ms
 follow past more x [] ordered = tt
 follow past more x (m ∷ ms) ordered =
     let later = in_order-member past more x m ordered.0 in
@@ -101,20 +107,25 @@ all_after : (t u : ℕ) (ms : List Move) → t < u → AllByRecursion (λ m. u �
 all_after t u [] lt h = refl
 all_after t u (m ∷ ms) lt h =
     let k = h.0 in
-    ap (λ b. cond b (m ∷ moves_after t ms) (moves_after t ms)) (lt-ltb t m.due.time (omega arith)) ∙ ap (λ v. m ∷ v) (all_after t u ms lt h.1)
+    ap (λ b. cond b (m ∷ moves_after t ms) (moves_after t ms)) (lt-ltb t m.due.time (omega arith))
+    ∙ ap (λ v. m ∷ v) (all_after t u ms lt h.1)
 
 parted : (t : ℕ) (past ms : List Move) → EachAfter IsInOrder past ms → ms ≡ moves_up_to t ms ++ moves_after t ms
 parted t past [] ordered = refl
 parted t past (m ∷ ms) ordered =
     elim (cases_lt t m.due.time) [
       | inl late ↦
-          let low : AllByRecursion (λ x. m.due.time ≤ x.due.time) ms = follow past [] m ms (subst (λ (l : List Move). EachAfter IsInOrder l ms) (sym (append-nil (past ++ m ∷ []))) ordered.1) in
+          let low : AllByRecursion (λ x. m.due.time ≤ x.due.time) ms =
+          follow past [] m ms (subst (λ (l : List Move). EachAfter IsInOrder l ms) (sym (append-nil (past ++ m ∷ []))) ordered.1) in
           let all : AllByRecursion (λ x. m.due.time ≤ x.due.time) (m ∷ ms) = (omega arith, low) in
           sym (ap (λ v. v ++ moves_after t (m ∷ ms)) (none_up_to t m.due.time (m ∷ ms) late all) ∙ all_after t m.due.time (m ∷ ms) late all)
       | inr soon ↦
-          let first : moves_up_to t (m ∷ ms) ≡ m ∷ moves_up_to t ms = ap (λ b. cond b (m ∷ moves_up_to t ms) (moves_up_to t ms)) (le-leb m.due.time t soon) in
-          let second : moves_after t (m ∷ ms) ≡ moves_after t ms = ap (λ b. cond b (m ∷ moves_after t ms) (moves_after t ms)) (le-ltb t m.due.time soon) in
-          ap (λ v. m ∷ v) (parted t (past ++ m ∷ []) ms ordered.1) ∙ sym (ap (λ v. v ++ moves_after t (m ∷ ms)) first ∙ ap (λ v. m ∷ (moves_up_to t ms ++ v)) second)
+          let first : moves_up_to t (m ∷ ms) ≡ m ∷ moves_up_to t ms =
+          ap (λ b. cond b (m ∷ moves_up_to t ms) (moves_up_to t ms)) (le-leb m.due.time t soon) in
+          let second : moves_after t (m ∷ ms) ≡ moves_after t ms =
+          ap (λ b. cond b (m ∷ moves_after t ms) (moves_after t ms)) (le-ltb t m.due.time soon) in
+          ap (λ v. m ∷ v) (parted t (past ++ m ∷ []) ms ordered.1)
+          ∙ sym (ap (λ v. v ++ moves_after t (m ∷ ms)) first ∙ ap (λ v. m ∷ (moves_up_to t ms ++ v)) second)
     ]
 
 ends_there : (t : ℕ) (ms : List Move) → EndsBetween t (moves_up_to t ms) (moves_after t ms)
@@ -128,7 +139,8 @@ some_first plan past [] rest goes = tt
 some_first plan past (m ∷ ms) rest goes = (goes.0, some_first plan (past ++ m ∷ []) ms rest goes.1)
 
 -- what is shown of them are the entries up to the time
-shown_up_to : (plan : Plan) (t : ℕ) (past ms : List Move) → EachAfter (GoesOn plan) past ms → up_to t (map shown ms) ≡ map shown (moves_up_to t ms)
+shown_up_to : (plan : Plan) (t : ℕ) (past ms : List Move) → EachAfter (GoesOn plan) past ms →
+    up_to t (map shown ms) ≡ map shown (moves_up_to t ms)
 shown_up_to plan t past [] goes = refl
 shown_up_to plan t past (m ∷ ms) goes =
     let time : leb m.entry.at t ≡ leb m.due.time t = ap (λ k. leb k t) (at-due plan past m goes.0) in
@@ -144,11 +156,13 @@ shown_up_to plan t past (m ∷ ms) goes =
 -- ---- the sum
 
 -- a port that isn't there has no move
-absent : (plan : Plan) (past ms : List Move) (s : Standing) (p : ℕ) → count plan ≤ p → EachAfter (GoesOn plan) past ms → standing_from plan s ms p ≡ s
+absent : (plan : Plan) (past ms : List Move) (s : Standing) (p : ℕ) → count plan ≤ p → EachAfter (GoesOn plan) past ms →
+    standing_from plan s ms p ≡ s
 absent plan past [] s p high goes = refl
 absent plan past (m ∷ ms) s p high goes =
     let known = goes.0.known in
-    ap (λ b. standing_from plan (cond b (moved plan s m) s) ms p) (ne_eqb m.port p (λ e. omega arith)) ∙ absent plan (past ++ m ∷ []) ms s p high goes.1
+    ap (λ b. standing_from plan (cond b (moved plan s m) s) ms p) (ne_eqb m.port p (λ e. omega arith))
+    ∙ absent plan (past ++ m ∷ []) ms s p high goes.1
 
 sum-cons : (x : ℕ) (xs : List ℕ) → sum (x ∷ xs) ≡ x + sum xs
 sum-cons x xs = sum_by-cons (λ n. n) x xs
@@ -160,7 +174,8 @@ sum_none f a (suc n) none =
     omega (arith, sum-cons (f a) (map f (range_with_len (a + 1) n)), none a (omega arith))
 
 -- a sum over more places, one place higher, of which the last are nothing
-sum_more : (f g : ℕ → ℕ) (a c n : ℕ) → c ≤ n → ((k : ℕ) → f (k + 1) ≡ g k) → ((k : ℕ) → a + c ≤ k → g k ≡ 0) → sum (map f (range_with_len (a + 1) n)) ≡ sum (map g (range_with_len a c))
+sum_more : (f g : ℕ → ℕ) (a c n : ℕ) → c ≤ n → ((k : ℕ) → f (k + 1) ≡ g k) → ((k : ℕ) → a + c ≤ k → g k ≡ 0) →
+    sum (map f (range_with_len (a + 1) n)) ≡ sum (map g (range_with_len a c))
 sum_more f g a zero n le same none =
     sum_none f (a + 1) n (λ k high.
     let up : k ≡ (k - 1) + 1 = omega arith in
@@ -174,10 +189,14 @@ sum_more f g a (suc c) (suc n) le same none =
 
 module _ (n : ℕ) (plan : Plan) (moves : List Move) (t : ℕ) (is : IsPlan n plan) (run : Run plan moves) where
   goes_on : EachAfter (GoesOn plan) [] (moves_up_to t moves)
-  goes_on = some_first plan [] (moves_up_to t moves) (moves_after t moves) (subst (EachAfter (GoesOn plan) []) (parted t [] moves run.ordered) run.chained)
+  goes_on =
+      some_first plan [] (moves_up_to t moves) (moves_after t moves)
+      (subst (EachAfter (GoesOn plan) []) (parted t [] moves run.ordered) run.chained)
 
   on_port : (p : ℕ) → power_on (up_to t (map shown moves)) (p + 1) ≡ recorded_power plan moves t p
-  on_port p = ap (λ (l : Moves). power_on l (p + 1)) (shown_up_to plan t [] moves run.chained) ∙ told_all plan [] (moves_up_to t moves) (told_start plan) goes_on p
+  on_port p =
+      ap (λ (l : Moves). power_on l (p + 1)) (shown_up_to plan t [] moves run.chained)
+      ∙ told_all plan [] (moves_up_to t moves) (told_start plan) goes_on p
 
   none_there : (p : ℕ) → count plan ≤ p → recorded_power plan moves t p ≡ 0
   none_there p high =
@@ -188,19 +207,23 @@ module _ (n : ℕ) (plan : Plan) (moves : List Move) (t : ℕ) (is : IsPlan n pl
   unfolding contracts_at
   in_all =
       let few : count plan ≤ most_ports = omega (arith, is.settings_count, is.few_ports) in
-      sum_more (power_on (up_to t (map shown moves))) (recorded_power plan moves t) 0 (count plan) most_ports few on_port (λ k high. none_there k (omega arith))
+      sum_more (power_on (up_to t (map shown moves))) (recorded_power plan moves t) 0 (count plan) most_ports few on_port
+      (λ k high. none_there k (omega arith))
 
 -- the line shows the sum, and what it leaves of the budget
 line_is : (plan : Plan) (entries : Moves) (t sums : ℕ) → contracts_at entries t ≡ sums → has_line plan entries t ≡ true →
-    instant_text plan entries t ≡ right t ++ codes " contracts " ++ decimal sums ++ codes " margin " ++ decimal (force plan t - sums) ++ codes "\n"
+    instant_text plan entries t ≡ right t ++ codes " contracts " ++ decimal sums ++ codes " margin " ++ decimal (force plan t - sums)
+    ++ codes "\n"
 unfolding instant_text margin_text
 line_is plan entries t sums same there =
     ap (λ b. cond b (margin_text t (contracts_at entries t) (force plan t)) []) there ∙ ap (λ k. margin_text t k (force plan t)) same
 
-true_at : (n : ℕ) (plan : Plan) (moves : List Move) (t : ℕ) → IsPlan n plan → Run plan moves → IsWithin plan moves → t ≤ plan.end → TellsTrue plan moves (map shown moves) t
+true_at : (n : ℕ) (plan : Plan) (moves : List Move) (t : ℕ) → IsPlan n plan → Run plan moves → IsWithin plan moves → t ≤ plan.end →
+    TellsTrue plan moves (map shown moves) t
 true_at n plan moves t is run within soon =
     let sums = in_all n plan moves t is run in
-    let fits : recorded_contracts plan moves t ≤ force plan t = within.contracts_at_ends (moves_up_to t moves) (moves_after t moves) t (parted t [] moves run.ordered) (ends_there t moves) soon in
+    let fits : recorded_contracts plan moves t ≤ force plan t =
+    within.contracts_at_ends (moves_up_to t moves) (moves_after t moves) t (parted t [] moves run.ordered) (ends_there t moves) soon in
     record {
       on_ports = λ p lt. on_port n plan moves t is run p;
       in_all = sums;
@@ -212,4 +235,5 @@ true_at n plan moves t is run within soon =
 
 pub margins_true : MarginsAreTrue
 margins_true n plan entries is shows t soon =
-    subst (λ (l : Moves). TellsTrue plan shows.moves l t) (sym shows.entries_are) (true_at n plan shows.moves t is shows.safe.run shows.safe.within soon)
+    subst (λ (l : Moves). TellsTrue plan shows.moves l t) (sym shows.entries_are)
+    (true_at n plan shows.moves t is shows.safe.run shows.safe.within soon)

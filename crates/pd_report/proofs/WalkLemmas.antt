@@ -1,5 +1,6 @@
 -- A walk over the entries of a run and the changes of the budget, step by step.
-use Rattle.std.proofs.Common.{◌≡◌, ℕ, zero, suc, ◌+◌, ◌-◌, ◌<◌, ◌≤◌, Bool, true, false, cond, eqb, List, [], ◌∷◌, ◌++◌, length, map, take, drop, replicate}
+use Rattle.std.proofs.Common.{◌≡◌, ℕ, zero, suc, ◌+◌, ◌-◌, ◌<◌, ◌≤◌, Bool, true, false, cond, eqb, List, [], ◌∷◌, ◌++◌, length, map, take}
+use Rattle.std.proofs.Common.{drop, replicate}
 use Rattle.std.proofs.Common.{Option, Some, None, Result, refl, sym, ap, subst, ◌∙◌, arith, append_assoc}
 use Rattle.std.specs.Prelude.{IfSome, sum, slice_get, ◌||◌, ◌&&◌, not, Ok, Err}
 use Rattle.std.specs.List.{AllByRecursion, flat_map, range_with_len}
@@ -15,7 +16,8 @@ use Rattle.pd_device.specs.Device.{Writes, WrotePart}
 use Rattle.pd_device.proofs.DeviceLemmas.{WrotePart-after, WrotePart-longer}
 use Rattle.pd_report.specs.declared.walk.Standing.{Standing}
 use Rattle.pd_report.specs.declared.walk.Walk.{Walk}
-use Rattle.pd_report.specs.Margins.{most_ports, power_on, up_to, contracts_at, stays_at, has_line, instant_text, margin_text, margins_head, margins_text}
+use Rattle.pd_report.specs.Margins.{most_ports, power_on, up_to, contracts_at, stays_at, has_line, instant_text, margin_text, margins_head}
+use Rattle.pd_report.specs.Margins.{margins_text}
 use Rattle.pd_report.specs.Walk.{standing_at, standing_before, standing_of, noted, noted_walk, line_after}
 use Rattle.pd_report.specs.Walk.{KnowsBudget, GoesOnTo, NoneLater, NoneBefore, IsWalk, left_of, text_before}
 use Rattle.pd_report.proofs.MarginLemmas.{Moves, InOrder, all-mono, take-next, up_to-is, powers-start, powers-more, text-next, text-to}
@@ -30,7 +32,8 @@ flipped true x = refl
 flipped false x = refl
 
 -- where neither the sum nor the budget changes no line stands
-silent_at : (plan : Plan) (moves : Moves) (t : ℕ) → 0 < t → contracts_at moves (t - 1) ≡ contracts_at moves t → force plan (t - 1) ≡ force plan t → instant_text plan moves t ≡ []
+silent_at : (plan : Plan) (moves : Moves) (t : ℕ) → 0 < t → contracts_at moves (t - 1) ≡ contracts_at moves t →
+    force plan (t - 1) ≡ force plan t → instant_text plan moves t ≡ []
 unfolding instant_text has_line stays_at
 silent_at plan moves t some sums budgets =
     let x = margin_text t (contracts_at moves t) (force plan t) in
@@ -50,16 +53,19 @@ line_is : (plan : Plan) (moves : Moves) (t c : ℕ) (o : Option Standing) → o 
     line_after o t (standing c (force plan t)) ≡ instant_text plan moves t
 unfolding instant_text has_line standing
 line_is plan moves t c o before sums =
-    ap (λ x. line_after o t (standing x (force plan t))) sums ∙ ap (λ x. line_after x t (standing_at plan moves t)) before ∙ line_by plan moves t (eqb t 0)
+    ap (λ x. line_after o t (standing x (force plan t))) sums ∙ ap (λ x. line_after x t (standing_at plan moves t)) before
+    ∙ line_by plan moves t (eqb t 0)
 
 -- the sum at a time, from the powers after the entries up to it
-sum_is : (moves : Moves) (i t : ℕ) (powers : List ℕ) → powers ≡ map (power_on (take i moves)) (range_with_len 1 most_ports) → up_to t moves ≡ take i moves →
+sum_is : (moves : Moves) (i t : ℕ) (powers : List ℕ) → powers ≡ map (power_on (take i moves)) (range_with_len 1 most_ports) →
+    up_to t moves ≡ take i moves →
     sum powers ≡ contracts_at moves t
 unfolding contracts_at
 sum_is moves i t powers e u = ap sum e ∙ ap (λ (l : Moves). sum (map (power_on l) (range_with_len 1 most_ports))) (sym u)
 
 -- the instant at which a walk stands has its line, once all later entries are later
-last_line-is : (plan : Plan) (moves : Moves) (walk : Walk) → IsWalk plan moves walk → AllByRecursion (λ m. walk.at < m.1.at) (drop walk.seen moves) →
+last_line-is : (plan : Plan) (moves : Moves) (walk : Walk) → IsWalk plan moves walk →
+    AllByRecursion (λ m. walk.at < m.1.at) (drop walk.seen moves) →
     line_after walk.before walk.at (standing_of walk) ≡ instant_text plan moves walk.at
 unfolding standing
 last_line-is plan moves walk w ahead =
@@ -68,7 +74,8 @@ last_line-is plan moves walk w ahead =
     (sum_is moves walk.seen walk.at walk.powers w.powers_are (up_to-is moves walk.seen walk.at w.past ahead))
 
 -- between the instant of a walk and the next entry no line stands while the budget stays
-silent_between : (plan : Plan) (moves : Moves) (i a b : ℕ) → ((v : ℕ) → a < v → v < b → force plan (v - 1) ≡ force plan v) → NoneLater a (take i moves) →
+silent_between : (plan : Plan) (moves : Moves) (i a b : ℕ) → ((v : ℕ) → a < v → v < b → force plan (v - 1) ≡ force plan v) →
+    NoneLater a (take i moves) →
     NoneBefore b (drop i moves) → (v : ℕ) → a < v → v < b → instant_text plan moves v ≡ []
 unfolding contracts_at
 silent_between plan moves i a b steady past ahead v low high =
@@ -111,9 +118,11 @@ module _ (plan : Plan) (moves : Moves) (walk : Walk) (at : ℕ) (w : IsWalk plan
   walk-on new soon goes =
       let P : ℕ → ℕ → Type 0 = λ t k. NoneLater t (take k moves) in
       let A : ℕ → ℕ → Type 0 = λ t k. NoneBefore t (drop k moves) in
-      let past : P at walk.seen = all-mono (λ (x : ℕ × Entry). x.1.at ≤ walk.at) (λ x. x.1.at ≤ at) (λ x h. omega arith) (take walk.seen moves) w.past in
+      let past : P at walk.seen =
+      all-mono (λ (x : ℕ × Entry). x.1.at ≤ walk.at) (λ x. x.1.at ≤ at) (λ x h. omega arith) (take walk.seen moves) w.past in
       record {
-        powers_are = goes.powers_are ∙ w.powers_are ∙ ap (λ k. map (power_on (take k moves)) (range_with_len 1 most_ports)) (sym goes.seen_is);
+        powers_are =
+            goes.powers_are ∙ w.powers_are ∙ ap (λ k. map (power_on (take k moves)) (range_with_len 1 most_ports)) (sym goes.seen_is);
         some_are_seen = omega (arith, goes.seen_is, w.some_are_seen);
         past = subst (λ t. P t new.seen) (sym goes.at_is) (subst (P at) (sym goes.seen_is) past);
         ahead = subst (λ t. A t new.seen) (sym goes.at_is) (subst (A at) (sym goes.seen_is) ahead);
@@ -123,14 +132,16 @@ module _ (plan : Plan) (moves : Moves) (walk : Walk) (at : ℕ) (w : IsWalk plan
       }
 
   -- what was written before that instant
-  pub text-on : (new : Walk) → GoesOnTo plan walk at new → text_before plan moves new.at ≡ text_before plan moves walk.at ++ line_after walk.before walk.at (standing_of walk)
+  pub text-on : (new : Walk) → GoesOnTo plan walk at new →
+      text_before plan moves new.at ≡ text_before plan moves walk.at ++ line_after walk.before walk.at (standing_of walk)
   text-on new goes =
       ap (text_before plan moves) goes.at_is
       ∙ text-to (instant_text plan moves) walk.at at later (silent_between plan moves walk.seen walk.at at same_budget w.past ahead)
       ∙ ap (λ v. text_before plan moves walk.at ++ v) (sym (last_line-is plan moves walk w all_later))
 
 -- an instant fewer is left
-pub less-on : (plan : Plan) (moves : Moves) (walk : Walk) (at : ℕ) (new : Walk) → walk.at ≤ plan.end → GoesOnTo plan walk at new → left_of plan moves new < left_of plan moves walk
+pub less-on : (plan : Plan) (moves : Moves) (walk : Walk) (at : ℕ) (new : Walk) → walk.at ≤ plan.end → GoesOnTo plan walk at new →
+    left_of plan moves new < left_of plan moves walk
 less-on plan moves walk at new soon goes = omega (arith, goes.later, goes.at_is, goes.seen_is)
 
 -- ---- a walk that sees one more entry of its instant
@@ -146,7 +157,9 @@ module _ (plan : Plan) (moves : Moves) (walk : Walk) (m : ℕ × Entry) (w : IsW
       let P : ℕ → Type 0 = λ t. NoneLater t (take (walk.seen + 1) moves) in
       let A : ℕ → Type 0 = λ t. NoneBefore t (drop (walk.seen + 1) moves) in
       record {
-        powers_are = ap (λ l. noted l m.0 m.1.contract) w.powers_are ∙ powers-more (take walk.seen moves) m most_ports m.1.contract refl known.0 known.1
+        powers_are =
+            ap (λ l. noted l m.0 m.1.contract) w.powers_are
+            ∙ powers-more (take walk.seen moves) m most_ports m.1.contract refl known.0 known.1
             ∙ ap (λ (l : Moves). map (power_on l) (range_with_len 1 most_ports)) (sym (take-next moves walk.seen m here));
         some_are_seen = let within = slice_get_within moves walk.seen m here in omega arith;
         past = subst P same_time (none-later-next moves walk.seen m here walk.at (omega (arith, same_time)) w.past);
@@ -165,7 +178,8 @@ all_from-zero : (moves : Moves) → NoneBefore 0 moves
 all_from-zero [] = tt
 all_from-zero (m ∷ ms) = (omega arith, all_from-zero ms)
 
-pub walk-start : (plan : Plan) (moves : Moves) (walk : Walk) → walk.seen ≡ 0 → walk.powers ≡ replicate most_ports 0 → walk.at ≡ 0 → walk.before ≡ None → KnowsBudget plan walk →
+pub walk-start : (plan : Plan) (moves : Moves) (walk : Walk) → walk.seen ≡ 0 → walk.powers ≡ replicate most_ports 0 → walk.at ≡ 0 →
+    walk.before ≡ None → KnowsBudget plan walk →
     IsWalk plan moves walk
 walk-start plan moves walk seen powers at before knows =
     let P : ℕ → ℕ → Type 0 = λ t k. NoneLater t (take k moves) in
@@ -181,7 +195,8 @@ walk-start plan moves walk seen powers at before knows =
     }
 
 -- once the walk is past the end, the text is whole
-pub text-whole : (plan : Plan) (moves : Moves) (walk : Walk) → IsWalk plan moves walk → plan.end < walk.at → margins_text plan moves ≡ margins_head ++ text_before plan moves walk.at
+pub text-whole : (plan : Plan) (moves : Moves) (walk : Walk) → IsWalk plan moves walk → plan.end < walk.at →
+    margins_text plan moves ≡ margins_head ++ text_before plan moves walk.at
 unfolding margins_text
 text-whole plan moves walk w past =
     let e : plan.end + 1 ≡ walk.at = omega (arith, w.in_time) in
@@ -194,8 +209,11 @@ more_text f a zero =
     ([], ap (λ n. flat_map f (range_with_len 0 n)) e ∙ sym (append-nil (flat_map f (range_with_len 0 a))))
 more_text f a (suc k) =
     let e : a + suc k ≡ suc (a + k) = omega arith in
-    let r = more_text f a k in
-    (r.0 ++ f (a + k), ap (λ n. flat_map f (range_with_len 0 n)) e ∙ text-next f (a + k) ∙ ap (λ v. v ++ f (a + k)) r.1 ∙ append_assoc (flat_map f (range_with_len 0 a)) r.0 (f (a + k)))
+    let r = more_text f a k in (
+      r.0 ++ f (a + k),
+      ap (λ n. flat_map f (range_with_len 0 n)) e ∙ text-next f (a + k) ∙ ap (λ v. v ++ f (a + k)) r.1
+          ∙ append_assoc (flat_map f (range_with_len 0 a)) r.0 (f (a + k)),
+    )
 
 -- a line that was cut short
 pub cut-line : (plan : Plan) (moves : Moves) (a b c : Option (List ℕ)) (t u : ℕ) (line : List ℕ) → u ≤ plan.end + 1 →
@@ -207,10 +225,14 @@ cut-line plan moves a b c t u line le e done part =
     let n : u + ((plan.end + 1) - u) ≡ plan.end + 1 = omega arith in
     let whole : margins_head ++ text_before plan moves (plan.end + 1) ≡ ((margins_head ++ text_before plan moves t) ++ line) ++ r.0 =
     ap (λ v. margins_head ++ v) (ap (text_before plan moves) (sym n) ∙ r.1 ∙ ap (λ v. v ++ r.0) e)
-    ∙ sym (append_assoc margins_head (text_before plan moves t ++ line) r.0) ∙ ap (λ v. v ++ r.0) (sym (append_assoc margins_head (text_before plan moves t) line)) in
-    rw whole (WrotePart-longer a c ((margins_head ++ text_before plan moves t) ++ line) r.0 (WrotePart-after a b c (margins_head ++ text_before plan moves t) line done part))
+    ∙ sym (append_assoc margins_head (text_before plan moves t ++ line) r.0)
+    ∙ ap (λ v. v ++ r.0) (sym (append_assoc margins_head (text_before plan moves t) line)) in
+    rw whole
+    (WrotePart-longer a c ((margins_head ++ text_before plan moves t) ++ line) r.0
+    (WrotePart-after a b c (margins_head ++ text_before plan moves t) line done part))
 
-pub written-more : (plan : Plan) (moves : Moves) (a b c : Option (List ℕ)) (t u : ℕ) (line : List ℕ) → text_before plan moves u ≡ text_before plan moves t ++ line →
+pub written-more : (plan : Plan) (moves : Moves) (a b c : Option (List ℕ)) (t u : ℕ) (line : List ℕ) →
+    text_before plan moves u ≡ text_before plan moves t ++ line →
     Appends a b (margins_head ++ text_before plan moves t) → Appends b c line → Appends a c (margins_head ++ text_before plan moves u)
 written-more plan moves a b c t u line e done more =
     let whole : margins_head ++ text_before plan moves u ≡ (margins_head ++ text_before plan moves t) ++ line =
@@ -218,6 +240,7 @@ written-more plan moves a b c t u line e done more =
     rw whole (Appends-trans a b c (margins_head ++ text_before plan moves t) line done more)
 
 -- a text that goes on
-pub Writes-after : {T : Type 0} (a b c : Option (List ℕ)) (r : Result T BenchFault) (text more : List ℕ) → Appends a b text → Writes b c r more → Writes a c r (text ++ more)
+pub Writes-after : {T : Type 0} (a b c : Option (List ℕ)) (r : Result T BenchFault) (text more : List ℕ) → Appends a b text →
+    Writes b c r more → Writes a c r (text ++ more)
 Writes-after a b c (Ok x) text more first w = Appends-trans a b c text more first w
 Writes-after a b c (Err fault) text more first w = (w.0, WrotePart-after a b c text more first w.1)

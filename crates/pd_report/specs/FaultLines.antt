@@ -3,7 +3,8 @@ use Rattle.std.specs.Prelude.{ℕ, List, ◌++◌, codes, decimal}
 use Rattle.std.specs.List.{flat_map}
 use Rattle.pd_header.specs.Kinds.{name_of}
 use Rattle.pd_line.specs.declared.notes.Fault.{Fault}
-use Rattle.pd_line.specs.declared.notes.Fault.TheVariants.{Ignored, NoGoodCrc, SoftReset, HardReset, SourceDisabled, SinkDisabled, CableUnread, Mismatch, Reject, Wait}
+use Rattle.pd_line.specs.declared.notes.Fault.TheVariants.{Ignored, NoGoodCrc, SoftReset, HardReset, SourceDisabled, SinkDisabled}
+use Rattle.pd_line.specs.declared.notes.Fault.TheVariants.{CableUnread, Mismatch, Reject, Wait}
 use Rattle.pd_port.specs.declared.entry.Entry.{Entry}
 use Rattle.pd_report.specs.Report.{side_text}
 use Rattle.pd_report.specs.Line.{at_port}

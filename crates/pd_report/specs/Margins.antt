@@ -1,6 +1,7 @@
 -- The text of margins: what the contracts take of the shared budget over time, and what they leave of it. This product's own
 -- format, as docs/FORMATS.md has it under Margins.
-use Rattle.std.specs.Prelude.{ℕ, ◌+◌, ◌-◌, ◌*◌, ◌==◌, Bool, ◌||◌, ◌&&◌, not, nat_le, if◌then◌else◌, List, [], ◌++◌, filter, map, sum, Option, None, codes, decimal}
+use Rattle.std.specs.Prelude.{ℕ, ◌+◌, ◌-◌, ◌*◌, ◌==◌, Bool, ◌||◌, ◌&&◌, not, nat_le, if◌then◌else◌, List, [], ◌++◌, filter, map, sum}
+use Rattle.std.specs.Prelude.{Option, None, codes, decimal}
 use Rattle.std.specs.List.{flat_map, filter_map, last_or, range_with_len}
 use Rattle.std.specs.Option.{option_map_or}
 use Rattle.pd_port.specs.declared.entry.ContractChange.{ContractChange}

@@ -39,7 +39,8 @@ fate_text (Damaged d) = codes " damaged"
 -- ID, and the codes, changed where the packet is damaged and all of them where it is lost.
 abbrev pub packet_text : ℕ → Side → Contents → Fate → List ℕ
 packet_text at side packet fate =
-    right at ++ codes " " ++ side_text side ++ set_text packet.channel ++ name_of (kind_of_header packet.header) ++ codes " " ++ decimal (id_of packet.header)
+    right at ++ codes " " ++ side_text side ++ set_text packet.channel ++ name_of (kind_of_header packet.header) ++ codes " "
+    ++ decimal (id_of packet.header)
     ++ codes ":" ++ flat_map code_text (shown packet fate) ++ fate_text fate ++ codes "\n"
 
 -- the line of a Hard Reset that starts: the time right in nine places, the side, and the four codes

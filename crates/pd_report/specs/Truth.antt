@@ -29,7 +29,8 @@ pub record TellsTrue (plan : Plan) (moves : List Move) (entries : List (ℕ × E
   pub left : ℕ
   pub adds : recorded_contracts plan moves t + left ≡ force plan t
   pub line : has_line plan entries t ≡ true →
-      instant_text plan entries t ≡ right t ++ codes " contracts " ++ decimal (recorded_contracts plan moves t) ++ codes " margin " ++ decimal left ++ codes "\n"
+      instant_text plan entries t ≡ right t ++ codes " contracts " ++ decimal (recorded_contracts plan moves t) ++ codes " margin "
+      ++ decimal left ++ codes "\n"
 
 -- So it is at each instant of a run, up to its end.
 abbrev pub MarginsAreTrue : Type 0

@@ -2,7 +2,8 @@
 
 ghost use Rattle.std.specs.Prelude.{◌≡◌, ◌+◌, ◌<◌, ◌≤◌, ◌++◌, List, ℕ, [], length, decimal, codes, MatchOption, slice_get};
 ghost use Rattle.pd_device.specs.Device.{CountsFailure, Writes};
-ghost use Rattle.pd_report.specs.Report.{head_text, line_of, start_text, packet_text, hard_reset_text, side_text, set_text, fate_text, transcript_text};
+ghost use Rattle.pd_report.specs.Report.{head_text, line_of, start_text, packet_text, hard_reset_text, side_text, set_text, fate_text};
+ghost use Rattle.pd_report.specs.Report.{transcript_text};
 
 use pd_device::{BenchFault, Text, TextOut, write_text};
 use pd_header::{Side, header_id, header_kind};

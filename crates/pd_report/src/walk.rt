@@ -1,6 +1,7 @@
 //! What the contracts take of the shared budget, from instant to instant.
 
-ghost use Rattle.std.specs.Prelude.{◌≡◌, ◌+◌, ◌-◌, ◌*◌, ◌<◌, ◌≤◌, ◌++◌, ◌^◌, List, ℕ, [], length, sum, take, decimal, codes, replicate, IfSome};
+ghost use Rattle.std.specs.Prelude.{◌≡◌, ◌+◌, ◌-◌, ◌*◌, ◌<◌, ◌≤◌, ◌++◌, ◌^◌, List, ℕ, [], length, sum, take, decimal, codes, replicate};
+ghost use Rattle.std.specs.Prelude.{IfSome};
 ghost use Rattle.pd_report.specs.Margins.{margin_text, power_left};
 ghost use Rattle.pd_report.specs.Walk.{GoesOnTo, KnowsBudget, line_after, noted_walk, standing_of};
 ghost use Rattle.pd_scenario.specs.Plans.{plan_of};

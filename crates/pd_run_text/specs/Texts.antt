@@ -28,7 +28,8 @@ IsAnswered text edits out = (tally : Tally) × IsAnswer text edits out tally
 
 -- where the writer tells its bytes, they grew by that text
 abbrev pub WritesAnswer : List ℕ → List ℕ → Tally → Option (List ℕ) → Option (List ℕ) → Type 0
-WritesAnswer text edits tally taken taken' = IfSome taken (λ before. (out : List ℕ) × IsAnswer text edits out tally × (taken' ≡ Some (before ++ out)))
+WritesAnswer text edits tally taken taken' =
+    IfSome taken (λ before. (out : List ℕ) × IsAnswer text edits out tally × (taken' ≡ Some (before ++ out)))
 
 -- the text has no scenario: its ports can't be counted, or its scenario is refused
 abbrev pub IsRefused : List ℕ → ScenarioFault → Type 0

@@ -14,4 +14,8 @@ loop-byte-preserved g c = record {
 pub returns-in_err-take_byte-clause-text : goal.returns-in_err-take_byte-clause-text
 returns-in_err-take_byte-clause-text g c =
     let p = err_from_is_err_and c.from_residual.result c.from_residual.ensures.1 in
-    rw (p.1, p.2) (c.in_err-take_byte.ensures.text.0, FedPart-next g.row.N _ _ (omega arith) c.loop-byte.invariant.fed c.in_err-take_byte.ensures.text.1)
+    rw (p.1, p.2) (
+      c.in_err-take_byte.ensures.text.0,
+      FedPart-next g.row.N _ _ (omega arith) c.loop-byte.invariant.fed
+          c.in_err-take_byte.ensures.text.1,
+    )

@@ -17,7 +17,8 @@ loop-total-init g c = record {
 }
 
 pub returns-in_default-clause-text : goal.returns-in_default-clause-text
-returns-in_default-clause-text g c = TookPart-read g.row.N (_, c.loop-total.invariant.runs.1) c.loop-total.invariant.taking (omega arith) c.in_default.ensures.bytes
+returns-in_default-clause-text g c =
+    TookPart-read g.row.N (_, c.loop-total.invariant.runs.1) c.loop-total.invariant.taking (omega arith) c.in_default.ensures.bytes
 
 pub loop-total-preserved : goal.loop-total-preserved
 loop-total-preserved g c =
@@ -28,9 +29,12 @@ loop-total-preserved g c =
     let within : c.in-Ok.count ≤ length space = omega (arith, c.in-Ok.ensures.counts.0, c.read.auto.space) in
     let chunk = take-append-le c.in-Ok.count space (drop room buffer) within in
     let count : length (take c.in-Ok.count space) ≡ c.in-Ok.count = length-take-le c.in-Ok.count space within in
-    let more : answered c.feed.new.state.tally ≤ answered c.loop-total.state.tally + length (take c.in-Ok.count space) = rw chunk at c.in_ok-feed.ensures.room in
+    let more : answered c.feed.new.state.tally ≤ answered c.loop-total.state.tally + length (take c.in-Ok.count space) =
+    rw chunk at c.in_ok-feed.ensures.room in
     record {
-      taking = Taking-more g.row.N (take c.in-Ok.count space) c.in-Ok.count count c.loop-total.invariant.taking c.in-Ok.ensures.bytes.0 (rw chunk at c.in_ok-feed.ensures.text);
+      taking =
+          Taking-more g.row.N (take c.in-Ok.count space) c.in-Ok.count count c.loop-total.invariant.taking c.in-Ok.ensures.bytes.0
+          (rw chunk at c.in_ok-feed.ensures.text);
       reads = c.in-Ok.ensures.counts.1 ∙ c.loop-total.invariant.reads;
       writes = c.in_ok-feed.ensures.counts ∙ c.loop-total.invariant.writes;
       runs = c.in_ok-feed.ensures.runs;
@@ -50,7 +54,8 @@ returns-in_err-feed-clause-text g c =
     let chunk = take-append-le c.in-Ok.count space (drop room buffer) within in
     let count : length (take c.in-Ok.count space) ≡ c.in-Ok.count = length-take-le c.in-Ok.count space within in
     let failed = rw chunk at c.in_err-feed.ensures.text in
-    rw (p.1, p.2, failed.0) (TookPart-write g.row.N (take c.in-Ok.count space) (omega arith) c.loop-total.invariant.taking c.in-Ok.ensures.bytes.0 failed.1)
+    rw (p.1, p.2, failed.0)
+    (TookPart-write g.row.N (take c.in-Ok.count space) (omega arith) c.loop-total.invariant.taking c.in-Ok.ensures.bytes.0 failed.1)
 
 pub returns-clause-text : goal.returns-clause-text
 returns-clause-text g c =

@@ -11,12 +11,14 @@ returns-in_default-2-clause-none c = λ code e. let two = code_text-two c.args.p
 pub returns-in_err-digit_value-clause-none : goal.returns-in_err-digit_value-clause-none
 returns-in_err-digit_value-clause-none c =
     rw c.from_residual.ensures
-    (λ code e. let digits = code_text_digits c.args.part.now code e in let lt : code / 16 % 16 < 16 = omega arith in c.in_err-digit_value.ensures.none (code / 16 % 16) lt digits.first)
+    (λ code e. let digits = code_text_digits c.args.part.now code e in let lt : code / 16 % 16 < 16 = omega arith in
+    c.in_err-digit_value.ensures.none (code / 16 % 16) lt digits.first)
 
 pub returns-in_err-digit_value-2-clause-none : goal.returns-in_err-digit_value-2-clause-none
 returns-in_err-digit_value-2-clause-none c =
     rw c.from_residual-in_err-digit_value-2.ensures
-    (λ code e. let digits = code_text_digits c.args.part.now code e in let lt : code % 16 < 16 = omega arith in c.in_err-digit_value-2.ensures.none (code % 16) lt digits.second)
+    (λ code e. let digits = code_text_digits c.args.part.now code e in let lt : code % 16 < 16 = omega arith in
+    c.in_err-digit_value-2.ensures.none (code % 16) lt digits.second)
 
 pub returns-clause-found : goal.returns-clause-found
 returns-clause-found c =

@@ -10,7 +10,11 @@ pub returns-in_err-write_all-clause-text : goal.returns-in_err-write_all-clause-
 unfolding faults_text
 returns-in_err-write_all-clause-text g c =
     let p = err_from_is_err_and c.from_residual.result c.from_residual.ensures.1 in
-    rw (p.1, p.2) (c.in_err-write_all.ensures.text.0, WrotePart-longer _ _ faults_head (flat_map fault_lines (g.T.Runner.entries c.args.run.now)) c.in_err-write_all.ensures.text.1)
+    rw (p.1, p.2) (
+      c.in_err-write_all.ensures.text.0,
+      WrotePart-longer _ _ faults_head (flat_map fault_lines (g.T.Runner.entries c.args.run.now))
+          c.in_err-write_all.ensures.text.1,
+    )
 
 pub loop-index-init : goal.loop-index-init
 loop-index-init g c = record { walked = Walked-start _ _ _ _ _ c.in_ok-write_all.ensures.text; counts = c.in_ok-write_all.ensures.counts }

@@ -10,7 +10,8 @@ loop-fault-preserved g c =
     let here : c.loop-fault.fault-index < length c.args.faults.now = omega arith in
     record {
       walked = Walked-more _ _ _ _ _ _ _ _ c.loop-fault.invariant.walked
-          (Walked-at (fault_text c.args.at c.args.port) [] c.args.faults.now c.loop-fault.fault-index (Ignored 0) c.fault_line.result here c.fault_line.ensures)
+          (Walked-at (fault_text c.args.at c.args.port) [] c.args.faults.now c.loop-fault.fault-index (Ignored 0) c.fault_line.result here
+          c.fault_line.ensures)
           c.in_ok-write_text.ensures.text;
       counts = c.in_ok-write_text.ensures.counts ∙ c.loop-fault.invariant.counts;
     }
@@ -22,7 +23,8 @@ returns-in_err-write_text-clause-text g c =
     rw (p.1, p.2) (
       c.in_err-write_text.ensures.text.0,
       Walked-part _ _ _ _ _ _ _ _ c.loop-fault.invariant.walked
-          (Walked-at (fault_text c.args.at c.args.port) [] c.args.faults.now c.loop-fault.fault-index (Ignored 0) c.fault_line.result here c.fault_line.ensures)
+          (Walked-at (fault_text c.args.at c.args.port) [] c.args.faults.now c.loop-fault.fault-index (Ignored 0) c.fault_line.result here
+          c.fault_line.ensures)
           c.in_err-write_text.ensures.text.1,
     )
 

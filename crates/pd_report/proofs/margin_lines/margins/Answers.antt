@@ -16,7 +16,11 @@ returns-in_err-write_all-clause-text g c =
     let plan : Plan = plan_of c.args.scenario.now in
     let moves : Moves = g.T.Runner.entries c.args.run.now in
     let p = err_from_is_err_and c.from_residual.result c.from_residual.ensures.1 in
-    rw (p.1, p.2) (c.in_err-write_all.ensures.text.0, WrotePart-longer _ _ margins_head (text_before plan moves (plan.end + 1)) c.in_err-write_all.ensures.text.1)
+    rw (p.1, p.2) (
+      c.in_err-write_all.ensures.text.0,
+      WrotePart-longer _ _ margins_head (text_before plan moves (plan.end + 1))
+          c.in_err-write_all.ensures.text.1,
+    )
 
 pub loop-walk-init : goal.loop-walk-init
 loop-walk-init g c =
@@ -36,7 +40,9 @@ pub loop-walk-preserved : goal.loop-walk-preserved
 loop-walk-preserved g c = record {
   walked = c.step.ensures.walk;
   end_is = c.loop-walk.invariant.end_is;
-  written = written-more (plan_of c.args.scenario.now) (g.T.Runner.entries c.args.run.now) _ _ _ c.loop-walk.walk.at c.step.new.walk.at c.step.result c.step.ensures.text
+  written =
+      written-more (plan_of c.args.scenario.now) (g.T.Runner.entries c.args.run.now) _ _ _ c.loop-walk.walk.at c.step.new.walk.at
+      c.step.result c.step.ensures.text
       c.loop-walk.invariant.written c.in_ok-write_text.ensures.text;
   counts = c.in_ok-write_text.ensures.counts ∙ c.loop-walk.invariant.counts;
 }
@@ -54,4 +60,5 @@ pub returns-clause-text : goal.returns-clause-text
 returns-clause-text g c =
     let plan : Plan = plan_of c.args.scenario.now in
     let past : plan.end < c.loop-walk.walk.at = omega (arith, c.loop-walk.invariant.end_is, c.loop-walk-test.false) in
-    rw (text-whole plan (g.T.Runner.entries c.args.run.now) c.loop-walk.walk c.loop-walk.invariant.walked past) c.loop-walk.invariant.written
+    rw (text-whole plan (g.T.Runner.entries c.args.run.now) c.loop-walk.walk c.loop-walk.invariant.walked past)
+    c.loop-walk.invariant.written

@@ -10,7 +10,11 @@ pub returns-in_err-write_text-clause-text : goal.returns-in_err-write_text-claus
 unfolding transcript_text
 returns-in_err-write_text-clause-text g c =
     let p = err_from_is_err_and c.from_residual.result c.from_residual.ensures.1 in
-    rw (p.1, p.2) (c.in_err-write_text.ensures.text.0, WrotePart-longer _ _ (head_text c.args.port) (flat_map (line_of c.args.port) (g.T.Runner.entries c.args.run.now)) (rw (sym c.head.ensures) c.in_err-write_text.ensures.text.1))
+    rw (p.1, p.2) (
+      c.in_err-write_text.ensures.text.0,
+      WrotePart-longer _ _ (head_text c.args.port)
+          (flat_map (line_of c.args.port) (g.T.Runner.entries c.args.run.now)) (rw (sym c.head.ensures) c.in_err-write_text.ensures.text.1),
+    )
 
 pub loop-index-init : goal.loop-index-init
 loop-index-init g c = record {
@@ -28,7 +32,11 @@ pub returns-in_err-write_text-2-clause-text : goal.returns-in_err-write_text-2-c
 unfolding transcript_text
 returns-in_err-write_text-2-clause-text g c =
     let p = err_from_is_err_and c.from_residual-in_err-write_text-2.result c.from_residual-in_err-write_text-2.ensures.1 in
-    rw (p.1, p.2) (c.in_err-write_text-2.ensures.text.0, Walked-part _ _ _ _ _ _ _ _ c.loop-index.invariant.walked c.line_at.ensures c.in_err-write_text-2.ensures.text.1)
+    rw (p.1, p.2) (
+      c.in_err-write_text-2.ensures.text.0,
+      Walked-part _ _ _ _ _ _ _ _ c.loop-index.invariant.walked c.line_at.ensures
+          c.in_err-write_text-2.ensures.text.1,
+    )
 
 pub returns-clause-text : goal.returns-clause-text
 unfolding transcript_text

@@ -5,6 +5,7 @@ use Rattle.pd_report.proofs.report.transcript.Given as goal
 
 abbrev pub invariant-loop-index : goal.invariant-loop-index
 invariant-loop-index g l = record {
-  walked : Walked (line_of l.port) (head_text l.port) (g.T.Runner.entries l.run) l.index (g.W.TextOut.taken l.fn.writer) (g.W.TextOut.taken l.writer);
+  walked : Walked (line_of l.port) (head_text l.port) (g.T.Runner.entries l.run) l.index (g.W.TextOut.taken l.fn.writer)
+      (g.W.TextOut.taken l.writer);
   counts : g.W.TextOut.failures l.writer ≡ g.W.TextOut.failures l.fn.writer;
 }

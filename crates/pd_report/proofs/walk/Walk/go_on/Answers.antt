@@ -5,7 +5,8 @@ use Rattle.pd_report.proofs.walk.Walk.go_on.Goals as goal
 
 pub returns-else-next-at : goal.returns-else-next-at
 returns-else-next-at g c =
-    let k = knows-on (plan_of c.args.scenario.now) c.args.self.now c.args.at (Some c.in-Some.next) c.in-Some.is (omega (arith, c.if-next-at.false)) (omega (arith, c.requires.later)) c.requires.knows in
+    let k = knows-on (plan_of c.args.scenario.now) c.args.self.now c.args.at (Some c.in-Some.next) c.in-Some.is
+    (omega (arith, c.if-next-at.false)) (omega (arith, c.requires.later)) c.requires.knows in
     record {
       later = c.requires.later;
       seen_is = refl;
@@ -17,7 +18,8 @@ returns-else-next-at g c =
 
 pub returns-in_default : goal.returns-in_default
 returns-in_default g c =
-    let k = knows-on (plan_of c.args.scenario.now) c.args.self.now c.args.at None c.in_default.is tt (omega (arith, c.requires.later)) c.requires.knows in
+    let k = knows-on (plan_of c.args.scenario.now) c.args.self.now c.args.at None c.in_default.is tt (omega (arith, c.requires.later))
+    c.requires.knows in
     record {
       later = c.requires.later;
       seen_is = refl;
