@@ -1,19 +1,19 @@
--- Equal records.
+-- Two records are the same where each of their parts is.
 use Rattle.std.proofs.Common.{◌≡◌}
 use Rattle.pd_sink.specs.Record.{SinkRecord}
 
-pub same_records : (a b : SinkRecord) → a.state ≡ b.state → a.deadlines ≡ b.deadlines → a.sent ≡ b.sent →
-    a.hard_reset_counter ≡ b.hard_reset_counter → a.again ≡ b.again → a.fresh ≡ b.fresh → a.has_contract ≡ b.has_contract →
-    a.sink ≡ b.sink → a.kept_offer ≡ b.kept_offer → a ≡ b
-same_records a b p q r s t u v w x =
+pub same_records : (r q : SinkRecord) → r.state ≡ q.state → r.deadlines ≡ q.deadlines → r.sent ≡ q.sent →
+    r.hard_reset_counter ≡ q.hard_reset_counter → r.again ≡ q.again → r.fresh ≡ q.fresh → r.has_contract ≡ q.has_contract →
+    r.sink ≡ q.sink → r.kept_offer ≡ q.kept_offer → r ≡ q
+same_records r q state deadlines sent hard again fresh contract sink kept =
     λ i. record {
-      state = p i;
-      deadlines = q i;
-      sent = r i;
-      hard_reset_counter = s i;
-      again = t i;
-      fresh = u i;
-      has_contract = v i;
-      sink = w i;
-      kept_offer = x i;
+      state = state i;
+      deadlines = deadlines i;
+      sent = sent i;
+      hard_reset_counter = hard i;
+      again = again i;
+      fresh = fresh i;
+      has_contract = contract i;
+      sink = sink i;
+      kept_offer = kept i;
     }

@@ -146,7 +146,7 @@ fn k34_a_hard_reset_comes(rt: HostRuntime) {
     assert!(rt; sink.same(&want));
 }
 
-/// Three Hard Resets are sent; then the sink is disabled, and stays so.
+/// HardResetCounter: with nHardResetCount at 2 three Hard Resets are sent; then the sink is disabled, and stays so.
 #[test]
 fn hr_three_hard_resets(rt: HostRuntime) {
     let late = Stimulus::Ended(Timer::SinkWaitCap);

@@ -35,6 +35,7 @@ pub(super) fn at_disabled() -> Source {
     )
 }
 
+/// CapsCounter: with nCapsCount at 50 an offer is made 51 times, and then the source is in PE_SRC_Disabled.
 #[test]
 fn fifty_one_offers_before_disabled(rt: HostRuntime) {
     let source = after_offers(50);
@@ -58,6 +59,7 @@ pub(super) fn reset_once(source: Source) -> Source {
     next
 }
 
+/// HardResetCounter: with nHardResetCount at 2 three Hard Resets are sent, and then the source is in PE_SRC_Disabled.
 #[test]
 fn three_hard_resets_before_disabled(rt: HostRuntime) {
     let mut source = at_send_capabilities();
@@ -73,7 +75,7 @@ fn three_hard_resets_before_disabled(rt: HostRuntime) {
     assert!(rt; gives(source, 727_000, &ended(Timer::SenderResponse), &want, &acts));
 }
 
-/// The DiscoverIdentityCounter isn't set to 0 by a hard reset.
+/// DiscoverIdentityCounter (nDiscoverIdentityCount): a Hard Reset does not set it to 0.
 #[test]
 fn a_hard_reset_keeps_the_count_of_identity_tries(rt: HostRuntime) {
     let mut source = after(at_vdm_identity_request(1), 51_000, &Stimulus::HardReset);
