@@ -142,6 +142,31 @@ impl Line {
         }
     }
 
+    /// A copy of a message that is sent.
+    fn message_sent(side: Side, packet: &Packet, fate: &Fate, end: u64) -> Line
+        ensures { result ≡ lines.Message side packet.now fate.now end }
+    {
+        Line::Message {
+            side,
+            packet: packet.copy(),
+            fate: *fate,
+            end,
+        }
+    }
+
+    /// A copy of a GoodCRC that is sent for a message.
+    fn good_crc_sent(side: Side, packet: &Packet, answer: &Packet, fate: &Fate, end: u64) -> Line
+        ensures { result ≡ lines.GoodCrc side packet.now answer.now fate.now end }
+    {
+        Line::GoodCrc {
+            side,
+            packet: packet.copy(),
+            answer: answer.copy(),
+            fate: *fate,
+            end,
+        }
+    }
+
     /// A copy of what is on the line.
     fn copy(&self) -> Line
         ensures { result ≡ self.now }
@@ -153,12 +178,7 @@ impl Line {
                 packet,
                 fate,
                 end,
-            } => Line::Message {
-                side: *side,
-                packet: packet.copy(),
-                fate: *fate,
-                end: *end,
-            },
+            } => Line::message_sent(*side, packet, fate, *end),
             Line::Pause { side, packet, end } => Line::Pause {
                 side: *side,
                 packet: packet.copy(),
@@ -170,13 +190,7 @@ impl Line {
                 answer,
                 fate,
                 end,
-            } => Line::GoodCrc {
-                side: *side,
-                packet: packet.copy(),
-                answer: answer.copy(),
-                fate: *fate,
-                end: *end,
-            },
+            } => Line::good_crc_sent(*side, packet, answer, fate, *end),
             Line::NoAnswer { side, packet, end } => Line::NoAnswer {
                 side: *side,
                 packet: packet.copy(),
