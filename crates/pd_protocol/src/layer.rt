@@ -150,7 +150,8 @@ impl Layer {
         }
     }
 
-    /// What comes of a GoodCRC that did not come in time, which is when the CRCReceiveTimer (tReceive) has run out: Retry, Failed, or Idle where no message is outstanding.
+    /// What comes of a GoodCRC that did not come before the CRCReceiveTimer (tReceive) ran out: Retry, Failed, or Idle where no
+    /// message is outstanding.
     #[tactic(auto, unfolding(crate::specs::Layer::timed_out))]
     pub fn timed_out(&mut self) -> LayerAct
         ensures after { self.new ≡ (timed_out self.old).0 }
