@@ -261,10 +261,14 @@ fn follows(mv: u64, supplies: &[WrittenSupply]) -> bool
 fn voltages_rise(supplies: &[WrittenSupply]) -> bool
     ensures { result ≡ voltages_rise supplies.now }
 {
-    match supplies {
-        [first, others @ ..] => follows(first.mv, others) && voltages_rise(others),
-        [] => true,
+    let mut rest = supplies;
+    while let [first, others @ ..] = rest {
+        if !follows(first.mv, others) {
+            return false;
+        }
+        rest = others;
     }
+    true
 }
 
 /// Whether the first of the supplies is of 5 V, and the voltages rise.
