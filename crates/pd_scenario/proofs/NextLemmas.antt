@@ -8,8 +8,10 @@ use Rattle.pd_scenario.specs.declared.budget.BudgetChange.{BudgetChange}
 use Rattle.pd_scenario.specs.NextChange.{IsNextChange}
 
 -- a change that isn't after the time
-pub next-past : (changes : List BudgetChange) (at : ℕ) (next : Option ℕ) (x : BudgetChange) → x.at ≤ at → IsNextChange changes at next → IsNextChange (changes ++ x ∷ []) at next
-next-past changes at None x past is = λ f there. elim (Contains-push_cases changes x f there) [ inl old ↦ is f old | inr same ↦ rw (← same) past ]
+pub next-past : (changes : List BudgetChange) (at : ℕ) (next : Option ℕ) (x : BudgetChange) → x.at ≤ at → IsNextChange changes at next
+    → IsNextChange (changes ++ x ∷ []) at next
+next-past changes at None x past is =
+    λ f there. elim (Contains-push_cases changes x f there) [ inl old ↦ is f old | inr same ↦ rw (← same) past ]
 next-past changes at (Some next) x past is = (
   is.0,
   (is.1.0, Contains-append_left changes (x ∷ []) is.1.0 is.1.1, is.1.2),
@@ -17,7 +19,8 @@ next-past changes at (Some next) x past is = (
 )
 
 -- one that is after the next one known
-pub next-later : (changes : List BudgetChange) (at next : ℕ) (x : BudgetChange) → next ≤ x.at → IsNextChange changes at (Some next) → IsNextChange (changes ++ x ∷ []) at (Some next)
+pub next-later : (changes : List BudgetChange) (at next : ℕ) (x : BudgetChange) → next ≤ x.at → IsNextChange changes at (Some next)
+    → IsNextChange (changes ++ x ∷ []) at (Some next)
 next-later changes at next x later is = (
   is.0,
   (is.1.0, Contains-append_left changes (x ∷ []) is.1.0 is.1.1, is.1.2),
@@ -25,7 +28,8 @@ next-later changes at next x later is = (
 )
 
 -- one that comes before the next one known
-pub next-sooner : (changes : List BudgetChange) (at next : ℕ) (x : BudgetChange) → at < x.at → x.at ≤ next → IsNextChange changes at (Some next) → IsNextChange (changes ++ x ∷ []) at (Some x.at)
+pub next-sooner : (changes : List BudgetChange) (at next : ℕ) (x : BudgetChange) → at < x.at → x.at ≤ next
+    → IsNextChange changes at (Some next) → IsNextChange (changes ++ x ∷ []) at (Some x.at)
 next-sooner changes at next x after sooner is = (
   after,
   (x, Contains-push changes x, refl),
@@ -36,7 +40,8 @@ next-sooner changes at next x after sooner is = (
 )
 
 -- the first that is after the time
-pub next-first : (changes : List BudgetChange) (at : ℕ) (x : BudgetChange) → at < x.at → IsNextChange changes at None → IsNextChange (changes ++ x ∷ []) at (Some x.at)
+pub next-first : (changes : List BudgetChange) (at : ℕ) (x : BudgetChange) → at < x.at → IsNextChange changes at None
+    → IsNextChange (changes ++ x ∷ []) at (Some x.at)
 next-first changes at x after is = (
   after,
   (x, Contains-push changes x, refl),
@@ -47,9 +52,11 @@ next-first changes at x after is = (
 )
 
 -- one more change, or none
-pub next-more : (changes : List BudgetChange) (at : ℕ) (o : Option BudgetChange) (x : BudgetChange) (next : Option ℕ) → o ≡ Some x → IsNextChange (changes ++ x ∷ []) at next
+pub next-more : (changes : List BudgetChange) (at : ℕ) (o : Option BudgetChange) (x : BudgetChange) (next : Option ℕ) → o ≡ Some x
+    → IsNextChange (changes ++ x ∷ []) at next
     → IsNextChange (changes ++ option_to_list o) at next
 next-more changes at o x next is more = rw is more
 
-pub next-same : (changes : List BudgetChange) (at : ℕ) (o : Option BudgetChange) (next : Option ℕ) → o ≡ None → IsNextChange changes at next → IsNextChange (changes ++ option_to_list o) at next
+pub next-same : (changes : List BudgetChange) (at : ℕ) (o : Option BudgetChange) (next : Option ℕ) → o ≡ None
+    → IsNextChange changes at next → IsNextChange (changes ++ option_to_list o) at next
 next-same changes at o next is same = rw (is, append-nil) same

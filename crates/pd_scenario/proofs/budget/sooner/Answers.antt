@@ -8,7 +8,8 @@ returns-then-change-at c = λ changes is. next-past changes c.args.at c.args.nex
 
 pub returns-in-Some : goal.returns-in-Some
 returns-in-Some c =
-    λ changes is. next-later changes c.args.at c.in-Some.next c.args.change c.if-next-change.true (subst (IsNextChange changes c.args.at) c.in-Some.is is)
+    λ changes is. next-later changes c.args.at c.in-Some.next c.args.change c.if-next-change.true
+    (subst (IsNextChange changes c.args.at) c.in-Some.is is)
 
 pub returns-in_default : goal.returns-in_default
 returns-in_default c =
@@ -18,4 +19,5 @@ returns-in_default c =
 
 pub returns-in_default-2 : goal.returns-in_default-2
 returns-in_default-2 c =
-    λ changes is. next-first changes c.args.at c.args.change (omega (arith, c.if-change-at.false)) (subst (IsNextChange changes c.args.at) c.in_default.is is)
+    λ changes is. next-first changes c.args.at c.args.change (omega (arith, c.if-change-at.false))
+    (subst (IsNextChange changes c.args.at) c.in_default.is is)
