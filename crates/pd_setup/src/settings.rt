@@ -28,8 +28,12 @@ impl Model for Settings {
       unconstrained = s.unconstrained;
     } };
 
-    ghost invariant = { λ s. IsSettings
-        (record { floor_mw = s.floor_mw; supplies = s.supplies.items; identity_tries = s.identity_tries; unconstrained = s.unconstrained }) };
+    ghost invariant = { λ s. IsSettings (record {
+      floor_mw = s.floor_mw;
+      supplies = s.supplies.items;
+      identity_tries = s.identity_tries;
+      unconstrained = s.unconstrained;
+    }) };
 }
 
 impl Settings {
