@@ -15,7 +15,7 @@ use pd_symbols::Channel;
 use pd_timers::LAST_TIME;
 use std::mem;
 
-/// How long the receiver waits before its GoodCRC, in microseconds: less than tTransmit, the most that section 6.6.2 allows.
+/// How long the receiver waits before its GoodCRC, in microseconds: less than tTransmit, the most that the standard gives it.
 const PAUSE: u64 = 100;
 
 /// tReceive, how long the sender's CRCReceiveTimer runs from a message's end, in microseconds (section 6.6.1).
