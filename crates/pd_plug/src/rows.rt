@@ -81,7 +81,9 @@ fn rows_are_numbered(rt: HostRuntime) {
         let number = place.wrapping_add(1);
         assert_eq!(rt;
             *name,
-            format!(in rt.alloc(); "C{number}").unwrap().as_str()
+            format!(in rt.alloc(); "C{number}")
+                .expect(&rt, "memory for a name")
+                .as_str()
         );
     }
 }

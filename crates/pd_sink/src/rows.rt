@@ -171,7 +171,9 @@ fn rows_are_numbered(rt: HostRuntime) {
         let number = place.wrapping_add(1);
         assert_eq!(rt;
             *name,
-            format!(in rt.alloc(); "K{number}").unwrap().as_str()
+            format!(in rt.alloc(); "K{number}")
+                .expect(&rt, "memory for a name")
+                .as_str()
         );
     }
 }
