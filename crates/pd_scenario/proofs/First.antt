@@ -1,7 +1,7 @@
 -- Of faults in the order of their numbers, the first that applies is the least that does. The faults of a type are told apart
 -- by a number; so this serves the refusals of files and those of edits.
 use Rattle.std.proofs.Common.{◌≡◌, ℕ, ◌<◌, ◌⊎◌, Bool, true, false, ◌&&◌, List, [], ◌∷◌, find, refl, sym, ap, inl, inr, arith, Some, None}
-use Rattle.std.specs.Prelude.{Option, ◌==◌, nat_lt}
+use Rattle.std.specs.Prelude.{nat_lt}
 use Rattle.std.specs.List.{list_all}
 use Rattle.std.proofs.lemmas.Bool.{cases_Bool, and_parts}
 use Rattle.std.proofs.lemmas.Bool.Decides.{nat_tests}

@@ -1,8 +1,8 @@
-pub mod Entries
+mod NextLemmas
 pub mod First
 pub mod Forces
 pub mod Least
 pub mod Lists
-mod NextLemmas
 pub mod Ordered
 pub mod Plans
+pub mod Sorted

@@ -2,7 +2,7 @@
 use Rattle.std.proofs.Common.{◌≡◌, ℕ, ◌+◌, ◌*◌, ◌<◌, ◌≤◌, Bool, true, false, not, ◌&&◌, cond, List, [], ◌∷◌, length, map, fold, refl, sym}
 use Rattle.std.proofs.Common.{ap, ◌∙◌, inl, inr, arith, add-one, Some, None}
 use Rattle.std.specs.Prelude.{Option, option_map, sum, sum_by, slice_get, ◌==◌, nat_le, Contains}
-use Rattle.std.specs.List.{range_with_len, filter_map}
+use Rattle.std.specs.List.{range_with_len, filter_map, list_all}
 use Rattle.std.proofs.lemmas.Bool.{cases_Bool, cases_lt, false≢true, and_parts, not-true}
 use Rattle.std.proofs.lemmas.Bool.Decides.{nat_tests}
 use Rattle.std.proofs.lemmas.List.{get_or_past}
@@ -113,26 +113,27 @@ from_one n e h =
     let least = (and_parts (nat_le 1 e.id) (nat_le e.id 1000000) id).0 in
     grind (arith, nat_tests)
 
-made_alike : (n : ℕ) (c : ScenarioData) → IsValid n c → (port : ℕ) (x y : EventData)
-    → Contains (events_for c.cables c.sinks port c.events) x → Contains (events_for c.cables c.sinks port c.events) y → SamePlace x y
-    → x ≡ y
-made_alike n c valid port x y a b place =
-    let left = filter_map_from (event_for c.cables c.sinks port) c.events x a in
-    let right = filter_map_from (event_for c.cables c.sinks port) c.events y b in
-    let first = from_one n left.of (passes (event_fits n) c.events left.of valid.events_fit left.there) in
-    let second = from_one n right.of (passes (event_fits n) c.events right.of valid.events_fit right.there) in
-    alike c.cables c.sinks port left.of.id right.of.id left.of.at right.of.at left.of.happening right.of.happening x y first second (
-    λ ids. ap (λ (e : ScenarioEvent). e.happening) (one_id c.events left.of right.of valid.events_differ left.there right.there ids)
+pub made_alike : (n : ℕ) (cables : List NamedCable) (sinks : List NamedSink) (events : List ScenarioEvent)
+    → list_all (event_fits n) events ≡ true → ids_differ events ≡ true → (port : ℕ) (x y : EventData)
+    → Contains (events_for cables sinks port events) x → Contains (events_for cables sinks port events) y → SamePlace x y → x ≡ y
+made_alike n cables sinks events fit differ port x y a b place =
+    let left = filter_map_from (event_for cables sinks port) events x a in
+    let right = filter_map_from (event_for cables sinks port) events y b in
+    let first = from_one n left.of (passes (event_fits n) events left.of fit left.there) in
+    let second = from_one n right.of (passes (event_fits n) events right.of fit right.there) in
+    alike cables sinks port left.of.id right.of.id left.of.at right.of.at left.of.happening right.of.happening x y first second (
+    λ ids. ap (λ (e : ScenarioEvent). e.happening) (one_id events left.of right.of differ left.there right.there ids)
     ) left.is right.is place
 
 script_is : (n : ℕ) (c : ScenarioData) → IsValid n c → (port : ℕ) → IsScript c port (script c.cables c.sinks c.events port)
 unfolding script
 script_is n c valid port =
     let made = events_for c.cables c.sinks port c.events in
+    let same = made_alike n c.cables c.sinks c.events valid.events_fit valid.events_differ port in
     record {
       all = λ x. (
         λ h. elim (each_only [] made x h) [ inl early ↦ absurd (none x early) | inr later ↦ later ],
-        λ h. each_all (λ e. Contains made e) (made_alike n c valid port) [] made (λ e nowhere. absurd (none e nowhere)) (λ e at. at) x
+        λ h. each_all (λ e. Contains made e) same [] made (λ e nowhere. absurd (none e nowhere)) (λ e at. at) x
             (inr h),
       );
       in_order = λ i e f a b. adjacent (fold put [] made) i e f (InOrder-each [] made tt) a (rw (← add-one) b);

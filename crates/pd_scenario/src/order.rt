@@ -1,17 +1,15 @@
 //! The events of a port in the order of their times.
 
 ghost use Rattle.std.specs.Prelude.{◌≡◌, ℕ, true, IfOk};
-ghost use Rattle.std.specs.BTreeMap.{values};
 ghost use Rattle.std.specs.List.{list_all};
-ghost use Rattle.pd_scenario.specs.Scenarios.{event_fits, kind_fits, kind_is_known, names_are_known};
+ghost use Rattle.pd_scenario.specs.Scenarios.{event_fits, ids_differ, kind_fits, kind_is_known, names_are_known};
 ghost use Rattle.pd_scenario.specs.Plan.{number_of};
-ghost use Rattle.pd_scenario.specs.Script.{resolved, event_for, script};
+ghost use Rattle.pd_scenario.specs.Script.{resolved, event_for, events_for, script};
 
 use crate::scenario::{cable_named, sink_named};
 use crate::{NamedCable, NamedSink, ScenarioEvent, ScenarioEventKind, ScenarioHappening};
 use pd_setup::{Event, EventKind, Happening, PortEventKind, by_kind};
 use std::alloc::{AllocError, Allocator};
-use std::collections::BTreeMap;
 
 /// What an event does, with the cable and the sink in place of their names.
 fn resolved(cables: &[NamedCable], sinks: &[NamedSink], kind: &ScenarioEventKind) -> PortEventKind
@@ -66,11 +64,8 @@ fn place_of(event: &Event) -> (u64, u32)
     }
 }
 
-/// What the events are for a port, by their times and numbers.
-///
-/// # Errors
-/// There is no memory.
-pub fn script<A: Allocator + Copy>(
+/// What the events are for a port, in the order of their making.
+fn events_for<A: Allocator>(
     alloc: A,
     cables: &[NamedCable],
     sinks: &[NamedSink],
@@ -80,22 +75,37 @@ pub fn script<A: Allocator + Copy>(
 ) -> Result<Vec<Event, A>, AllocError>
     requires fit { list_all (event_fits ports) events.now ≡ true }
     requires known { list_all (λ e. names_are_known cables.now sinks.now e.happening) events.now ≡ true }
-    ensures { IfOk result (λ v. v.items ≡ script cables.now sinks.now events.now port) }
+    ensures { IfOk result (λ v. v.items ≡ events_for cables.now sinks.now port events.now) }
 {
-    let mut ordered = BTreeMap::new(alloc);
+    let mut made = Vec::new(alloc);
     for event in events {
         if let Some(event) = event_for(cables, sinks, port, event, ports) {
-            ordered.insert(place_of(&event), event)?;
+            made.push(event)?;
         }
     }
-    values_of(alloc, ordered)
+    Ok(made)
 }
 
-fn values_of<A: Allocator>(
+/// What the events are for a port, by their times and numbers.
+///
+/// # Errors
+/// There is no memory.
+pub fn script<A: Allocator>(
     alloc: A,
-    ordered: BTreeMap<(u64, u32), Event, A>,
+    cables: &[NamedCable],
+    sinks: &[NamedSink],
+    events: &[ScenarioEvent],
+    ports: usize,
+    port: usize,
 ) -> Result<Vec<Event, A>, AllocError>
-    ensures { IfOk result (λ v. v.items ≡ values ordered) }
+    requires fit { list_all (event_fits ports) events.now ≡ true }
+    requires known { list_all (λ e. names_are_known cables.now sinks.now e.happening) events.now ≡ true }
+    requires differ { ids_differ events.now ≡ true }
+    ensures { IfOk result (λ v. v.items ≡ script cables.now sinks.now events.now port) }
 {
-    ordered.into_values().collect(alloc)
+    let mut script = events_for(alloc, cables, sinks, events, ports, port)?;
+    script.sort_by_key(|event| place_of(event))?;
+    // Changes of the budget at one time are told once.
+    script.dedup_by_key(|event| place_of(event));
+    Ok(script)
 }

@@ -1,40 +1,19 @@
-use Rattle.std.proofs.Common.{◌≡◌, ◌∙◌, [], refl, sym, arith, fold, length, take}
-use Rattle.std.proofs.Math.Seq.{take-length}
-use Rattle.std.specs.BTreeMap.{values}
-use Rattle.std.specs.List.{filter_map}
-use Rattle.pd_scenario.specs.Script.{event_for, put, script}
-use Rattle.pd_scenario.proofs.Lists.{filter_map-more}
-use Rattle.pd_scenario.proofs.Entries.{put_entry, values-entries, each-more, each-same}
+use Rattle.std.proofs.Common.{◌≡◌, ◌∙◌, arith, rules}
+use Rattle.std.specs.List.Sorted.{IsPermutation}
+use Rattle.std.proofs.lemmas.Fn.{dedup_same}
+use Rattle.std.proofs.lemmas.List.Sorted.{answers_always}
+use Rattle.pd_scenario.specs.Script.{script, events_for}
+use Rattle.pd_scenario.proofs.Plans.{made_alike}
+use Rattle.pd_scenario.proofs.Sorted.{place, same_place, rises, sorted_is}
 use Rattle.pd_scenario.proofs.order.script.Goals as goal
-use Rattle.pd_scenario.proofs.order.script.Goals.{in-Some+in_ok-insert, in_default}
-
-pub loop-event-preserved : goal.loop-event-preserved
-loop-event-preserved g c =
-    let for_port = event_for c.args.cables.now c.args.sinks.now c.args.port in
-    let more = filter_map-more for_port c.args.events.now c.loop-event.event-index c.event-item.result c.loop-event-test.true
-    c.event-item.is in
-    elim c.match-event_for.branch [
-      | in-Some+in_ok-insert w ↦
-          rw (
-            w.ordered-is,
-            more,
-            each-more _ (for_port c.event-item.result) w.in-Some.event (sym w.in-Some.ensures),
-            w.in_ok-insert.ensures.entries,
-            c.loop-event.invariant,
-            w.place_of.ensures,
-          )
-          (put_entry _ w.in-Some.event)
-      | in_default w ↦ rw (w.ordered-is, more, each-same _ (for_port c.event-item.result) (sym c.event_for.ensures ∙ w.in_default.is))
-          c.loop-event.invariant
-    ]
 
 pub returns : goal.returns
 unfolding script
 returns g c =
-    let all : take c.loop-event.event-index c.args.events.now ≡ c.args.events.now = let n : c.loop-event.event-index ≡ length
-    c.args.events.now = omega arith in rw (n, take-length) in
-    let for_port = event_for c.args.cables.now c.args.sinks.now c.args.port in
-    let part = fold put [] (filter_map for_port (take c.loop-event.event-index c.args.events.now)) in
-    let first : values c.loop-event.ordered ≡ part = rw c.loop-event.invariant (values-entries part) in
-    let whole : part ≡ fold put [] (filter_map for_port c.args.events.now) = rw all refl in
-    rw (first, whole) at c.values_of.ensures
+    let made = events_for c.args.cables.now c.args.sinks.now c.args.port c.args.events.now in
+    let sorted = c.sort_by_key.new.self.items in
+    let kept = dedup_same _ same_place _ (λ x y b f' x' y' k. search rules) _ _ c.dedup_by_key.ensures.filtered in
+    let up = rises sorted (λ k d within. c.in_ok-sort_by_key.ensures.sorted place
+    (answers_always _ (λ a r. r ≡ place a.0.now) _ (λ f a r f' called. search rules)) k d (omega arith) within) in
+    let moved : IsPermutation made sorted = rw c.in_ok-script.ensures at c.sort_by_key.ensures.permutation in
+    kept ∙ sorted_is made sorted (made_alike c.args.ports _ _ _ c.requires.fit c.requires.differ c.args.port) moved up
