@@ -11,11 +11,11 @@ import typing
 TESTS = pathlib.Path(__file__).resolve().parent
 TOP = TESTS.parent
 CASES = TOP / "crates" / "pd_cases" / "data" / "cases"
-# What `rt ci` leaves. The first keeps its moves from run to run; the second, given a scenario and edits, runs each from the start.
-KEPT = TOP / "crates" / "pdbench" / "out" / "pdbench"
-PLAIN = TOP / "crates" / "pd_cases" / "out" / "pd_cases"
-# No run of a program in these checks takes a second; a minute says that it hangs.
-HANGS = 60
+# What `rt ci` leaves. The first keeps its moves from run to run; the second runs a folder of cases with both runners.
+BENCH = TOP / "crates" / "pdbench" / "out" / "pdbench"
+BOTH = TOP / "crates" / "pd_cases" / "out" / "pd_cases"
+# No run of a program in these checks takes a few seconds; so many say that it hangs.
+HANGS = 120
 
 
 class Wrong(Exception):
@@ -40,7 +40,7 @@ def room():
 
 def programs(words):
     """The two programs, or those that the command line names in their place; stops where one isn't there."""
-    found = [pathlib.Path(word).resolve() for word in words] or [KEPT, PLAIN]
+    found = [pathlib.Path(word).resolve() for word in words] or [BENCH, BOTH]
     for program in found:
         if not os.access(program, os.X_OK):
             sys.exit(f"no program {program}: `rt ci` at the top, or `rt run` in its folder, builds it")
