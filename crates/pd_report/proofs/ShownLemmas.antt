@@ -30,7 +30,7 @@ module _ {X : Type 0} (f : X → List ℕ) (head : List ℕ) (xs : List X) where
   text_at : (i : ℕ) (x : X) → slice_get xs i ≡ Some x → flat_map f xs ≡ flat_map f (take i xs) ++ (f x ++ flat_map f (drop (i + 1) xs))
   text_at i x e = ap (flat_map f) (split_at i x e) ∙ flat_map-append f (take i xs) (x ∷ drop (i + 1) xs)
 
-  text_more : (i : ℕ) (x : X) → slice_get xs i ≡ Some x → flat_map f (take (i + 1) xs) ≡ flat_map f (take i xs) ++ f x
+  pub text_more : (i : ℕ) (x : X) → slice_get xs i ≡ Some x → flat_map f (take (i + 1) xs) ≡ flat_map f (take i xs) ++ f x
   text_more i x e =
       let within : i < length xs = slice_get_within xs i x e in
       ap (flat_map f) (take_more xs i x within ∙ ap (λ y. take i xs ++ y ∷ []) (get_or_from_slice_get xs i x x e))
@@ -85,5 +85,48 @@ module _ {X : Type 0} (f : X → List ℕ) (head : List ℕ) (xs : List X) where
       by_case None e k = absurd k
       by_case (Some x) e k = (k.0, Walked-part i a b c (f x) w (rw e refl) k.1)
 
+  -- a page with what some more elements add
+  pub Walked-page : (i n : ℕ) (a b c : Option (List ℕ)) (t : List ℕ) → Walked f head xs i a b
+      → flat_map f (take n xs) ≡ flat_map f (take i xs) ++ t → Appends b c t → Walked f head xs n a c
+  Walked-page i n a b c t w more page = record {
+    appends =
+        rw (more, sym (append_assoc head (flat_map f (take i xs)) t))
+        (Appends-trans a b c (head ++ flat_map f (take i xs)) t w.appends page);
+  }
+
+  -- the same of a page whose write failed
+  pub Walked-torn : (i n : ℕ) (a b c : Option (List ℕ)) (t : List ℕ) → Walked f head xs i a b
+      → flat_map f (take n xs) ≡ flat_map f (take i xs) ++ t → WrotePart b c t → WrotePart a c (head ++ flat_map f xs)
+  Walked-torn i n a b c t w more page =
+      let rest : List ℕ = flat_map f (drop n xs) in
+      let all : head ++ flat_map f xs ≡ (head ++ flat_map f (take i xs)) ++ (t ++ rest) =
+      ap (λ v. head ++ v) (ap (flat_map f) (sym (take-append-drop n xs)) ∙ flat_map-append f (take n xs) (drop n xs)
+      ∙ ap (λ v. v ++ rest) more ∙ append_assoc (flat_map f (take i xs)) t rest)
+      ∙ sym (append_assoc head (flat_map f (take i xs)) (t ++ rest)) in
+      rw all (WrotePart-after a b c (head ++ flat_map f (take i xs)) (t ++ rest) w.appends (WrotePart-longer b c t rest page))
+
   pub Walked-all : (i : ℕ) (a b : Option (List ℕ)) → Walked f head xs i a b → length xs ≤ i → Appends a b (head ++ flat_map f xs)
   Walked-all i a b w h = let e : take i xs ≡ xs = take_all i xs h in rw e at w.appends
+
+module _ {X : Type 0} (f : X → List ℕ) (xs : List X) where
+  -- a page with what one more element adds
+  pub page_more : (i : ℕ) (before page new : List ℕ) → flat_map f (take i xs) ≡ before ++ page →
+      MatchOption (slice_get xs i) ⊥ (λ x. new ≡ page ++ f x) → flat_map f (take (i + 1) xs) ≡ before ++ new
+  page_more i before page new so h = by_case (slice_get xs i) refl h
+    where
+      by_case : (o : Option X) → slice_get xs i ≡ o → MatchOption o ⊥ (λ x. new ≡ page ++ f x)
+          → flat_map f (take (i + 1) xs) ≡ before ++ new
+      by_case None e k = absurd k
+      by_case (Some x) e k =
+          text_more f [] xs i x e ∙ ap (λ v. v ++ f x) so ∙ append_assoc before page (f x) ∙ ap (λ v. before ++ v) (sym k)
+
+  -- the same, where the page was not empty, and what is added has a name
+  pub lines_more : (i : ℕ) (old page new t : List ℕ) → page ≡ old ++ flat_map f (take i xs) →
+      MatchOption (slice_get xs i) ⊥ (λ x. t ≡ f x) → new ≡ page ++ t → new ≡ old ++ flat_map f (take (i + 1) xs)
+  lines_more i old page new t so h put = by_case (slice_get xs i) refl h
+    where
+      by_case : (o : Option X) → slice_get xs i ≡ o → MatchOption o ⊥ (λ x. t ≡ f x) → new ≡ old ++ flat_map f (take (i + 1) xs)
+      by_case None e k = absurd k
+      by_case (Some x) e k =
+          put ∙ ap (λ v. v ++ t) so ∙ append_assoc old (flat_map f (take i xs)) t
+          ∙ ap (λ v. old ++ v) (ap (λ v. flat_map f (take i xs) ++ v) k ∙ sym (text_more f [] xs i x e))

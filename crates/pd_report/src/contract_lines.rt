@@ -1,12 +1,13 @@
 //! The contracts of a run as text.
 
-ghost use Rattle.std.specs.Prelude.{◌≡◌, ◌+◌, ◌<◌, ◌≤◌, ◌++◌, List, ℕ, [], length, decimal, codes, MatchOption, slice_get};
+ghost use Rattle.std.specs.Prelude.{◌≡◌, ◌+◌, ◌<◌, ◌≤◌, ◌++◌, List, ℕ, [], length, decimal, codes, Some};
 ghost use Rattle.pd_device.specs.Device.{CountsFailure, Writes};
 ghost use Rattle.pd_report.specs.ContractLines.{change_text, contract_line, contracts_text};
 
 use crate::line::start_of_line;
-use pd_device::{BenchFault, Text, TextOut, write_all, write_text};
-use pd_port::ContractChange;
+use crate::page::{PAGE, Show, write_entries};
+use pd_device::{BenchFault, Text, TextOut, write_all};
+use pd_port::{ContractChange, Entry};
 use pd_run::Runner;
 
 /// The most bytes of a line.
@@ -25,30 +26,29 @@ pub fn contracts<const N: usize, T: Runner<N>, W: TextOut>(
     ensures counts { CountsFailure (W.failures writer.old) (W.failures writer.new) result }
 {
     write_all(writer, b"= contracts\n")?;
-    for index in 0..run.len() {
-        write_text(writer, &line_at(run, index))?;
-    }
-    Ok(())
+    write_entries(&EachChange, run, writer)
 }
 
-/// What the entry at the index adds.
-fn line_at<const N: usize, T: Runner<N>>(run: &T, index: usize) -> Text<WIDTH>
-    requires { index < length (T.entries run.now) }
-    ensures { MatchOption (slice_get (T.entries run.now) index) ⊥ (λ move. result ≡ contract_line move) }
-{
-    match run.entry(index) {
-        Some((port, entry)) => change_line(entry.at, port, entry.contract),
-        None => Text::new(),
+/// The changes of the contracts.
+#[derive(Drop)]
+struct EachChange;
+
+impl Show for EachChange {
+    ghost adds = { λ _ move. contract_line move };
+
+    #[tactic(auto, unfolding(crate::specs::ContractLines::change_text))]
+    fn add(&self, port: usize, entry: &Entry, page: &mut Text<PAGE>) {
+        if let Some(change) = entry.contract {
+            page.push_all(change_line(entry.at, port, change).as_slice());
+        }
     }
 }
 
 #[tactic(auto, unfolding(crate::specs::ContractLines::change_text))]
-fn change_line(at: u64, port: usize, change: Option<ContractChange>) -> Text<WIDTH>
-    ensures { result ≡ change_text at port change }
+fn change_line(at: u64, port: usize, change: ContractChange) -> Text<WIDTH>
+    ensures text { result ≡ change_text at port (Some change) }
+    ensures short { length result ≤ WIDTH }
 {
-    let Some(change) = change else {
-        return Text::new();
-    };
     let mut text = start_of_line(at, port);
     match change {
         ContractChange::Made(contract) => {

@@ -1,6 +1,6 @@
 //! The faults of a run as text.
 
-ghost use Rattle.std.specs.Prelude.{◌≡◌, ◌+◌, ◌<◌, ◌≤◌, ◌++◌, List, ℕ, [], length, decimal, codes, MatchOption, slice_get};
+ghost use Rattle.std.specs.Prelude.{◌≡◌, ◌+◌, ◌<◌, ◌≤◌, ◌++◌, List, ℕ, [], length, decimal, codes};
 ghost use Rattle.std.specs.List.{flat_map};
 ghost use Rattle.pd_header.specs.Kinds.{name_of};
 ghost use Rattle.pd_device.specs.Device.{CountsFailure, Writes};
@@ -8,10 +8,11 @@ ghost use Rattle.pd_report.specs.FaultLines.{fault_words, fault_text, fault_line
 ghost use Rattle.pd_report.specs.Report.{side_text as side_words};
 
 use crate::line::start_of_line;
+use crate::page::{MOST, PAGE, Show, write_entries};
 use crate::report::side_text;
-use pd_device::{BenchFault, Text, TextOut, write_all, write_text};
+use pd_device::{BenchFault, Text, TextOut, write_all};
 use pd_header::{Kind, Side};
-use pd_port::Fault;
+use pd_port::{Entry, Fault};
 use pd_run::Runner;
 
 /// The most bytes of a line.
@@ -33,47 +34,37 @@ pub fn faults<const N: usize, T: Runner<N>, W: TextOut>(
     ensures counts { CountsFailure (W.failures writer.old) (W.failures writer.new) result }
 {
     write_all(writer, b"= faults\n")?;
-    for index in 0..run.len() {
-        write_entry(run, index, writer)?;
-    }
-    Ok(())
+    write_entries(&EachFault, run, writer)
 }
 
-/// Writes the faults of the entry at the index.
-fn write_entry<const N: usize, T: Runner<N>, W: TextOut>(
-    run: &T,
-    index: usize,
-    writer: &mut W,
-) -> Result<(), BenchFault>
-    requires { index < length (T.entries run.now) }
-    ensures text { MatchOption (slice_get (T.entries run.now) index) ⊥
-        (λ move. Writes (W.taken writer.old) (W.taken writer.new) result (fault_lines move)) }
-    ensures counts { CountsFailure (W.failures writer.old) (W.failures writer.new) result }
-{
-    match run.entry(index) {
-        Some((port, entry)) => write_faults(entry.at, port, entry.faults.as_slice(), writer),
-        None => Ok(()),
+/// The faults.
+#[derive(Drop)]
+struct EachFault;
+
+impl Show for EachFault {
+    ghost adds = { λ _ move. fault_lines move };
+
+    fn add(&self, port: usize, entry: &Entry, page: &mut Text<PAGE>) {
+        // Read for the prover alone: that there are at most eight.
+        let _count = entry.faults.len();
+        add_faults(entry.at, port, entry.faults.as_slice(), page);
     }
 }
 
-fn write_faults<W: TextOut>(
-    at: u64,
-    port: usize,
-    faults: &[Fault],
-    writer: &mut W,
-) -> Result<(), BenchFault>
-    ensures text { Writes (W.taken writer.old) (W.taken writer.new) result (flat_map (fault_text at port) faults.now) }
-    ensures counts { CountsFailure (W.failures writer.old) (W.failures writer.new) result }
+fn add_faults(at: u64, port: usize, faults: &[Fault], page: &mut Text<PAGE>)
+    requires few { length faults.now ≤ 8 }
+    requires room { length page.old + MOST ≤ PAGE }
+    ensures { page.new ≡ page.old ++ flat_map (fault_text at port) faults.now }
 {
     for fault in faults {
-        write_text(writer, &fault_line(at, port, *fault))?;
+        page.push_all(fault_line(at, port, *fault).as_slice());
     }
-    Ok(())
 }
 
 #[tactic(auto, unfolding(crate::specs::FaultLines::fault_text))]
 fn fault_line(at: u64, port: usize, fault: Fault) -> Text<WIDTH>
-    ensures { result ≡ fault_text at port fault }
+    ensures text { result ≡ fault_text at port fault }
+    ensures short { length result ≤ WIDTH }
 {
     let mut text = start_of_line(at, port);
     text.push_all(words_of(fault).as_slice());

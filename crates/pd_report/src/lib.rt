@@ -6,6 +6,7 @@ mod fault_lines;
 pub mod laws;
 mod line;
 mod margin_lines;
+mod page;
 mod report;
 mod walk;
 

@@ -1,11 +1,13 @@
 //! The margins of a run as text.
 
-ghost use Rattle.std.specs.Prelude.{◌≡◌, ◌+◌, ◌-◌, ◌<◌, ◌≤◌, ◌++◌, List, ℕ, [], length, Some, slice_get, drop, min, option_map, IfSome};
+ghost use Rattle.std.specs.Prelude.{◌≡◌, ◌+◌, ◌-◌, ◌<◌, ◌≤◌, ◌++◌, List, ℕ, [], length, Some, slice_get, drop, min, option_map};
+ghost use Rattle.std.specs.Prelude.{unwrap_or, IfSome};
 ghost use Rattle.pd_device.specs.Device.{CountsFailure, Writes};
 ghost use Rattle.pd_report.specs.Margins.{margins_text};
 ghost use Rattle.pd_report.specs.Walk.{IsWalk, NoneBefore, left_of, text_before};
 ghost use Rattle.pd_scenario.specs.Plans.{plan_of};
 
+use crate::page::{MOST, PAGE};
 use crate::walk::{WIDTH, Walk};
 use pd_device::{BenchFault, Text, TextOut, write_all, write_text};
 use pd_run::Runner;
@@ -29,18 +31,17 @@ pub fn margins<const N: usize, T: Runner<N>, W: TextOut>(
     let end = scenario.end_time();
     let mut walk = Walk::new(scenario);
     while walk.at <= end {
-        write_text(writer, &step(run, scenario, &mut walk))?;
+        write_text(writer, &page_from(run, scenario, &mut walk))?;
     }
     Ok(())
 }
 
-/// Sees the next entry of the instant at which the walk stands. Where there is none left, that instant has ended: goes on to
-/// the next one at which something may change, and answers the line of the one that has ended.
-fn step<const N: usize, T: Runner<N>>(
+/// Goes on until a page is full or the end is past, and answers the lines of the instants that have ended.
+fn page_from<const N: usize, T: Runner<N>>(
     run: &T,
     scenario: &Scenario<N>,
     walk: &mut Walk,
-) -> Text<WIDTH>
+) -> Text<PAGE>
     requires walk { IsWalk (plan_of scenario.now) (T.entries run.now) walk.old }
     requires in_time { walk.old.at ≤ (plan_of scenario.now).end }
     ensures walk { IsWalk (plan_of scenario.now) (T.entries run.now) walk.new }
@@ -49,12 +50,57 @@ fn step<const N: usize, T: Runner<N>>(
     ensures less { left_of (plan_of scenario.now) (T.entries run.now) walk.new
         < left_of (plan_of scenario.now) (T.entries run.now) walk.old }
 {
+    let end = scenario.end_time();
+    let mut page = Text::new();
+    while walk.at <= end && page.as_slice().len() <= PAGE - MOST {
+        add_step(run, scenario, walk, &mut page);
+    }
+    page
+}
+
+/// Takes a step, and adds its line to a page.
+fn add_step<const N: usize, T: Runner<N>>(
+    run: &T,
+    scenario: &Scenario<N>,
+    walk: &mut Walk,
+    page: &mut Text<PAGE>,
+)
+    requires walk { IsWalk (plan_of scenario.now) (T.entries run.now) walk.old }
+    requires in_time { walk.old.at ≤ (plan_of scenario.now).end }
+    requires room { length page.old + MOST ≤ PAGE }
+    ensures walk { IsWalk (plan_of scenario.now) (T.entries run.now) walk.new }
+    ensures text { (line : List ℕ) × (page.new ≡ page.old ++ line) × (text_before (plan_of scenario.now) (T.entries run.now) walk.new.at
+        ≡ text_before (plan_of scenario.now) (T.entries run.now) walk.old.at ++ line) }
+    ensures less { left_of (plan_of scenario.now) (T.entries run.now) walk.new
+        < left_of (plan_of scenario.now) (T.entries run.now) walk.old }
+{
+    if let Some(line) = step(run, scenario, walk) {
+        page.push_all(line.as_slice());
+    }
+}
+
+/// Sees the next entry of the instant at which the walk stands. Where there is none left, that instant has ended: goes on to
+/// the next one at which something may change, and answers the line of the one that has ended.
+fn step<const N: usize, T: Runner<N>>(
+    run: &T,
+    scenario: &Scenario<N>,
+    walk: &mut Walk,
+) -> Option<Text<WIDTH>>
+    requires walk { IsWalk (plan_of scenario.now) (T.entries run.now) walk.old }
+    requires in_time { walk.old.at ≤ (plan_of scenario.now).end }
+    ensures walk { IsWalk (plan_of scenario.now) (T.entries run.now) walk.new }
+    ensures text { text_before (plan_of scenario.now) (T.entries run.now) walk.new.at
+        ≡ text_before (plan_of scenario.now) (T.entries run.now) walk.old.at ++ unwrap_or result [] }
+    ensures short { IfSome result (λ line. length line ≤ WIDTH) }
+    ensures less { left_of (plan_of scenario.now) (T.entries run.now) walk.new
+        < left_of (plan_of scenario.now) (T.entries run.now) walk.old }
+{
     // A usize counts the entries, so it counts those that are seen.
     let _count = run.len();
     if let Some((port, entry)) = run.entry(walk.seen) {
         if entry.at <= walk.at {
             walk.note(port, entry.contract);
-            return Text::new();
+            return None;
         }
     }
     let next = next_entry(run, walk.seen, scenario.end_time() + 1);

@@ -1,14 +1,15 @@
 //! The packets of a run as text.
 
-ghost use Rattle.std.specs.Prelude.{◌≡◌, ◌+◌, ◌<◌, ◌≤◌, ◌++◌, List, ℕ, [], length, decimal, codes, MatchOption, slice_get};
+ghost use Rattle.std.specs.Prelude.{◌≡◌, ◌+◌, ◌<◌, ◌≤◌, ◌++◌, List, ℕ, [], length, decimal, codes, Some};
 ghost use Rattle.pd_device.specs.Device.{CountsFailure, Writes};
 ghost use Rattle.pd_report.specs.Report.{head_text, line_of, start_text, packet_text, hard_reset_text, side_text, set_text, fate_text};
 ghost use Rattle.pd_report.specs.Report.{transcript_text};
 
+use crate::page::{PAGE, Show, write_entries};
 use pd_device::{BenchFault, Text, TextOut, write_text};
 use pd_header::{Side, header_id, header_kind};
 use pd_packet::{Fate, Packet, codes_of};
-use pd_port::Start;
+use pd_port::{Entry, Start};
 use pd_run::Runner;
 use pd_symbols::{Channel, OrderedSet, ordered};
 
@@ -29,10 +30,27 @@ pub fn transcript<const N: usize, T: Runner<N>, W: TextOut>(
     ensures counts { CountsFailure (W.failures writer.old) (W.failures writer.new) result }
 {
     write_text(writer, &head(port))?;
-    for index in 0..run.len() {
-        write_text(writer, &line_at(run, index, port))?;
+    write_entries(&OfPort { port }, run, writer)
+}
+
+/// The packets that start on a port.
+#[derive(Drop)]
+struct OfPort {
+    port: usize,
+}
+
+impl Show for OfPort {
+    ghost adds = { λ show move. line_of show.port move };
+
+    #[tactic(auto, unfolding(crate::specs::Report::line_of))]
+    fn add(&self, port: usize, entry: &Entry, page: &mut Text<PAGE>) {
+        if port != self.port {
+            return;
+        }
+        if let Some(start) = &entry.start {
+            page.push_all(start_line(entry.at, start).as_slice());
+        }
     }
-    Ok(())
 }
 
 /// The head of a transcript.
@@ -46,30 +64,19 @@ fn head(port: usize) -> Text<WIDTH>
     text
 }
 
-/// What the entry at the index adds to the transcript of the port.
-#[tactic(auto, unfolding(crate::specs::Report::line_of))]
-fn line_at<const N: usize, T: Runner<N>>(run: &T, index: usize, port: usize) -> Text<WIDTH>
-    requires { index < length (T.entries run.now) }
-    ensures { MatchOption (slice_get (T.entries run.now) index) ⊥ (λ move. result ≡ line_of port move) }
-{
-    match run.entry(index) {
-        Some((at_port, entry)) if at_port == port => start_line(entry.at, &entry.start),
-        _ => Text::new(),
-    }
-}
-
-fn start_line(at: u64, start: &Option<Start>) -> Text<WIDTH>
-    ensures { result ≡ start_text at start.now }
+fn start_line(at: u64, start: &Start) -> Text<WIDTH>
+    ensures text { result ≡ start_text at (Some start.now) }
+    ensures short { length result ≤ WIDTH }
 {
     match start {
-        Some(Start::Packet { side, packet, fate }) => packet_line(at, *side, packet, fate),
-        Some(Start::HardReset { side }) => hard_reset_line(at, *side),
-        None => Text::new(),
+        Start::Packet { side, packet, fate } => packet_line(at, *side, packet, fate),
+        Start::HardReset { side } => hard_reset_line(at, *side),
     }
 }
 
 fn packet_line(at: u64, side: Side, packet: &Packet, fate: &Fate) -> Text<WIDTH>
-    ensures { result ≡ packet_text at side packet.now fate.now }
+    ensures text { result ≡ packet_text at side packet.now fate.now }
+    ensures short { length result ≤ WIDTH }
 {
     let name = header_kind(packet.header()).name();
     let codes = codes_of(packet, *fate);
@@ -89,7 +96,8 @@ fn packet_line(at: u64, side: Side, packet: &Packet, fate: &Fate) -> Text<WIDTH>
 }
 
 fn hard_reset_line(at: u64, side: Side) -> Text<WIDTH>
-    ensures { result ≡ hard_reset_text at side }
+    ensures text { result ≡ hard_reset_text at side }
+    ensures short { length result ≤ WIDTH }
 {
     let mut text = Text::new();
     text.push_right(at);

@@ -1,7 +1,7 @@
 //! What the contracts take of the shared budget, from instant to instant.
 
 ghost use Rattle.std.specs.Prelude.{◌≡◌, ◌+◌, ◌-◌, ◌*◌, ◌<◌, ◌≤◌, ◌++◌, ◌^◌, List, ℕ, [], length, sum, take, decimal, codes, replicate};
-ghost use Rattle.std.specs.Prelude.{IfSome};
+ghost use Rattle.std.specs.Prelude.{IfSome, unwrap_or};
 ghost use Rattle.pd_report.specs.Margins.{margin_text, power_left};
 ghost use Rattle.pd_report.specs.Walk.{GoesOnTo, KnowsBudget, line_after, noted_walk, standing_of};
 ghost use Rattle.pd_scenario.specs.Plans.{plan_of};
@@ -76,13 +76,14 @@ impl Walk {
     }
 
     /// The line of the instant at which the walk stands, if there is one.
-    pub fn line(&self) -> Text<WIDTH>
-        ensures { result ≡ line_after self.now.before self.now.at (standing_of self.now) }
+    pub fn line(&self) -> Option<Text<WIDTH>>
+        ensures text { unwrap_or result [] ≡ line_after self.now.before self.now.at (standing_of self.now) }
+        ensures short { IfSome result (λ line. length line ≤ WIDTH) }
     {
         let standing = self.standing();
         match self.before {
-            Some(before) if before == standing => Text::new(),
-            _ => margin_line(self.at, standing),
+            Some(before) if before == standing => None,
+            _ => Some(margin_line(self.at, standing)),
         }
     }
 
@@ -129,7 +130,8 @@ fn total(powers: &[u64; 8]) -> u128
 /// The line of what stands at the end of an instant.
 #[tactic(auto, unfolding(crate::specs::Margins::margin_text))]
 fn margin_line(at: u64, standing: Standing) -> Text<WIDTH>
-    ensures { result ≡ margin_text at standing.contracts standing.budget }
+    ensures text { result ≡ margin_text at standing.contracts standing.budget }
+    ensures short { length result ≤ WIDTH }
 {
     let margin = u128::from(standing.budget).saturating_sub(standing.contracts);
     let mut text = Text::new();

@@ -38,11 +38,11 @@ loop-walk-init g c =
 
 pub loop-walk-preserved : goal.loop-walk-preserved
 loop-walk-preserved g c = record {
-  walked = c.step.ensures.walk;
+  walked = c.page_from.ensures.walk;
   end_is = c.loop-walk.invariant.end_is;
   written =
-      written-more (plan_of c.args.scenario.now) (g.T.Runner.entries c.args.run.now) _ _ _ c.loop-walk.walk.at c.step.new.walk.at
-      c.step.result c.step.ensures.text
+      written-more (plan_of c.args.scenario.now) (g.T.Runner.entries c.args.run.now) _ _ _ c.loop-walk.walk.at c.page_from.new.walk.at
+      c.page_from.result c.page_from.ensures.text
       c.loop-walk.invariant.written c.in_ok-write_text.ensures.text;
   counts = c.in_ok-write_text.ensures.counts ∙ c.loop-walk.invariant.counts;
 }
@@ -52,8 +52,9 @@ returns-in_err-write_text-clause-text g c =
     let p = err_from_is_err_and c.from_residual-in_err-write_text.result c.from_residual-in_err-write_text.ensures.1 in
     rw (p.1, p.2) (
       c.in_err-write_text.ensures.text.0,
-      cut-line (plan_of c.args.scenario.now) (g.T.Runner.entries c.args.run.now) _ _ _ c.loop-walk.walk.at c.step.new.walk.at c.step.result
-          c.step.ensures.walk.in_time c.step.ensures.text c.loop-walk.invariant.written c.in_err-write_text.ensures.text.1,
+      cut-line (plan_of c.args.scenario.now) (g.T.Runner.entries c.args.run.now) _ _ _ c.loop-walk.walk.at c.page_from.new.walk.at
+          c.page_from.result c.page_from.ensures.walk.in_time c.page_from.ensures.text c.loop-walk.invariant.written
+          c.in_err-write_text.ensures.text.1,
     )
 
 pub returns-clause-text : goal.returns-clause-text

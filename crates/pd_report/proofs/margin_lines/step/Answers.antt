@@ -73,7 +73,7 @@ returns-clause-text g c =
     let ahead =
     none-before-less c.sooner.result c.next_entry-next.result (drop c.args.walk.now.seen moves) c.sooner.ensures.first
     c.next_entry-next.ensures.none_before in
-    rw c.line-line.ensures
+    rw c.line-line.ensures.text
     (text-on (plan_of c.args.scenario.now) moves c.args.walk.now c.sooner.result c.requires.walk c.go_on.ensures.later ahead
     c.sooner.ensures.second
     c.go_on.new.self c.go_on.ensures)
