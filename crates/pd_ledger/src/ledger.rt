@@ -42,13 +42,30 @@ impl<const N: usize> Ledger<N> {
         requires funded { sum floors.now ≤ budget }
         ensures { result ≡ record { budget = budget; floors = floors.now; holds = floors.now } }
     {
+        Ledger::with_holds(budget, floors, floors)
+    }
+
+    /// A ledger of 1 to 8 ports for this budget, these floors and these holds, in microwatts. Together the ports may hold more
+    /// than the budget.
+    pub fn with_holds(budget: u64, floors: &[u64], holds: &[u64]) -> Ledger<N>
+        requires some { 1 ≤ N }
+        requires few { N ≤ 8 }
+        requires count { length floors.now ≡ N }
+        requires held_count { length holds.now ≡ N }
+        requires least { All (λ floor. 500000 ≤ floor) floors.now }
+        requires floored { (p : ℕ) → p < N → slice_index floors.now p ≤ slice_index holds.now p }
+        requires funded { sum floors.now ≤ budget }
+        ensures { result ≡ record { budget = budget; floors = floors.now; holds = holds.now } }
+    {
         let mut kept = [0; 8];
         kept[..N].copy_from_slice(floors);
+        let mut held = [0; 8];
+        held[..N].copy_from_slice(holds);
         Ledger {
             budget,
             floors: kept,
-            holds: kept,
-            total: total(floors),
+            holds: held,
+            total: total(holds),
         }
     }
 
