@@ -15,3 +15,5 @@ pub mod Passing
 pub mod Within
 pub mod StepsLeft
 pub mod Plans
+pub mod Taken
+pub mod Until

@@ -7,3 +7,4 @@ pub mod Shown
 pub mod Sound
 pub mod Start
 pub mod StepsLeft
+pub mod UpTo

@@ -1,6 +1,7 @@
 //! Runs: what the ports of a charger do under a scenario, from its start to its end.
 #![tactic(auto)]
 
+mod had;
 pub mod laws;
 mod live;
 mod plain;

@@ -1,9 +1,9 @@
 //! Ports that move.
 
-ghost use Rattle.std.specs.Prelude.{◌≡◌, ℕ, ◌+◌, ◌-◌, ◌<◌, ◌≤◌, ◌∷◌, ◌++◌, ◌↔◌, List, [], None, true, length};
+ghost use Rattle.std.specs.Prelude.{◌≡◌, ℕ, ◌+◌, ◌-◌, ◌<◌, ◌≤◌, ◌∷◌, ◌++◌, ◌↔◌, List, [], None, true, length, max};
 ghost use Rattle.std.specs.Prelude.{IfOk, IfSome, IfNone, MatchOption, IsTrue, ⊤, option_map, slice_get, slice_index, slice_index_or};
 ghost use Rattle.pd_port.specs.Meter.{raised};
-ghost use Rattle.pd_port.specs.Port.{is_event, due};
+ghost use Rattle.pd_port.specs.Port.{is_event, due, hold};
 ghost use Rattle.pd_ledger.specs.Offer.{answer_of};
 ghost use Rattle.pd_scenario.specs.Plan.{IsPlan, count, force, script_of};
 ghost use Rattle.pd_run.specs.Run.{Move, NoneLater, taken_after};
@@ -12,8 +12,10 @@ ghost use Rattle.pd_run.specs.Live.{reply_at, moved_port, HasMoved};
 ghost use Rattle.pd_run.specs.Shown.{SafeRun};
 ghost use Rattle.pd_run.specs.Start.{no_port};
 ghost use Rattle.pd_run.specs.StepsLeft.{steps_left};
+ghost use Rattle.pd_run.specs.UpTo.{IsUpTo, AreAfter, had_by};
 
 use crate::Plan;
+use crate::had::had_by;
 use pd_ledger::Ledger;
 use pd_objects::{Answer, Query};
 use pd_port::{Due, Entry, Meter, Port, What};
@@ -54,15 +56,36 @@ impl<const N: usize> Live<N> {
     pub fn new(alloc: Global, plan: &Plan<N>) -> Result<Live<N>, AllocError>
         ensures { IfOk result (λ live. StandsAfter plan.now [] live) }
     {
+        let _end = plan.end();
+        let ports = plan.ports(alloc)?;
+        Live::resume(alloc, plan, ports, 0)
+    }
+
+    /// The ports as they stand, with nothing due before a time any more.
+    ///
+    /// # Errors
+    /// There is no memory.
+    pub fn resume(
+        alloc: Global,
+        plan: &Plan<N>,
+        ports: Vec<Port>,
+        at: u64,
+    ) -> Result<Live<N>, AllocError>
+        requires count { length ports.items ≡ N }
+        requires within { at ≤ plan.now.end }
+        ensures { IfOk result (λ live. (past : List Move) → IsUpTo plan.now past at → AreAfter plan.now past ports.items
+            → StandsAfter plan.now past live) }
+    {
         let budget = plan.budget();
         let floors = plan.floors(alloc)?;
-        let ports = plan.ports(alloc)?;
-        let dues = first_dues(alloc, plan, ports.as_slice())?;
+        let holds = holds_of(alloc, ports.as_slice(), floors.as_slice())?;
+        let taken = taken_by(alloc, plan, at)?;
+        let dues = next_dues(alloc, plan, ports.as_slice(), taken.as_slice())?;
         Ok(Live {
             ports,
-            taken: vec![in alloc; 0; N]?,
+            taken,
             dues,
-            ledger: Ledger::new(budget, floors.as_slice()),
+            ledger: Ledger::with_holds(budget, floors.as_slice(), holds.as_slice()),
         })
     }
 
@@ -219,20 +242,53 @@ impl<const N: usize> Live<N> {
     }
 }
 
-// What falls due first on each port.
-fn first_dues<const N: usize>(
+// What each port holds, in microwatts; no less than its floor.
+fn holds_of(alloc: Global, ports: &[Port], floors: &[u64]) -> Result<Vec<u64>, AllocError>
+    requires { length floors.now ≡ length ports.now }
+    ensures count { IfOk result (λ holds. length holds.items ≡ length ports.now) }
+    ensures holds { IfOk result (λ holds. (p : ℕ) → p < length ports.now
+        → slice_index holds.items p ≡ max (slice_index floors.now p)
+        (hold (slice_index_or ports.now p no_port).settings (slice_index_or ports.now p no_port).port_record)) }
+{
+    let mut holds = Vec::new(alloc);
+    for (place, port) in ports.iter().enumerate() {
+        holds.push(port.hold().max(floors[place]))?;
+    }
+    Ok(holds)
+}
+
+// How many events of each port are before a time.
+fn taken_by<const N: usize>(
+    alloc: Global,
+    plan: &Plan<N>,
+    at: u64,
+) -> Result<Vec<usize>, AllocError>
+    ensures count { IfOk result (λ taken. length taken.items ≡ N) }
+    ensures had { IfOk result (λ taken. (p : ℕ) → p < N → slice_index taken.items p ≡ had_by at (script_of plan.now p)) }
+{
+    let mut taken = Vec::new(alloc);
+    for port in 0..N {
+        taken.push(had_by(plan, port + 1, 0, at))?;
+    }
+    Ok(taken)
+}
+
+// What falls due next on each port, after so many events of its script.
+fn next_dues<const N: usize>(
     alloc: Global,
     plan: &Plan<N>,
     ports: &[Port],
+    taken: &[usize],
 ) -> Result<Vec<Option<Due>>, AllocError>
-    requires { length ports.now ≡ N }
+    requires ports { length ports.now ≡ N }
+    requires taken { length taken.now ≡ N }
     ensures count { IfOk result (λ dues. length dues.items ≡ N) }
-    ensures dues { IfOk result (λ dues. (p : ℕ) → p < N
-        → slice_index_or dues.items p None ≡ due (slice_index_or ports.now p no_port).port_record (slice_get (script_of plan.now p) 0)) }
+    ensures dues { IfOk result (λ dues. (p : ℕ) → p < N → slice_index_or dues.items p None
+        ≡ due (slice_index_or ports.now p no_port).port_record (slice_get (script_of plan.now p) (slice_index taken.now p))) }
 {
     let mut dues = Vec::new(alloc);
     for (place, port) in ports.iter().enumerate() {
-        dues.push(port.due(plan.event(place + 1, 0)))?;
+        dues.push(port.due(plan.event(place + 1, taken[place])))?;
     }
     Ok(dues)
 }

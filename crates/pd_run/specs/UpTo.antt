@@ -1,0 +1,49 @@
+-- A run up to a time, and plans that ask the same from one time to another.
+use Rattle.std.specs.Prelude.{◌≡◌, ◌⊎◌, ℕ, ◌<◌, ◌≤◌, nat_lt, if◌then◌else◌, List, [], ◌∷◌, length, drop, All, Some, filter}
+use Rattle.std.specs.Prelude.{slice_index_or}
+use Rattle.pd_setup.specs.Events.{EventData}
+use Rattle.pd_port.specs.declared.due.Due.{Due}
+use Rattle.pd_port.specs.Port.{PortData}
+use Rattle.pd_scenario.specs.Plan.{Plan, count, script_of, force}
+use Rattle.pd_run.specs.Run.{Move, standing, due_after}
+use Rattle.pd_run.specs.Live.{RunsTo, port_after}
+use Rattle.pd_run.specs.Start.{no_port}
+
+-- the moves before a time
+abbrev pub before : ℕ → List Move → List Move
+before at moves = filter (λ m. nat_lt m.due.time at) moves
+
+-- The moves are the plan's run up to a time: they are before it, and nothing falls due before it any more, up to the end.
+pub record IsUpTo (plan : Plan) (moves : List Move) (at : ℕ) : Type 0 where
+  pub runs : RunsTo plan moves
+  pub earlier : All (λ m. m.due.time < at) moves
+  pub passed : (p : ℕ) (d : Due) → p < count plan → due_after plan moves p ≡ Some d → d.time ≤ plan.end → at ≤ d.time
+
+-- the ports stand where these moves have left them
+abbrev pub AreAfter : Plan → List Move → List PortData → Type 0
+AreAfter plan moves ports = (p : ℕ) → p < count plan → slice_index_or ports p no_port ≡ port_after plan moves p
+
+-- the first events of a script, those before a time; a script stands in the order of times
+abbrev pub until : ℕ → List EventData → List EventData
+until at [] = []
+until at (e ∷ es) = if nat_lt e.at at then e ∷ until at es else []
+
+-- how many they are
+abbrev pub had_by : ℕ → List EventData → ℕ
+had_by at script = length (until at script)
+
+-- the events of a script from one time to another, that of the second not included
+abbrev pub events_in : ℕ → ℕ → List EventData → List EventData
+events_in from to script = until to (drop (had_by from script) script)
+
+-- Two plans ask the same from one time to another: of each port the same events, at each instant the same budget, and both
+-- end together or not before the second time.
+pub record AgreeIn (a b : Plan) (from to : ℕ) : Type 0 where
+  pub events : (p : ℕ) → p < count a → events_in from to (script_of a p) ≡ events_in from to (script_of b p)
+  pub budget : (t : ℕ) → from ≤ t → t < to → force a t ≡ force b t
+  pub ends : (a.end ≡ b.end) ⊎ ((to ≤ a.end) × (to ≤ b.end))
+
+-- after these moves the ports of one plan stand as those of another after others: with the same settings and records
+pub record AreAlike (a : Plan) (moves : List Move) (b : Plan) (others : List Move) : Type 0 where
+  pub settings : a.settings ≡ b.settings
+  pub records : (p : ℕ) → p < count a → (standing a moves p).state ≡ (standing b others p).state
