@@ -8,24 +8,24 @@ ghost use Rattle.pd_protocol.specs.Messages.{packet_of, role_of};
 use arrayvec::ArrayVec;
 use pd_header::{Header, Kind, Side, header_id};
 use pd_packet::Packet;
-use pd_symbols::{Channel, copied};
+use pd_symbols::{Channel, ShortList};
 use std::marker::Model;
 
 /// What a side sends: its type, 0 to 31, and at most seven objects.
-#[derive(Debug, Drop)]
+#[derive(Clone, Copy, Debug)]
 pub struct Message {
     kind: u8,
-    objects: ArrayVec<u32, 7>,
+    objects: ShortList,
 }
 
 impl Model for Message {
     ghost Value = { MessageData };
 
-    ghost view = { λ m. record { kind = m.kind; objects = m.objects.items } };
+    ghost view = { λ m. record { kind = m.kind; objects = m.objects } };
 
     ghost invariant = { λ m. m.kind < 2 ^ 5 };
 
-    ghost inverse = { λ v. record { kind = v.kind; objects = record { items = v.objects } } };
+    ghost inverse = { λ v. record { kind = v.kind; objects = v.objects } };
 }
 
 impl Message {
@@ -34,7 +34,10 @@ impl Message {
         requires { kind < 2 ^ 5 }
         ensures { result ≡ record { kind = kind; objects = objects.items } }
     {
-        Message { kind, objects }
+        Message {
+            kind,
+            objects: ShortList::of(objects.as_slice()),
+        }
     }
 
     /// The message of this kind with these objects.
@@ -83,10 +86,7 @@ impl Message {
     pub fn copy(&self) -> Message
         ensures { result ≡ self.now }
     {
-        Message {
-            kind: self.kind,
-            objects: copied(self.objects.as_slice()),
-        }
+        *self
     }
 
     /// The packet that carries it.
@@ -97,9 +97,9 @@ impl Message {
         ensures { result ≡ packet_of side channel revision id self }
     {
         let kind = self.kind;
-        let count = self.objects.len() as u8;
+        let count = self.objects.as_slice().len() as u8;
         let header = header_word(side, channel, revision, id, kind, count);
-        Packet::new(channel, header, self.objects)
+        Packet::of(channel, header, self.objects)
     }
 }
 
