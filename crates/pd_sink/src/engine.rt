@@ -16,7 +16,7 @@ use crate::rule::{Asked, request};
 use crate::{Act, Note, Sending, State, Stimulus};
 use arrayvec::ArrayVec;
 use pd_setup::{Demand, SinkMode, SinkRevision, SinkSettings};
-use pd_symbols::copied;
+use pd_symbols::ShortList;
 use pd_timers::{Deadlines, LAST_TIME, Timer};
 use std::marker::Model;
 
@@ -40,7 +40,7 @@ pub struct Sink {
     /// The sink that is attached.
     sink: Option<SinkSettings>,
     /// The objects of the offer that came last.
-    kept_offer: ArrayVec<u32, 7>,
+    kept_offer: ShortList,
 }
 
 impl Model for Sink {
@@ -57,7 +57,7 @@ impl Model for Sink {
       fresh = s.fresh;
       has_contract = s.has_contract;
       sink = s.sink;
-      kept_offer = s.kept_offer.items;
+      kept_offer = s.kept_offer;
     } };
 }
 
@@ -87,7 +87,7 @@ impl Sink {
             fresh: false,
             has_contract: false,
             sink: None,
-            kept_offer: ArrayVec::new(),
+            kept_offer: ShortList::new(),
         }
     }
 
@@ -249,7 +249,7 @@ impl Sink {
         ensures { self.new ≡ record self.old { kept_offer = offer_from stimulus.now self.old.kept_offer } }
     {
         if let Stimulus::SourceCapabilities(objects) = stimulus {
-            self.kept_offer = copied(objects.as_slice());
+            self.kept_offer = ShortList::of(objects.as_slice());
         }
     }
 
@@ -317,7 +317,7 @@ impl Sink {
             self.fresh == other.fresh;
             self.has_contract == other.has_contract;
             same_sinks(&self.sink, &other.sink);
-            self.kept_offer.as_slice() == other.kept_offer.as_slice();
+            self.kept_offer == other.kept_offer;
         }
     }
 
@@ -334,7 +334,7 @@ impl Sink {
             fresh: self.fresh,
             has_contract: self.has_contract,
             sink: self.sink,
-            kept_offer: copied(self.kept_offer.as_slice()),
+            kept_offer: self.kept_offer,
         }
     }
 }

@@ -16,7 +16,7 @@ use crate::{Act, Revision, Sending, State, Stimulus};
 use arrayvec::ArrayVec;
 use pd_identity::limit_ma;
 use pd_objects::{Answer, Contract, Supply};
-use pd_symbols::copied;
+use pd_symbols::{ShortList, copied};
 use pd_timers::{Deadlines, LAST_TIME, Timer};
 use std::marker::Model;
 
@@ -52,9 +52,9 @@ pub struct Source {
     /// The object of the request that is accepted.
     accepted_request: Option<u32>,
     /// The currents in mA of the offer that is being made.
-    draft_offer: ArrayVec<u32, 7>,
+    draft_offer: ShortList,
     /// The currents in mA of the offer that was delivered.
-    delivered_offer: ArrayVec<u32, 7>,
+    delivered_offer: ShortList,
     contract: Option<Contract>,
 }
 
@@ -76,8 +76,8 @@ impl Model for Source {
         revision = s.revision;
         kept_request = s.kept_request;
         accepted_request = s.accepted_request;
-        draft_offer = s.draft_offer.items;
-        delivered_offer = s.delivered_offer.items;
+        draft_offer = s.draft_offer;
+        delivered_offer = s.delivered_offer;
         contract = s.contract;
       };
     } };
@@ -108,8 +108,8 @@ impl Source {
             revision: Revision::Revision3,
             kept_request: None,
             accepted_request: None,
-            draft_offer: ArrayVec::new(),
-            delivered_offer: ArrayVec::new(),
+            draft_offer: ShortList::new(),
+            delivered_offer: ShortList::new(),
             contract: None,
         }
     }
@@ -275,7 +275,7 @@ impl Source {
             Deed::CableLimit => self.limit = Some(CABLE_CURRENT_MA),
             Deed::KeepRequest => self.keep_request(stimulus),
             Deed::Draft => self.draft(answer),
-            Deed::Settle => self.delivered_offer = copied(self.draft_offer.as_slice()),
+            Deed::Settle => self.delivered_offer = self.draft_offer,
             Deed::Close => self.close(),
             Deed::Take => self.accepted_request = self.kept_request,
             Deed::Commit => self.commit(),
@@ -308,7 +308,7 @@ impl Source {
             (record self.old.record { draft_offer = draft_from answer.now self.old.record.draft_offer }) }
     {
         if let Some(Answer::Offer(currents)) = answer {
-            self.draft_offer = copied(currents.as_slice());
+            self.draft_offer = ShortList::of(currents.as_slice());
         }
     }
 
@@ -316,7 +316,7 @@ impl Source {
     fn close(&mut self)
         ensures { self.new ≡ with_record self.old (closed self.old.record) }
     {
-        self.draft_offer.clear();
+        self.draft_offer = ShortList::new();
         self.accepted_request = None;
     }
 
@@ -341,7 +341,7 @@ impl Source {
     {
         self.close();
         self.contract = None;
-        self.delivered_offer.clear();
+        self.delivered_offer = ShortList::new();
         self.revision = Revision::Revision3;
     }
 

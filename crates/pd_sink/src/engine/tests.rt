@@ -2,6 +2,7 @@
 
 use super::*;
 use pd_setup::SinkRevision;
+use pd_symbols::copied;
 
 mod contract;
 mod elsewhere;

@@ -42,8 +42,8 @@ impl Source {
             self.revision == other.revision;
             self.kept_request == other.kept_request;
             self.accepted_request == other.accepted_request;
-            self.draft_offer.as_slice() == other.draft_offer.as_slice();
-            self.delivered_offer.as_slice() == other.delivered_offer.as_slice();
+            self.draft_offer == other.draft_offer;
+            self.delivered_offer == other.delivered_offer;
             self.contract == other.contract;
         }
     }
@@ -66,8 +66,8 @@ impl Source {
             revision: self.revision,
             kept_request: self.kept_request,
             accepted_request: self.accepted_request,
-            draft_offer: copied(self.draft_offer.as_slice()),
-            delivered_offer: copied(self.delivered_offer.as_slice()),
+            draft_offer: self.draft_offer,
+            delivered_offer: self.delivered_offer,
             contract: self.contract,
         }
     }

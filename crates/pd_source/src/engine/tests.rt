@@ -190,13 +190,13 @@ fn entered(source: &Source, state: State) -> Source {
 fn offering(source: &Source) -> Source {
     let mut want = entered(source, State::SendCapabilities);
     want.caps_counter = source.caps_counter.saturating_add(1);
-    want.draft_offer = currents();
+    want.draft_offer = ShortList::of(currents().as_slice());
     want
 }
 
 /// `close`: no draft, no accepted request.
 fn close(want: &mut Source) {
-    want.draft_offer = ArrayVec::new();
+    want.draft_offer = ShortList::new();
     want.accepted_request = None;
 }
 
@@ -204,7 +204,7 @@ fn close(want: &mut Source) {
 fn void(want: &mut Source) {
     close(want);
     want.contract = None;
-    want.delivered_offer = ArrayVec::new();
+    want.delivered_offer = ShortList::new();
     want.revision = Revision::Revision3;
 }
 

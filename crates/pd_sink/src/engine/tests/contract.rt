@@ -59,7 +59,7 @@ fn k4_an_offer_is_kept(rt: HostRuntime) {
         let other = Stimulus::SourceCapabilities(copied(&[0x0001_90C8]));
         let acts = sink.step(400_000, &other);
         enter(&mut want, State::EvaluateCapability);
-        want.kept_offer = copied(&[0x0001_90C8]);
+        want.kept_offer = ShortList::of(&[0x0001_90C8]);
         want.deadlines.start(400_000, Timer::Delay);
         assert!(rt; sink.same(&want));
         assert!(rt; acts.as_slice() == [Act::DropWaiting].as_slice());

@@ -11,7 +11,7 @@ fn s10_sent_settles_the_offer(rt: HostRuntime) {
     let mut want = source.copy();
     want.sent = true;
     want.caps_counter = 0;
-    want.delivered_offer = currents();
+    want.delivered_offer = ShortList::of(currents().as_slice());
     want.deadlines.start(60_000, Timer::SenderResponse);
     assert!(rt; gives(source, 60_000, &sent(), &want, &[]));
 }

@@ -97,7 +97,7 @@ fn s28_another_offer_is_made(rt: HostRuntime) {
     for state in POLLING {
         let source = at(state);
         let mut want = offering(&source);
-        want.draft_offer = copied(&[3_000, 1_000]);
+        want.draft_offer = ShortList::of(&[3_000, 1_000]);
         let objects = copied(&[0x0801_912C, 0x0006_4064]);
         let acts = [
             Act::DropWaiting,
