@@ -1,4 +1,5 @@
 pub mod Charge
+pub mod Cost
 pub mod Fresh
 pub mod Kept
 pub mod Places

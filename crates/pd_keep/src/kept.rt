@@ -2,8 +2,10 @@
 
 ghost use Rattle.std.specs.Prelude.{◌≡◌, ℕ, ◌≤◌, List, [], Option, Some, None, OnOk, OnErr, map, length, slice_get, option_map};
 ghost use Rattle.pd_scenario.specs.Plans.{plan_of};
+ghost use Rattle.pd_run.specs.Cost.{IsPaid};
 ghost use Rattle.pd_run.specs.Shown.{Shows, SafeRun, IsShown};
 ghost use Rattle.pd_run.specs.Run.{shown};
+ghost use Rattle.pd_keep.specs.Cost.{CostsFreshMoves};
 ghost use Rattle.pd_keep.specs.Fresh.{IsCharged};
 
 use crate::kept_move::KeptMoves;
@@ -39,6 +41,8 @@ impl<const N: usize> Runner<N> for Kept<N> {
 
     ghost entries = { λ r. map shown r.moves };
 
+    ghost costs = { CostsFreshMoves };
+
     fn empty(alloc: Global) -> Kept<N> {
         Kept {
             plan: None,
@@ -55,6 +59,7 @@ impl<const N: usize> Runner<N> for Kept<N> {
         ensures plan { OnOk result (self.new.plan ≡ Some (plan_of scenario.now)) }
         ensures moves { OnOk result (SafeRun (plan_of scenario.now) self.new.moves) }
         ensures cost { OnOk result (IsCharged self.old (plan_of scenario.now) self.new.moves meter.old meter.new) }
+        ensures paid { OnOk result (IsPaid CostsFreshMoves self.old.plan (plan_of scenario.now) meter.old meter.new) }
         ensures same { OnErr result (self.new ≡ self.old) }
         ensures run { OnOk result (Shows (plan_of scenario.now) (map shown self.new.moves)) }
         ensures same_plan { OnErr result (self.new.plan ≡ self.old.plan) }

@@ -5,6 +5,7 @@ pub mod Forces
 pub mod Moves
 pub mod Offers
 pub mod OneRun
+pub mod Paid
 pub mod Runs
 pub mod Safe
 pub mod Scripts

@@ -1,3 +1,4 @@
+pub mod Cost
 pub mod Laws
 pub mod Live
 pub mod Order

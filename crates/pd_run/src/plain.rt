@@ -3,6 +3,7 @@
 ghost use Rattle.std.specs.Prelude.{◌≡◌, ℕ, ◌+◌, ◌≤◌, ◌∷◌, ◌++◌, List, [], IfOk, OnOk, OnErr, map, length, Some};
 ghost use Rattle.pd_port.specs.Meter.{raised};
 ghost use Rattle.pd_scenario.specs.Plans.{plan_of};
+ghost use Rattle.pd_run.specs.Cost.{IsPaid, CostsAllMoves};
 ghost use Rattle.pd_run.specs.Shown.{Shows, IsShown};
 
 use crate::{Live, Plan, Runner};
@@ -33,6 +34,8 @@ impl<const N: usize> Runner<N> for Plain<N> {
 
     ghost entries = { λ r. r.entries };
 
+    ghost costs = { CostsAllMoves };
+
     fn empty(alloc: Global) -> Plain<N> {
         Plain {
             plan: None,
@@ -52,6 +55,7 @@ impl<const N: usize> Runner<N> for Plain<N> {
         ensures same_run { OnErr result (self.new.entries ≡ self.old.entries) }
         ensures rises { meter.old ≤ meter.new }
         ensures cost { OnOk result (meter.new ≡ raised meter.old (length self.new.entries)) }
+        ensures paid { OnOk result (IsPaid CostsAllMoves self.old.plan (plan_of scenario.now) meter.old meter.new) }
     {
         let plan = Plan::of_scenario(alloc, scenario)?;
         let entries = run(alloc, &plan, meter)?;

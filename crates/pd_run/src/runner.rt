@@ -4,6 +4,7 @@ ghost use Rattle.std.specs.Prelude.{◌≡◌, ℕ, ◌≤◌, List, [], Option,
 ghost use Rattle.pd_port.specs.declared.entry.Entry.{Entry as EntryData};
 ghost use Rattle.pd_scenario.specs.Plan.{Plan};
 ghost use Rattle.pd_scenario.specs.Plans.{plan_of};
+ghost use Rattle.pd_run.specs.Cost.{Costs, IsPaid};
 ghost use Rattle.pd_run.specs.Shown.{Shows, AreEntriesOf};
 
 use pd_port::{Entry, Meter};
@@ -18,12 +19,15 @@ pub trait Runner<const N: usize> {
     /// The port of each move, numbered from 1, and its entry.
     ghost entries: { Self → List (ℕ × EntryData) };
 
+    /// What it costs to go from one plan, or from none, to another.
+    ghost costs: { Costs };
+
     /// A runner that stands for no scenario.
     fn empty(alloc: Global) -> Self
         ensures plan { plan result ≡ None }
         ensures entries { entries result ≡ [] };
 
-    /// StandsAfter for this scenario's run from now on. The meter rises by the steps that are taken.
+    /// Stands for this scenario's run from now on. The meter rises by what that costs, and never falls.
     ///
     /// # Errors
     /// There is no memory. The runner stands for what it stood for; the meter may have risen.
@@ -37,6 +41,7 @@ pub trait Runner<const N: usize> {
         ensures run { OnOk result (Shows (plan_of scenario.now) (entries self.new)) }
         ensures same_plan { OnErr result (plan self.new ≡ plan self.old) }
         ensures same_run { OnErr result (entries self.new ≡ entries self.old) }
+        ensures paid { OnOk result (IsPaid costs (plan self.old) (plan_of scenario.now) meter.old meter.new) }
         ensures rises { meter.old ≤ meter.new };
 
     /// The number of moves.
