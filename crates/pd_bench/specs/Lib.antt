@@ -1,3 +1,4 @@
+pub mod Cost
 pub mod Laws
 pub mod Pending
 pub mod Session

@@ -11,7 +11,8 @@ ghost use Rattle.pd_device.specs.Device.{CountsFailure, Writes};
 ghost use Rattle.pd_bench.specs.declared.tally.Outcome.{Outcome as OutcomeData};
 ghost use Rattle.pd_bench.specs.declared.tally.Outcome.TheVariants as outcomes;
 ghost use Rattle.pd_bench.specs.Session.{EditReply, ShowReply, show_text, can_show, answered, counted, done_text, refused_text};
-ghost use Rattle.pd_bench.specs.Stream.{IsRunning, Replied};
+ghost use Rattle.pd_bench.specs.Cost.{LineCosts};
+ghost use Rattle.pd_bench.specs.Stream.{IsRunning, Replied, so_far};
 
 use crate::{Outcome, Tally};
 use pd_device::{BenchFault, Text, TextOut, write_all, write_text};
@@ -42,11 +43,13 @@ pub(crate) fn answer<const N: usize, T: Runner<N>, W: TextOut>(
     requires runs { IsRunning (T.plan runner.old) (T.entries runner.old) state.old.scenario }
     requires room { answered state.old.tally + 1 < 2 ^ 32 }
     ensures reply { (reply : List ℕ)
-        × Replied N state.old.scenario state.old.tally (line_of line.now) reply state.new.scenario state.new.tally
+        × Replied T.costs N state.old.scenario (so_far state.old.tally meter.old) (line_of line.now) reply state.new.scenario
+        (so_far state.new.tally meter.new)
         × Writes (W.taken writer.old) (W.taken writer.new) result reply }
     ensures counts { CountsFailure (W.failures writer.old) (W.failures writer.new) result }
     ensures runs { IsRunning (T.plan runner.new) (T.entries runner.new) state.new.scenario }
     ensures room { answered state.new.tally ≤ answered state.old.tally + 1 }
+    ensures rises { meter.old ≤ meter.new }
 {
     match Line::read(line) {
         Ok(Line::Skip) => Ok(()),
@@ -69,10 +72,13 @@ fn change<const N: usize, T: Runner<N>, W: TextOut>(
     requires room { answered state.old.tally + 1 < 2 ^ 32 }
     ensures reply { (reply : List ℕ) × (outcome : OutcomeData)
         × EditReply state.old.scenario (edited N state.old.scenario edit.now) reply state.new.scenario outcome
-        × (state.new.tally ≡ counted state.old.tally outcome) × Writes (W.taken writer.old) (W.taken writer.new) result reply }
+        × (state.new.tally ≡ counted state.old.tally outcome)
+        × LineCosts T.costs state.old.scenario reply state.new.scenario outcome meter.old meter.new
+        × Writes (W.taken writer.old) (W.taken writer.new) result reply }
     ensures counts { CountsFailure (W.failures writer.old) (W.failures writer.new) result }
     ensures runs { IsRunning (T.plan runner.new) (T.entries runner.new) state.new.scenario }
     ensures room { answered state.new.tally ≤ answered state.old.tally + 1 }
+    ensures rises { meter.old ≤ meter.new }
 {
     let edited = match apply(alloc, &state.scenario, edit) {
         Ok(edited) => edited,

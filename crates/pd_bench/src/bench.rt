@@ -3,8 +3,9 @@
 ghost use Rattle.std.specs.Prelude.{◌≡◌, ◌+◌, ◌<◌, ◌≤◌, ◌^◌, ◌∷◌, [], length, OnOk, MatchResult};
 ghost use Rattle.pd_device.specs.Device.{CountsFailure};
 ghost use Rattle.pd_device.specs.declared.fault.BenchFault.TheVariants.{WriteFailed as write_failed};
+ghost use Rattle.pd_bench.specs.Cost.{SessionPaid};
 ghost use Rattle.pd_bench.specs.Session.{CountsFault, SessionEnds, WritesSession, answered};
-ghost use Rattle.pd_bench.specs.Stream.{Fed, FedPart, Finished, FinishedPart, IsRunning, TookIn, TookPart};
+ghost use Rattle.pd_bench.specs.Stream.{Fed, FedPart, Finished, FinishedPart, IsRunning, TookIn, TookPart, so_far};
 
 use crate::answer::{State, answer, write_done};
 use crate::pending::Pending;
@@ -40,6 +41,10 @@ pub fn session<const N: usize, T: Runner<N>, R: TextIn, W: TextOut>(
         (W.failures writer.old) (W.failures writer.new) }
     // All that the reader had, where both devices tell their bytes.
     ensures whole { WritesSession N result (R.left reader.old) (W.taken writer.old) (W.taken writer.new) scenario.entry }
+    // The meter goes up by what the first run and each edit cost this runner.
+    ensures cost { SessionPaid T.costs N result (R.left reader.old) (R.left reader.new) (W.taken writer.old) (W.taken writer.new)
+        (T.plan runner.old) scenario.entry meter.old meter.new }
+    ensures rises { meter.old ≤ meter.new }
 {
     if runner.replace(alloc, &scenario, meter).is_err() {
         return Err(BenchFault::Memory);
@@ -67,14 +72,15 @@ fn take_in<const N: usize, T: Runner<N>, R: TextIn, W: TextOut>(
     requires runs { IsRunning (T.plan runner.old) (T.entries runner.old) state.old.scenario }
     requires room { answered state.old.tally ≡ 0 }
     ensures text { MatchResult result
-        (λ _. TookIn N (R.left reader.old) (R.left reader.new) (W.taken writer.old) (W.taken writer.new)
-        state.old.scenario state.old.tally line.old state.new.scenario state.new.tally line.new)
-        (λ fault. TookPart N fault (R.left reader.old) (R.left reader.new) (W.taken writer.old) (W.taken writer.new)
-        state.old.scenario state.old.tally line.old) }
+        (λ _. TookIn T.costs N (R.left reader.old) (R.left reader.new) (W.taken writer.old) (W.taken writer.new)
+        state.old.scenario (so_far state.old.tally meter.old) line.old state.new.scenario (so_far state.new.tally meter.new) line.new)
+        (λ fault. TookPart T.costs N fault (R.left reader.old) (R.left reader.new) (W.taken writer.old) (W.taken writer.new)
+        state.old.scenario (so_far state.old.tally meter.old) line.old) }
     ensures counts { CountsFault result (R.failures reader.old) (R.failures reader.new)
         (W.failures writer.old) (W.failures writer.new) }
     ensures runs { IsRunning (T.plan runner.new) (T.entries runner.new) state.new.scenario }
     ensures room { OnOk result (answered state.new.tally ≤ 16777216) }
+    ensures rises { meter.old ≤ meter.new }
 {
     let mut buffer = [0u8; CHUNK];
     let mut total = 0usize;
@@ -106,13 +112,15 @@ fn feed<const N: usize, T: Runner<N>, W: TextOut>(
     requires runs { IsRunning (T.plan runner.old) (T.entries runner.old) state.old.scenario }
     requires room { answered state.old.tally + length chunk.now < 2 ^ 32 }
     ensures text { MatchResult result
-        (λ _. Fed N (W.taken writer.old) (W.taken writer.new) state.old.scenario state.old.tally line.old chunk.now state.new.scenario
-        state.new.tally line.new)
+        (λ _. Fed T.costs N (W.taken writer.old) (W.taken writer.new) state.old.scenario (so_far state.old.tally meter.old) line.old
+        chunk.now state.new.scenario (so_far state.new.tally meter.new) line.new)
         (λ fault. (fault ≡ write_failed)
-        × FedPart N (W.taken writer.old) (W.taken writer.new) state.old.scenario state.old.tally line.old chunk.now) }
+        × FedPart T.costs N (W.taken writer.old) (W.taken writer.new) state.old.scenario (so_far state.old.tally meter.old) line.old
+        chunk.now) }
     ensures counts { CountsFailure (W.failures writer.old) (W.failures writer.new) result }
     ensures runs { IsRunning (T.plan runner.new) (T.entries runner.new) state.new.scenario }
     ensures room { OnOk result (answered state.new.tally ≤ answered state.old.tally + length chunk.now) }
+    ensures rises { meter.old ≤ meter.new }
 {
     for byte in chunk {
         take_byte(alloc, *byte, line, state, runner, writer, meter)?;
@@ -133,13 +141,15 @@ fn take_byte<const N: usize, T: Runner<N>, W: TextOut>(
     requires runs { IsRunning (T.plan runner.old) (T.entries runner.old) state.old.scenario }
     requires room { answered state.old.tally + 1 < 2 ^ 32 }
     ensures text { MatchResult result
-        (λ _. Fed N (W.taken writer.old) (W.taken writer.new) state.old.scenario state.old.tally line.old (byte ∷ []) state.new.scenario
-        state.new.tally line.new)
+        (λ _. Fed T.costs N (W.taken writer.old) (W.taken writer.new) state.old.scenario (so_far state.old.tally meter.old) line.old
+        (byte ∷ []) state.new.scenario (so_far state.new.tally meter.new) line.new)
         (λ fault. (fault ≡ write_failed)
-        × FedPart N (W.taken writer.old) (W.taken writer.new) state.old.scenario state.old.tally line.old (byte ∷ [])) }
+        × FedPart T.costs N (W.taken writer.old) (W.taken writer.new) state.old.scenario (so_far state.old.tally meter.old) line.old
+        (byte ∷ [])) }
     ensures counts { CountsFailure (W.failures writer.old) (W.failures writer.new) result }
     ensures runs { IsRunning (T.plan runner.new) (T.entries runner.new) state.new.scenario }
     ensures room { answered state.new.tally ≤ answered state.old.tally + 1 }
+    ensures rises { meter.old ≤ meter.new }
 {
     if byte != b'\n' {
         line.push(byte);
@@ -163,10 +173,12 @@ fn finish<const N: usize, T: Runner<N>, W: TextOut>(
     requires runs { IsRunning (T.plan runner.old) (T.entries runner.old) state.old.scenario }
     requires room { answered state.old.tally + 1 < 2 ^ 32 }
     ensures text { MatchResult result
-        (λ _. Finished N (W.taken writer.old) (W.taken writer.new) state.old.scenario state.old.tally line.now state.new.tally)
+        (λ _. Finished T.costs N (W.taken writer.old) (W.taken writer.new) state.old.scenario (so_far state.old.tally meter.old) line.now
+        (so_far state.new.tally meter.new))
         (λ fault. (fault ≡ write_failed)
-        × FinishedPart N (W.taken writer.old) (W.taken writer.new) state.old.scenario state.old.tally line.now) }
+        × FinishedPart T.costs N (W.taken writer.old) (W.taken writer.new) state.old.scenario (so_far state.old.tally meter.old) line.now) }
     ensures counts { CountsFailure (W.failures writer.old) (W.failures writer.new) result }
+    ensures rises { meter.old ≤ meter.new }
 {
     if line.is_empty() {
         return write_done(state.tally, writer);
