@@ -2,7 +2,9 @@
 
 ghost use Rattle.std.specs.Prelude.{◌≡◌, ℕ, ◌≤◌, Ok};
 ghost use Rattle.pd_scenario_text.specs.Reading.{Counts};
-ghost use Rattle.pd_run_text.specs.Texts.{CountsWrites, RunsText};
+ghost use Rattle.pd_run.specs.Cost.{CostsAllMoves};
+ghost use Rattle.pd_keep.specs.Cost.{CostsFreshMoves};
+ghost use Rattle.pd_run_text.specs.Texts.{CountsWrites, RunCosts, RunsText};
 
 use pd_bench::{Tally, session};
 use pd_device::{BenchFault, SliceIn, TextOut};
@@ -46,6 +48,8 @@ pub fn run_plain<W: TextOut>(
 ) -> Result<Tally, RunFault>
     ensures text { RunsText result text.now edits.now (W.taken writer.old) (W.taken writer.new) }
     ensures counts { CountsWrites result (W.failures writer.old) (W.failures writer.new) }
+    ensures cost { RunCosts CostsAllMoves result text.now edits.now (W.taken writer.old) (W.taken writer.new) meter.old meter.new }
+    ensures rises { meter.old ≤ meter.new }
 {
     run_by!(Plain, alloc, text, edits, writer, meter; 1 2 3 4 5 6 7 8)
 }
@@ -64,6 +68,8 @@ pub fn run_kept<W: TextOut>(
 ) -> Result<Tally, RunFault>
     ensures text { RunsText result text.now edits.now (W.taken writer.old) (W.taken writer.new) }
     ensures counts { CountsWrites result (W.failures writer.old) (W.failures writer.new) }
+    ensures cost { RunCosts CostsFreshMoves result text.now edits.now (W.taken writer.old) (W.taken writer.new) meter.old meter.new }
+    ensures rises { meter.old ≤ meter.new }
 {
     run_by!(Kept, alloc, text, edits, writer, meter; 1 2 3 4 5 6 7 8)
 }
@@ -81,6 +87,8 @@ fn run_text<const N: usize, T: Runner<N> + Drop, W: TextOut>(
     requires counts { Counts text.now (Ok N) }
     ensures text { RunsText result text.now edits.now (W.taken writer.old) (W.taken writer.new) }
     ensures counts { CountsWrites result (W.failures writer.old) (W.failures writer.new) }
+    ensures cost { RunCosts T.costs result text.now edits.now (W.taken writer.old) (W.taken writer.new) meter.old meter.new }
+    ensures rises { meter.old ≤ meter.new }
 {
     let scenario = match scenario_from_text::<N>(alloc, text) {
         Ok(scenario) => scenario,
