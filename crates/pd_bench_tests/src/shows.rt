@@ -56,10 +56,11 @@ fn of_a_phone(rt: HostRuntime) -> Result<(), Fail> {
     Ok(())
 }
 
+/// Six writes: a head and a page for each show.
 #[test]
 fn of_a_writer_that_fails(rt: HostRuntime) -> Result<(), Fail> {
-    for at in 1..9 {
-        let mut page = Page::new(ALL, at, at > 4);
+    for at in 1..7 {
+        let mut page = Page::new(ALL, at, at > 3);
         let answer = shows::<1>(rt.alloc(), PHONE, &mut page);
         assert_eq!(rt; answer, Err(BenchFault::WriteFailed), "at {at}");
         assert!(rt; OF_PHONE.starts_with(page.text()), "at {at}");

@@ -50,10 +50,11 @@ fn fails_with_the_reader(rt: HostRuntime) -> Result<(), Fail> {
     Ok(())
 }
 
+/// Nine writes: a head, the page of two packets, five answers, a head alone and the last line.
 #[test]
 fn fails_with_the_writer(rt: HostRuntime) -> Result<(), Fail> {
     for takes_none in [false, true] {
-        for at in 1..11 {
+        for at in 1..10 {
             let mut page = Page::new(ALL, at, takes_none);
             let answer = run(rt.alloc(), &mut Script::new(SCRIPT, ALL, 0), &mut page);
             assert_eq!(rt; answer, Err(BenchFault::WriteFailed), "at {at}");
