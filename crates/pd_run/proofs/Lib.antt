@@ -1,5 +1,7 @@
+pub mod Alike
 pub mod Awaited
 pub mod Contracts
+pub mod Cut
 pub mod First
 pub mod Forces
 pub mod Moves

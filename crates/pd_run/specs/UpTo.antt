@@ -1,11 +1,11 @@
 -- A run up to a time, and plans that ask the same from one time to another.
-use Rattle.std.specs.Prelude.{◌≡◌, ◌⊎◌, ℕ, ◌<◌, ◌≤◌, nat_lt, if◌then◌else◌, List, [], ◌∷◌, length, drop, All, Some, filter}
+use Rattle.std.specs.Prelude.{◌≡◌, ◌⊎◌, ℕ, ◌<◌, ◌≤◌, ◌++◌, nat_lt, if◌then◌else◌, List, [], ◌∷◌, length, drop, All, Some, filter}
 use Rattle.std.specs.Prelude.{slice_index_or}
 use Rattle.pd_setup.specs.Events.{EventData}
 use Rattle.pd_port.specs.declared.due.Due.{Due}
 use Rattle.pd_port.specs.Port.{PortData}
 use Rattle.pd_scenario.specs.Plan.{Plan, count, script_of, force}
-use Rattle.pd_run.specs.Run.{Move, standing, due_after}
+use Rattle.pd_run.specs.Run.{Move, Run, standing, due_after}
 use Rattle.pd_run.specs.Live.{RunsTo, port_after}
 use Rattle.pd_run.specs.Start.{no_port}
 
@@ -47,3 +47,11 @@ pub record AgreeIn (a b : Plan) (from to : ℕ) : Type 0 where
 pub record AreAlike (a : Plan) (moves : List Move) (b : Plan) (others : List Move) : Type 0 where
   pub settings : a.settings ≡ b.settings
   pub records : (p : ℕ) → p < count a → (standing a moves p).state ≡ (standing b others p).state
+
+-- Where the ports of a run stand at a time as those of another that has come up to it, and both plans ask the same from then
+-- to a later time, the other goes on with the same moves until then, and the ports stand alike again.
+abbrev pub GoOnAlike : Type 0
+GoOnAlike = (a b : Plan) (moves others between : List Move) (from to : ℕ) → Run a moves → IsUpTo b others from
+    → AreAlike a (before from moves) b others → AgreeIn a b from to → from ≤ to → from ≤ a.end → from ≤ b.end
+    → before to moves ≡ before from moves ++ between
+    → IsUpTo b (others ++ between) to × AreAlike a (before to moves) b (others ++ between)

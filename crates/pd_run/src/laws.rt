@@ -3,6 +3,7 @@
 ghost use Rattle.pd_run.specs.Laws.{OneRun, AlwaysFit, ContractsAlwaysFit};
 ghost use Rattle.pd_run.specs.Sheds.{ShedsAlwaysLast};
 ghost use Rattle.pd_run.specs.Sound.{RunsAreSound};
+ghost use Rattle.pd_run.specs.UpTo.{GoOnAlike};
 
 /// A plan has at most one run.
 pub fn one_run()
@@ -32,4 +33,10 @@ pub fn sheds_last()
 /// current: at 5,000 mA where it is for 5 A and its plug acknowledges, and else at 3,000 mA.
 pub fn sound()
     ensures { RunsAreSound }
+{}
+
+/// Ports that stand alike move alike for as long as both plans ask the same of them: until then each move of the one run is a
+/// move of the other.
+pub fn go_on_alike()
+    ensures { GoOnAlike }
 {}
