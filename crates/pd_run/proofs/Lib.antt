@@ -20,3 +20,4 @@ pub mod StepsLeft
 pub mod Plans
 pub mod Taken
 pub mod Until
+pub mod Agree

@@ -1,6 +1,6 @@
 -- A run up to a time: the events that its ports have had, and ports that are taken up again as they stand there.
-use Rattle.std.proofs.Common.{◌≡◌, ◌≢◌, ℕ, zero, suc, ◌+◌, ◌<◌, ◌≤◌, ⊎_elim, Bool, List, [], ◌∷◌, ◌++◌, length, map, max, Option, Some}
-use Rattle.std.proofs.Common.{None, All, refl, ap, sym, ◌∙◌, subst, inl, inr, arith, get_or, slice_get, slice_index, slice_index_or}
+use Rattle.std.proofs.Common.{◌≡◌, ◌≢◌, ℕ, zero, suc, ◌+◌, ◌<◌, ◌≤◌, ⊎_elim, Bool, List, [], ◌∷◌, ◌++◌, length, map, max, Some}
+use Rattle.std.proofs.Common.{None, All, ap, sym, ◌∙◌, subst, inl, inr, arith, get_or, slice_get, slice_index, slice_index_or}
 use Rattle.std.proofs.Common.{append_assoc, if◌then◌else◌}
 use Rattle.std.proofs.lemmas.List.{append-nil, get_or_default, same_lists}
 use Rattle.std.proofs.lemmas.List.Elements.{All-head, All-tail}
@@ -9,7 +9,6 @@ use Rattle.std.proofs.lemmas.Bool.{cases_lt, cases_eq, cases_Bool}
 use Rattle.std.proofs.lemmas.Option.{slice_get_within}
 use Rattle.std.proofs.Math.ListN as list_map
 use Rattle.pd_setup.specs.Events.{EventData}
-use Rattle.pd_port.specs.declared.due.Due.{Due}
 use Rattle.pd_port.specs.Port.{PortData, is_event, due, hold}
 use Rattle.pd_port.proofs.PortLaws.{due_event, hold_floor}
 use Rattle.pd_port.proofs.BudgetLaws.{due_some}

@@ -1,3 +1,4 @@
+pub mod Beside
 pub mod Cost
 pub mod Laws
 pub mod Live

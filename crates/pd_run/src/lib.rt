@@ -1,6 +1,7 @@
 //! Runs: what the ports of a charger do under a scenario, from its start to its end.
 #![tactic(auto)]
 
+mod beside;
 mod had;
 pub mod laws;
 mod live;
@@ -8,6 +9,7 @@ mod plain;
 mod plan;
 mod runner;
 
+pub use beside::Beside;
 pub use live::Live;
 pub use plain::Plain;
 pub use plan::Plan;

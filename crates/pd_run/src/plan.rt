@@ -85,6 +85,16 @@ impl<const N: usize> Plan<N> {
         self.scripts[port - 1].get(place)
     }
 
+    /// The events of a port.
+    pub(crate) fn script(&self, port: usize) -> &[Event]
+        requires first { 1 ≤ port }
+        requires last { port ≤ N }
+        ensures script { result.now ≡ script_of self.now (port - 1) }
+        ensures is_plan { IsPlan N self.now }
+    {
+        self.scripts[port - 1].as_slice()
+    }
+
     /// The shared budget at the start, in microwatts.
     pub fn budget(&self) -> u64
         ensures budget { result ≡ self.now.budget }
@@ -103,6 +113,14 @@ impl<const N: usize> Plan<N> {
             Some(change) => change.budget,
             None => self.budget,
         }
+    }
+
+    /// The changes of the shared budget.
+    pub(crate) fn forces(&self) -> &[BudgetChange]
+        ensures forces { result.now ≡ self.now.forces }
+        ensures is_plan { IsPlan N self.now }
+    {
+        self.forces.as_slice()
     }
 
     /// The end in microseconds.

@@ -1,4 +1,4 @@
-use Rattle.std.proofs.Common.{◌≡◌, ◌-◌, ◌<◌, Some, None, length, slice_get, arith, sym, ◌∙◌}
+use Rattle.std.proofs.Common.{◌≡◌, ◌-◌, Some, slice_get, arith, sym}
 use Rattle.std.proofs.lemmas.Option.{slice_get_within}
 use Rattle.pd_setup.specs.Events.{EventData}
 use Rattle.pd_scenario.specs.Plan.{script_of}

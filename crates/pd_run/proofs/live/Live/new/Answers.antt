@@ -1,7 +1,7 @@
 use Rattle.std.proofs.Common.{List, [], length, arith, ap, ◌∙◌}
 use Rattle.std.proofs.lemmas.List.{length-map}
 use Rattle.std.proofs.lemmas.Result.{IfOk-weaker}
-use Rattle.pd_run.specs.Live.{LiveData, StandsAfter}
+use Rattle.pd_run.specs.Live.{StandsAfter}
 use Rattle.pd_run.specs.Run.{Move}
 use Rattle.pd_run.specs.Start.{start_of}
 use Rattle.pd_run.specs.UpTo.{IsUpTo, AreAfter}

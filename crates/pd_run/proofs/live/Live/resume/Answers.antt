@@ -1,4 +1,4 @@
-use Rattle.std.proofs.Common.{◌≡◌, ◌<◌, List, length, max, slice_index, slice_index_or, slice_get, arith, ap, ◌∙◌}
+use Rattle.std.proofs.Common.{◌≡◌, List, length, max, slice_index, slice_index_or, slice_get, arith, ap, ◌∙◌}
 use Rattle.pd_port.specs.Port.{PortData, due, hold}
 use Rattle.pd_ledger.specs.Account.{Account}
 use Rattle.pd_scenario.specs.Plan.{script_of}

@@ -1,0 +1,79 @@
+-- Plans beside one another.
+use Rattle.std.proofs.Common.{◌≡◌, ℕ, zero, suc, ◌+◌, ◌-◌, ◌<◌, ◌≤◌, ◌≢◌, ⊎_elim, Bool, ◌&&◌, All, List, length}
+use Rattle.std.proofs.Common.{slice_index, slice_set, ap, sym, ◌∙◌, subst, inl, inr, arith, below_more}
+use Rattle.std.proofs.lemmas.List.{get_or-set_same, get_or-set_other}
+use Rattle.std.proofs.lemmas.Bool.{cases_eq}
+use Rattle.std.specs.Bool.{Decides}
+use Rattle.std.proofs.lemmas.Bool.Decides.{Decides-like, Decides-and}
+use Rattle.std.proofs.lemmas.List.Elements.{All-contains}
+use Rattle.pd_scenario.specs.declared.budget.BudgetChange.{BudgetChange}
+use Rattle.pd_scenario.specs.Plan.{Plan, force}
+use Rattle.pd_run.proofs.Forces.{change_or_none, same_force}
+
+-- where a change is between two times, both plans have the same budget from then on
+abbrev pub IsSameAt : Plan → Plan → ℕ → ℕ → BudgetChange → Type 0
+IsSameAt a b from to change = from ≤ change.at → change.at < to → force a change.at ≡ force b change.at
+
+-- stands where there is no change
+abbrev pub no_change : BudgetChange
+no_change = record { id = 0; at = 0; budget = 0 }
+
+-- the budgets are the same where they are at the first time and at each change since
+same_since : (a b : Plan) (from to k : ℕ) → from + k < to → force a from ≡ force b from → All (IsSameAt a b from to) a.forces
+    → All (IsSameAt a b from to) b.forces → force a (from + k) ≡ force b (from + k)
+same_since a b from to zero lt first old new =
+    let e : from ≡ from + zero = omega arith in subst (λ t. force a t ≡ force b t) e first
+same_since a b from to (suc k) lt first old new =
+    let t = from + k in
+    let u = from + suc k in
+    let le : t ≤ u = omega arith in
+    let before = same_since a b from to k (omega arith) first old new in
+    elim (change_or_none a.forces t u) [
+      | inl c ↦
+          let after = c.after in
+          let by_then = c.by_then in
+          let e : c.change.at ≡ u = omega arith in
+          subst (λ s. force a s ≡ force b s) e (All-contains (IsSameAt a b from to) a.forces c.change old c.one (omega arith) (omega arith))
+      | inr none ↦ elim (change_or_none b.forces t u) [
+        | inl c ↦
+            let after = c.after in
+            let by_then = c.by_then in
+            let e : c.change.at ≡ u = omega arith in
+            subst (λ s. force a s ≡ force b s) e
+            (All-contains (IsSameAt a b from to) b.forces c.change new c.one (omega arith) (omega arith))
+        | inr none_new ↦ sym (same_force a t u le none) ∙ before ∙ same_force b t u le none_new
+      ]
+    ]
+
+pub same_between : (a b : Plan) (from to : ℕ) → force a from ≡ force b from → All (IsSameAt a b from to) a.forces
+    → All (IsSameAt a b from to) b.forces → (t : ℕ) → from ≤ t → t < to → force a t ≡ force b t
+same_between a b from to first old new t le lt =
+    let e : from + (t - from) ≡ t = omega arith in
+    subst (λ s. force a s ≡ force b s) e (same_since a b from to (t - from) (omega arith) first old new)
+
+-- plans of the same budget and the same changes
+pub same_always : (a b : Plan) → a.budget ≡ b.budget → a.forces ≡ b.forces → (t : ℕ) → force a t ≡ force b t
+unfolding force
+same_always a b budget forces t = cc
+
+-- what holds of each place below one, and of that place, holds of each below the next
+pub same_ports : (P : ℕ → Type 0) (n : ℕ) (all one : Bool) → Decides all ((p : ℕ) → p < n → P p) → Decides one (P n)
+    → Decides (all && one) ((p : ℕ) → p < n + 1 → P p)
+same_ports P n all one is_all is_one =
+    Decides-like (all && one) (λ (both : ((p : ℕ) → p < n → P p) × P n). below_more P n both.0 both.1)
+    (λ (same : (p : ℕ) → p < n + 1 → P p). ((λ p lt. same p (omega arith)), same n (omega arith)))
+    (Decides-and all one is_all is_one)
+
+-- a table that is right below a place, with one more
+pub set_below : (f : ℕ → ℕ) (n : ℕ) (xs : List ℕ) → n < length xs → ((p : ℕ) → p < n → slice_index xs p ≡ f p)
+    → (p : ℕ) → p < n + 1 → slice_index (slice_set xs n (f n)) p ≡ f p
+set_below f n xs inside below p lt =
+    ⊎_elim
+    (λ (same : p ≡ n). ap (λ k. slice_index (slice_set xs n (f n)) k) same ∙ get_or-set_same xs n (f n) 0 inside ∙ ap f (sym same))
+    (λ (other : p ≢ n). get_or-set_other xs n p (f n) 0 other ∙ below p (omega arith))
+    (cases_eq p n)
+
+-- and what is left of it
+pub set_left : (f : ℕ → ℕ) (n m v : ℕ) (xs : List ℕ) → ((p : ℕ) → n ≤ p → p < m → slice_index xs p ≡ f p)
+    → (p : ℕ) → n + 1 ≤ p → p < m → slice_index (slice_set xs n v) p ≡ f p
+set_left f n m v xs left p le lt = get_or-set_other xs n p v 0 (λ same. omega arith) ∙ left p (omega arith) lt
