@@ -178,11 +178,11 @@ left_after a b to p t u r d e early h =
           let on = go_on to (drop t (script_of a p)) (drop u (script_of b p)) x.0 h (sym (get_from (script_of a p) t) ∙ had.0)
           (let time = had.1 in omega arith) in
           ap (λ (c : Bool). until to (drop (cond c (t + 1) t) (script_of a p))) is ∙ ap (until to) (sym (drop-drop 1 t (script_of a p)))
-              ∙ on.rest ∙ ap (until to) (drop-drop 1 u (script_of b p))
-              ∙ ap (λ (c : Bool). until to (drop (cond c (u + 1) u) (script_of b p))) (sym is)
+          ∙ on.rest ∙ ap (until to) (drop-drop 1 u (script_of b p))
+          ∙ ap (λ (c : Bool). until to (drop (cond c (u + 1) u) (script_of b p))) (sym is)
       | inr isnt ↦
           ap (λ (c : Bool). until to (drop (cond c (t + 1) t) (script_of a p))) isnt ∙ h
-              ∙ ap (λ (c : Bool). until to (drop (cond c (u + 1) u) (script_of b p))) (sym isnt)
+          ∙ ap (λ (c : Bool). until to (drop (cond c (u + 1) u) (script_of b p))) (sym isnt)
     ]
 
 -- the ports stand alike after one more move of both
@@ -197,8 +197,7 @@ stand_on a b to past more m set s goes early = λ p lt.
     let is_due : due_after a past p ≡ Some m.due = ap (due_after a past) (sym same) ∙ goes.due_is in
     let left = left_after a b to p (standing a past p).taken (standing b more p).taken (standing a past p).state m.due is_due early h.1 in
     let state : after a m ≡ after b m =
-    ap (λ (l : List SettingsData). record_after (get_or l m.port no_settings) m.before m.due m.answer) set in
-    (
+    ap (λ (l : List SettingsData). record_after (get_or l m.port no_settings) m.before m.due m.answer) set in (
       ap (λ (x : Standing). x.state) in_a ∙ state ∙ ap (λ (x : Standing). x.state) (sym in_b),
       ap (λ (x : Standing). until to (drop x.taken (script_of a p))) in_a ∙ left
           ∙ ap (λ (x : Standing). until to (drop x.taken (script_of b p))) (sym in_b),
@@ -206,8 +205,7 @@ stand_on a b to past more m set s goes early = λ p lt.
     (λ (other : m.port ≢ p).
     let h = s p lt in
     let in_a = standing-other a past m p other in
-    let in_b = standing-other b more m p other in
-    (
+    let in_b = standing-other b more m p other in (
       ap (λ (x : Standing). x.state) in_a ∙ h.0 ∙ ap (λ (x : Standing). x.state) (sym in_b),
       ap (λ (x : Standing). until to (drop x.taken (script_of a p))) in_a ∙ h.1
           ∙ ap (λ (x : Standing). until to (drop x.taken (script_of b p))) (sym in_b),
@@ -297,8 +295,7 @@ order_together from to past more done [] earlier inside h = tt
 order_together from to past more done (m ∷ ms) earlier inside h =
     let here = All-head (IsIn from to) m ms inside in
     let old : NoneLater m.due.time m.port more =
-    earlier_none m.due.time m.port more (λ k d lt. let e = earlier k d lt in let f = here.0 in omega arith) in
-    (
+    earlier_none m.due.time m.port more (λ k d lt. let e = earlier k d lt in let f = here.0 in omega arith) in (
       none_later-append m.due.time m.port more done old (none_later-back m.due.time m.port past done h.0),
       subst (λ (l : List Move). EachAfter IsInOrder l ms) (sym (append_assoc more done (m ∷ [])))
           (order_together from to past more (done ++ m ∷ []) ms earlier (All-tail (IsIn from to) m ms inside)
@@ -380,8 +377,7 @@ go_alike a b moves more mid from to run up alike agree le had_a had_b is =
     let in_time : EachAfter (λ _ m. m.due.time ≤ b.end) more mid = timely_together a b from to past more mid agree.ends w.inside timely in
     let earlier : All (λ m. m.due.time < to) (more ++ mid) =
     All-append (IsEarlier to) more mid (λ k d lt. let e = up.earlier k d lt in omega arith) (λ k d lt. (w.inside k d lt).1) in
-    let old_up : IsUpTo a (past ++ mid) to = subst (λ (l : List Move). IsUpTo a l to) is (run_up_to a moves to run) in
-    (
+    let old_up : IsUpTo a (past ++ mid) to = subst (λ (l : List Move). IsUpTo a l to) is (run_up_to a moves to run) in (
       up_to b (more ++ mid) to (EachAfter-append (GoesOn b) [] more mid up.runs.chained on.chained)
           (EachAfter-append IsInOrder [] more mid up.runs.ordered in_order)
           (EachAfter-append (IsAnswered b) [] more mid up.runs.answered on.answered)
