@@ -1,5 +1,5 @@
 -- How the count of fresh moves goes on with one more move.
-use Rattle.std.proofs.Common.{◌≡◌, ℕ, ◌+◌, ◌-◌, ◌<◌, ◌≤◌, ⊎_elim, inl, inr, List, [], ◌∷◌, ◌++◌, length, map, Option, None, Some}
+use Rattle.std.proofs.Common.{◌≡◌, ℕ, ◌+◌, ◌-◌, ◌<◌, ◌≤◌, ⊎_elim, inl, inr, List, [], ◌∷◌, ◌++◌, length, map, Option}
 use Rattle.std.proofs.Common.{refl, ap, sym, ◌∙◌, subst, arith, get_or, All, Contains}
 use Rattle.std.proofs.lemmas.List.{get_or_default, length-map}
 use Rattle.std.proofs.Math.ListN as list_map
@@ -10,9 +10,9 @@ use Rattle.pd_port.specs.Meter.{raised}
 use Rattle.pd_port.specs.Port.{PortData, PortRecord}
 use Rattle.pd_scenario.specs.Plan.{Plan, settings_of}
 use Rattle.pd_run.specs.Run.{Move}
-use Rattle.pd_keep.specs.Kept.{KeptData, kept_of, move_of, IsOwn, Keeps}
+use Rattle.pd_keep.specs.Kept.{KeptData, kept_of, move_of, IsOwn}
 use Rattle.pd_keep.specs.Charge.{Charges}
-use Rattle.pd_keep.specs.Fresh.{IsSame, IsRepeated, AreFresh, FreshBeside}
+use Rattle.pd_keep.specs.Fresh.{IsSame, IsRepeated, AreFresh}
 
 -- one more repeated move
 pub fresh-push_repeated : (old_plan : Plan) (old : List Move) (plan : Plan) (ms : List Move) (m : Move) (n : ℕ)
@@ -112,22 +112,10 @@ fresh_step old_plan plan old ms p x d a first before after one own settings char
     charges
 
 -- beside no run each move is fresh
-all_fresh : (a b : Plan) (ms : List Move) (n : ℕ) → AreFresh a [] b ms n → n ≡ length ms
+pub all_fresh : (a b : Plan) (ms : List Move) (n : ℕ) → AreFresh a [] b ms n → n ≡ length ms
 all_fresh a b [] n h = h
 all_fresh a b (m ∷ ms) n h =
     ⊎_elim
     (λ (w : IsRepeated a [] b m × AreFresh a [] b ms n). absurd (omega (arith, w.0.1.1)))
     (λ (w : (IsRepeated a [] b m → ⊥) × ((k : ℕ) × (n ≡ k + 1) × AreFresh a [] b ms k)). omega (arith, w.1.1, all_fresh a b ms w.1.0 w.1.2))
     h
-
--- the count beside what is kept
-pub charged : (ports : ℕ) (o : Option Plan) (kept : List KeptData) (plan : Plan) (moves : List Move) (before after : ℕ) → Keeps ports o kept
-    → ((old_plan : Plan) → All (IsOwn old_plan) kept → (n : ℕ) × AreFresh old_plan (map move_of kept) plan moves n
-    × (after ≡ raised before n))
-    → (n : ℕ) × FreshBeside o (map move_of kept) plan moves n × (after ≡ raised before n)
-charged ports None kept plan moves before after none cost =
-    let counted = cost plan (λ k d lt. absurd (omega (arith, ap length none))) in
-    let fresh : AreFresh plan [] plan moves counted.0 =
-    subst (λ (l : List KeptData). AreFresh plan (map move_of l) plan moves counted.0) none counted.1 in
-    (counted.0, all_fresh plan plan moves counted.0 fresh, counted.2)
-charged ports (Some old_plan) kept plan moves before after keeps cost = cost old_plan keeps.own

@@ -1,6 +1,10 @@
+pub mod Beside
 pub mod Counts
+pub mod Entries
 pub mod Fresh
 pub mod InTime
+pub mod Later
 pub mod Made
 pub mod Paid
+pub mod Parted
 pub mod Places

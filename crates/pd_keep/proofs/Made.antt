@@ -1,12 +1,15 @@
 -- What is kept of a port's move is the next move of the run.
-use Rattle.std.proofs.Common.{◌≡◌, ℕ, ◌-◌, ◌≤◌, List, Option, refl, ap, ◌∙◌}
+use Rattle.std.proofs.Common.{◌≡◌, ℕ, ◌-◌, ◌≤◌, ◌<◌, ⊎_elim, inl, inr, List, Option, refl, ap, ◌∙◌, Contains}
 use Rattle.pd_objects.specs.declared.query.Answer.{Answer}
 use Rattle.pd_port.specs.declared.due.Due.{Due}
 use Rattle.pd_port.specs.Port.{PortData}
 use Rattle.pd_scenario.specs.Plan.{Plan}
 use Rattle.pd_run.specs.Run.{Move}
 use Rattle.pd_run.specs.Live.{LiveData, next_move, port_at, port_after, reply_at, moved_port}
+use Rattle.pd_port.specs.Meter.{raised}
+use Rattle.pd_keep.specs.Charge.{Charges}
 use Rattle.pd_keep.specs.Kept.{KeptData, kept_of, move_of, IsOwn, IsMade}
+use Rattle.pd_keep.specs.Rerun.{AreThose}
 
 -- what is kept is the next move
 pub kept_is_next : (plan : Plan) (past : List Move) (p : ℕ) (x : PortData) (d : Due) (a : Option Answer) → x ≡ port_after plan past (p - 1)
@@ -33,3 +36,11 @@ kept_same k p x d a made port due answer settings state =
     let before : k.before ≡ x = λ i. record { settings = settings i; port_record = state i } in
     made ∙ ap (λ q. kept_of q k.before k.due k.answer) port ∙ ap (λ (z : PortData). kept_of p z k.due k.answer) before
     ∙ ap (λ (e : Due). kept_of p x e k.answer) due ∙ ap (kept_of p x d) answer
+
+-- what a move costs beside those of a time is what it costs beside all
+pub charges_those : (all some : List KeptData) (k : KeptData) (from to before after : ℕ) → AreThose all from to some → from ≤ k.due.time
+    → k.due.time < to → Charges some k before after → Charges all k before after
+charges_those all some k from to before after those ge lt charges =
+    let both = those k ge lt in
+    ⊎_elim (λ (w : Contains some k × (after ≡ before)). inl (both.1 w.0, w.1))
+    (λ (w : (Contains some k → ⊥) × (after ≡ raised before 1)). inr ((λ h. w.0 (both.0 h)), w.1)) charges

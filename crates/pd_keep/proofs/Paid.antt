@@ -1,18 +1,31 @@
 -- A run whose fresh moves are charged is paid for.
-use Rattle.std.proofs.Common.{ℕ, List, map, Option, None, Some, ap}
+use Rattle.std.proofs.Common.{ℕ, List, [], Option, None, Some, refl}
 use Rattle.pd_scenario.specs.Plan.{Plan}
 use Rattle.pd_run.specs.Cost.{IsPaid}
 use Rattle.pd_run.specs.Run.{Move, Run}
-use Rattle.pd_keep.specs.Kept.{KeptData, Keeps, move_of}
-use Rattle.pd_keep.specs.Fresh.{IsCharged}
+use Rattle.pd_keep.specs.declared.kept.KeptRun.{KeptRun}
 use Rattle.pd_keep.specs.Cost.{IsRunOf, CostsFreshMoves}
+use Rattle.pd_keep.specs.Fresh.{IsCharged}
+use Rattle.pd_keep.specs.Rerun.{Costs}
+use Rattle.pd_keep.specs.Running.{running, Keeps}
+use Rattle.pd_keep.specs.Spans.{moves_of}
+use Rattle.pd_keep.proofs.Fresh.{all_fresh}
 
-kept_run : (ports : ℕ) (old : Option Plan) (kept : List KeptData) → Keeps ports old kept → IsRunOf old (map move_of kept)
-kept_run ports None kept none = ap (map move_of) none
-kept_run ports (Some plan) kept keeps = keeps.safe.run
+kept_run : (n : ℕ) (run : Option (KeptRun n)) → Keeps n run → IsRunOf (running n run).plan (running n run).moves
+kept_run n None keeps = refl
+kept_run n (Some run) keeps = keeps.safe.run
 
-pub paid_fresh : (ports : ℕ) (old : Option Plan) (kept : List KeptData) (plan : Plan) (moves : List Move) (before after : ℕ)
-    → Keeps ports old kept → Run plan moves → IsCharged (record { plan = old; moves = map move_of kept }) plan moves before after
-    → IsPaid CostsFreshMoves old plan before after
-paid_fresh ports old kept plan moves before after keeps run charge =
-    (charge.0, (map move_of kept, moves, kept_run ports old kept keeps, run, charge.1), charge.2)
+pub paid_fresh : (n : ℕ) (old : Option (KeptRun n)) (plan : Plan) (moves : List Move) (before after : ℕ) → Keeps n old → Run plan moves
+    → IsCharged (running n old) plan moves before after → IsPaid CostsFreshMoves (running n old).plan plan before after
+paid_fresh n old plan moves before after keeps run charge =
+    (charge.0, ((running n old).moves, moves, kept_run n old keeps, run, charge.1), charge.2)
+
+-- what a run costs beside what was kept
+pub charged_some : (n : ℕ) (run : KeptRun n) (plan : Plan) (moves : List Move) (before after : ℕ)
+    → Costs run.plan (moves_of run.spans) plan moves before after → IsCharged (running n (Some run)) plan moves before after
+charged_some n run plan moves before after cost = cost
+
+-- and beside nothing
+pub charged_none : (n : ℕ) (plan : Plan) (moves : List Move) (before after : ℕ) → Costs plan [] plan moves before after
+    → IsCharged (running n None) plan moves before after
+charged_none n plan moves before after cost = (cost.0, all_fresh plan plan moves cost.0 cost.1, cost.2)

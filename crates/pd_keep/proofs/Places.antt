@@ -1,5 +1,5 @@
 -- Records that are kept, and the places at which the ports stand among them.
-use Rattle.std.proofs.Common.{◌≡◌, ◌≢◌, ⊎_elim, ℕ, ◌+◌, ◌<◌, List, [], ◌∷◌, ◌++◌, length, map, All, refl, ap, sym, ◌∙◌, arith, suc}
+use Rattle.std.proofs.Common.{◌≡◌, ◌≢◌, ⊎_elim, ℕ, ◌+◌, ◌<◌, List, [], ◌∷◌, ◌++◌, length, map, All, refl, ap, sym, ◌∙◌, arith, suc, subst, ◌≤◌}
 use Rattle.std.proofs.Common.{◌-◌, Option, Some, None, option_map, slice_get, get_or, slice_index, slice_index_or, slice_set}
 use Rattle.std.proofs.Math.ListN.{get_or-append}
 use Rattle.std.proofs.Math.Seq.{get_or-append_seam}
@@ -7,14 +7,14 @@ use Rattle.std.proofs.lemmas.List.{get_or-set_same, get_or-set_other, length_pus
 use Rattle.std.proofs.lemmas.Bool.{cases_eq}
 use Rattle.std.proofs.lemmas.Option.{slice_get-map, slice_get_within, slice_get-get_or, same_Some}
 use Rattle.pd_port.specs.Port.{PortData}
-use Rattle.pd_scenario.specs.Plan.{Plan}
-use Rattle.pd_run.specs.Run.{shown}
-use Rattle.pd_run.specs.Live.{LiveData, port_at}
+use Rattle.pd_scenario.specs.Plan.{Plan, IsPlan}
+use Rattle.pd_run.specs.Run.{Move, shown}
+use Rattle.pd_run.specs.Live.{LiveData, StandsAfter, port_at}
 use Rattle.pd_run.specs.Start.{no_port}
 use Rattle.pd_keep.specs.declared.kept_move.KeptMove.{KeptMove}
-use Rattle.pd_keep.specs.Kept.{KeptData, move_of, Keeps}
-use Rattle.pd_keep.specs.Places.{kept_in, shown_of, IsPlaced, AreAt}
-use Rattle.pd_keep.proofs.InTime.{keeps_from_one}
+use Rattle.pd_keep.specs.Kept.{KeptData, move_of, IsOwn}
+use Rattle.pd_keep.specs.Places.{RunData, kept_in, shown_of, IsPlaced, AreAt}
+use Rattle.pd_keep.specs.Spans.{BeginsAfter}
 
 -- a move whose records are kept is the same with one more record
 kept_more : (records : List PortData) (m : KeptMove) (x : PortData) → IsPlaced records m → kept_in (records ++ x ∷ []) m ≡ kept_in records m
@@ -91,15 +91,49 @@ at_set records live new n places p x count is others h = λ q lt.
     (cases_eq q p)
 
 -- what is kept of a move shows what the move does
-pub shown_as_moves : (n : ℕ) (o : Option Plan) (kept : List KeptData) (i : ℕ) → Keeps n o kept
+pub shown_as_moves : (plan : Plan) (kept : List KeptData) (i : ℕ) → All (IsOwn plan) kept
     → option_map shown_of (slice_get kept i) ≡ slice_get (map shown (map move_of kept)) i
-shown_as_moves n o kept i keeps = cases (slice_get kept i) refl ∙ ap (option_map shown) (sym (slice_get-map move_of kept i))
+shown_as_moves plan kept i own = cases (slice_get kept i) refl ∙ ap (option_map shown) (sym (slice_get-map move_of kept i))
     ∙ sym (slice_get-map shown (map move_of kept) i) where
       cases : (r : Option KeptData) → slice_get kept i ≡ r → option_map shown_of r ≡ option_map shown (option_map move_of r)
       cases None e = refl
       cases (Some k) e =
           let inside = slice_get_within kept i k e in
           let here : get_or kept i k ≡ k = same_Some _ _ (sym (slice_get-get_or kept i k inside) ∙ e) in
-          let one = keeps_from_one n o kept i k keeps inside here in
+          let one : 1 ≤ k.port = subst (λ (y : KeptData). 1 ≤ y.port) here (own i k inside).from_one in
           let port : k.port ≡ k.port - 1 + 1 = omega arith in
           ap (λ (q : ℕ). Some (q, k.entry)) port
+
+-- places that are taken in turn
+pub in_turn_push : (places : List ℕ) (n place p : ℕ) → length places ≡ n → place ≡ n
+    → ((q : ℕ) → q < n → slice_index places q ≡ q) → p < n + 1 → slice_index (places ++ place ∷ []) p ≡ p
+in_turn_push places n place p count is h lt =
+    ⊎_elim
+    (λ (same : p ≡ n).
+    ap (slice_index (places ++ place ∷ [])) (same ∙ sym count) ∙ get_or-append_seam places place [] 0 ∙ is ∙ sym same)
+    (λ (other : p ≢ n).
+    let below : p < n = omega arith in
+    get_or-append places (place ∷ []) 0 p (omega arith) ∙ h p below)
+    (cases_eq p n)
+
+-- a span begins with the ports that stand at its first places
+pub begins_at : (n : ℕ) (plan : Plan) (past : List Move) (live : LiveData) (span : RunData) (places : List ℕ) → IsPlan n plan
+    → StandsAfter plan past live → AreAt span.records live n places → ((p : ℕ) → p < n → slice_index places p ≡ p)
+    → BeginsAfter n plan past span
+begins_at n plan past live span places is stands at turn = λ p lt.
+    let h = at p lt in
+    let t = turn p lt in (
+      omega (arith, h.0),
+      ap (λ k. slice_index_or span.records k no_port) (sym t) ∙ h.1 ∙ stands.ports_are p (omega (arith, is.settings_count)),
+    )
+
+-- and goes on so with one more record
+pub begins_more : (n : ℕ) (plan : Plan) (past : List Move) (span new : RunData) (x : PortData) → new.records ≡ span.records ++ x ∷ []
+    → BeginsAfter n plan past span → BeginsAfter n plan past new
+begins_more n plan past span new x is begun = λ p lt.
+    let h = begun p lt in
+    let count = ap length is in
+    let more = length_push span.records x in (
+      omega (arith, h.0),
+      ap (λ (l : List PortData). slice_index_or l p no_port) is ∙ at_more span.records x p h.0 ∙ h.1,
+    )

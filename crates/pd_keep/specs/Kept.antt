@@ -1,11 +1,10 @@
 -- Moves that are kept.
-use Rattle.std.specs.Prelude.{◌≡◌, ℕ, ◌-◌, ◌<◌, ◌≤◌, List, [], length, map, All, Option, None, Some, slice_index_or}
+use Rattle.std.specs.Prelude.{◌≡◌, ℕ, ◌-◌, ◌<◌, ◌≤◌, List, length, Option, slice_index_or}
 use Rattle.pd_objects.specs.declared.query.Answer.{Answer}
 use Rattle.pd_port.specs.declared.due.Due.{Due}
 use Rattle.pd_port.specs.Port.{PortData, record_after, entry_of}
-use Rattle.pd_scenario.specs.Plan.{Plan, IsPlan, settings_of}
+use Rattle.pd_scenario.specs.Plan.{Plan, settings_of}
 use Rattle.pd_run.specs.Run.{Move}
-use Rattle.pd_run.specs.Shown.{SafeRun}
 use Rattle.pd_port.specs.declared.entry.Entry.{Entry}
 
 -- What is kept of a move: its port, numbered from 1, as it was before it; what fell due; the answer to what the port asked; the
@@ -50,14 +49,3 @@ AreInTime old = (i j : ℕ) (e : KeptData) → i ≤ j → j < length old → (s
 -- the first n of them are before this time
 abbrev pub AreBefore : List KeptData → ℕ → ℕ → Type 0
 AreBefore old n time = (k : ℕ) (e : KeptData) → k < n → (slice_index_or old k e).due.time < time
-
--- what is kept is the run of a plan of n ports
-pub record AreMovesOf (n : ℕ) (plan : Plan) (kept : List KeptData) : Type 0 where
-  pub is_plan : IsPlan n plan
-  pub safe : SafeRun plan (map move_of kept)
-  pub own : All (IsOwn plan) kept
-
--- the same of a plan that may not be there; then nothing is kept
-abbrev pub Keeps : ℕ → Option Plan → List KeptData → Type 0
-Keeps n None kept = kept ≡ []
-Keeps n (Some plan) kept = AreMovesOf n plan kept

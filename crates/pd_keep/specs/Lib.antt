@@ -1,5 +1,9 @@
 pub mod Charge
 pub mod Cost
+pub mod Firsts
 pub mod Fresh
 pub mod Kept
 pub mod Places
+pub mod Rerun
+pub mod Running
+pub mod Spans

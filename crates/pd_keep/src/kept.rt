@@ -8,32 +8,37 @@ ghost use Rattle.pd_run.specs.Run.{shown};
 ghost use Rattle.pd_keep.specs.Cost.{CostsFreshMoves};
 ghost use Rattle.pd_keep.specs.Fresh.{IsCharged};
 
-use crate::kept_move::KeptMoves;
 use crate::rerun::rerun;
+use crate::spans::Spans;
 use pd_port::{Entry, Meter};
 use pd_run::{Plan, Runner};
 use pd_scenario::Scenario;
 use std::alloc::{AllocError, Global};
 use std::marker::Model;
 
-/// A runner that keeps each move of its run, and its port as it was before and after it. Where a scenario is replaced by another,
-/// the moves that the old run has too are copied, and the meter rises by the others alone.
+/// What is kept of a run: its plan, and in spans its moves with the ports before and after them.
+#[derive(Drop)]
+pub struct KeptRun<const N: usize> {
+    plan: Plan<N>,
+    spans: Spans,
+}
+
+/// A runner that keeps its run. Where a scenario is replaced by another, the spans and the moves that the old run has too are
+/// taken from it, and the meter rises by the others alone.
 #[derive(Drop)]
 pub struct Kept<const N: usize> {
-    plan: Option<Plan<N>>,
-    run: KeptMoves,
+    run: Option<KeptRun<N>>,
 }
 
 impl<const N: usize> Model for Kept<N> {
-    ghost use Rattle.std.specs.Prelude.{map};
-    ghost use Rattle.pd_keep.specs.Kept.{Keeps, move_of};
+    ghost use Rattle.pd_keep.specs.Running.{running, Keeps};
     ghost use Rattle.pd_keep.specs.Fresh.{Running};
 
     ghost Value = { Running };
 
-    ghost view = { λ k. record { plan = k.plan; moves = map move_of k.run.moves } };
+    ghost view = { λ k. running N k.run };
 
-    ghost invariant = { λ k. Keeps N k.plan k.run.moves };
+    ghost invariant = { λ k. Keeps N k.run };
 }
 
 impl<const N: usize> Runner<N> for Kept<N> {
@@ -44,10 +49,8 @@ impl<const N: usize> Runner<N> for Kept<N> {
     ghost costs = { CostsFreshMoves };
 
     fn empty(alloc: Global) -> Kept<N> {
-        Kept {
-            plan: None,
-            run: KeptMoves::new(alloc),
-        }
+        let _alloc = alloc;
+        Kept { run: None }
     }
 
     fn replace(
@@ -67,20 +70,23 @@ impl<const N: usize> Runner<N> for Kept<N> {
         ensures rises { meter.old ≤ meter.new }
     {
         let plan = Plan::of_scenario(alloc, scenario)?;
-        let run = rerun(alloc, &self.run, &plan, meter)?;
-        let _end = plan.end();
-        self.run = run;
-        self.plan = Some(plan);
+        let spans = match &self.run {
+            Some(old) => rerun(alloc, &old.plan, &old.spans, &plan, meter)?,
+            None => rerun(alloc, &plan, &Spans::new(alloc), &plan, meter)?,
+        };
+        self.run = Some(KeptRun { plan, spans });
         Ok(())
     }
 
     fn len(&self) -> usize {
-        let _plan = &self.plan;
-        self.run.len()
+        match &self.run {
+            Some(run) => run.spans.len(),
+            None => 0,
+        }
     }
 
     fn entry(&self, i: usize) -> Option<(usize, &Entry)> {
-        let _plan = &self.plan;
-        self.run.entry(i)
+        let run = self.run.as_ref()?;
+        run.spans.entry(i)
     }
 }

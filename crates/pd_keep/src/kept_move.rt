@@ -1,7 +1,7 @@
 //! Moves that are kept, each with the places of its port's records.
 
-ghost use Rattle.std.specs.Prelude.{◌≡◌, ◌↔◌, ◌<◌, ◌++◌, ◌∷◌, ℕ, [], List, IsTrue, IfOk, OnOk, All, length, map, slice_get, slice_index_or};
-ghost use Rattle.std.specs.Prelude.{option_map};
+ghost use Rattle.std.specs.Prelude.{◌≡◌, ◌↔◌, ◌<◌, ◌≤◌, ◌++◌, ◌∷◌, ℕ, [], List, IsTrue, IfOk, OnOk, All, length, map, slice_get, slice_index_or};
+ghost use Rattle.std.specs.Prelude.{option_map, take};
 ghost use Rattle.pd_run.specs.Start.{no_port};
 ghost use Rattle.pd_keep.specs.Kept.{KeptData, kept_of, IsMade};
 ghost use Rattle.pd_keep.specs.Places.{RunData, kept_in, shown_of, IsPlaced};
@@ -65,6 +65,31 @@ impl KeptMoves {
     {
         let kept = self.moves.get(i)?;
         Some((kept.port, &kept.entry))
+    }
+
+    /// Whether a port is the one that is kept at a place.
+    pub fn has_at(&self, place: usize, port: &Port) -> bool
+        ensures { IsTrue result ↔ (place < length self.now.records) × (slice_index_or self.now.records place no_port ≡ port.now) }
+    {
+        match self.records.get(place) {
+            Some(record) => same_port(record, port),
+            None => false,
+        }
+    }
+
+    /// Copies of the first ports that are kept.
+    ///
+    /// # Errors
+    /// There is no memory.
+    pub fn first_ports(&self, alloc: Global, count: usize) -> Result<Vec<Port>, AllocError>
+        requires { count ≤ length self.now.records }
+        ensures { IfOk result (λ ports. ports.items ≡ take count self.now.records) }
+    {
+        let mut ports = Vec::new(alloc);
+        for place in 0..count {
+            ports.push(self.records[place].copy())?;
+        }
+        Ok(ports)
     }
 
     /// When a move was, in microseconds.

@@ -1,9 +1,11 @@
-//! The runner that keeps the moves of its run, and copies those that the next run has too.
+//! The runner that keeps its run in spans, and shares those that the next run has too.
 #![tactic(auto)]
 
 mod kept;
 mod kept_move;
 pub mod laws;
+mod one_span;
 mod rerun;
+mod spans;
 
 pub use kept::Kept;

@@ -1,157 +1,195 @@
-//! A run beside an older one: moves that the older one has are copied.
+//! A run beside an older one: spans that the older one has too are shared, and in the others the moves that it has are copied.
 
-ghost use Rattle.std.specs.Prelude.{◌≡◌, ◌⊎◌, ℕ, ◌+◌, ◌-◌, ◌<◌, ◌≤◌, ◌++◌, ◌∷◌, [], List, IfOk, OnOk, IfSome, IfNone, map, length};
-ghost use Rattle.std.specs.Prelude.{Contains};
-ghost use Rattle.std.specs.Prelude.{All, slice_index, slice_index_or};
-ghost use Rattle.pd_port.specs.Meter.{raised};
-ghost use Rattle.pd_scenario.specs.Plan.{Plan as PlanData, IsPlan, force};
-ghost use Rattle.pd_run.specs.Live.{StandsAfter, IsNext, next_move, port_at, reply_at};
+ghost use Rattle.std.specs.Prelude.{◌≡◌, ◌⊎◌, ℕ, ◌+◌, ◌*◌, ◌-◌, ◌<◌, ◌≤◌, ◌++◌, ◌∷◌, ◌↔◌, [], List, IfOk, OnOk, IsTrue, map, length, All, Bool};
+ghost use Rattle.pd_scenario.specs.Plan.{Plan as PlanData, IsPlan};
+ghost use Rattle.pd_run.specs.Live.{StandsAfter, port_at};
 ghost use Rattle.pd_run.specs.Run.{Move};
-ghost use Rattle.pd_run.specs.Shown.{SafeRun};
 ghost use Rattle.pd_run.specs.Start.{no_port};
-ghost use Rattle.pd_run.specs.StepsLeft.{steps_left};
-ghost use Rattle.pd_keep.specs.Kept.{KeptData, kept_of, move_of, IsMade, IsOwn, AreInTime, AreBefore};
-ghost use Rattle.pd_keep.specs.Fresh.{AreFresh};
-ghost use Rattle.pd_keep.specs.Charge.{Charges};
-ghost use Rattle.pd_keep.specs.Places.{AreAt};
+ghost use Rattle.pd_run.specs.UpTo.{AgreeIn, IsUpTo};
+ghost use Rattle.pd_keep.specs.Kept.{move_of, IsOwn};
+ghost use Rattle.pd_keep.specs.Places.{RunData};
+ghost use Rattle.pd_keep.specs.Rerun.{IsOld, IsSoFar, IsNextSpan, Stands, Costs, ComesTo, AreStanding, IsDone, BeginsWith, AreOver};
+ghost use Rattle.pd_keep.specs.Spans.{IsKept, kept_of_spans, moves_of, span_length};
 
-use crate::kept_move::{KeptMove, KeptMoves, copy_answer};
-use pd_objects::Answer;
-use pd_port::{Due, Entry, Meter, Port};
-use pd_run::{Live, Plan};
+use crate::kept_move::KeptMoves;
+use crate::one_span::run_span;
+use crate::spans::Spans;
+use pd_port::Meter;
+use pd_run::{Beside, Live, Plan};
 use std::alloc::{AllocError, Global};
+use std::rc::Rc;
 
-/// The run of a plan, beside an older run. The meter rises by the moves that the older run doesn't have.
+/// How long a span is, in microseconds.
+pub const SPAN: u64 = 131_072;
+
+/// Where the ports of a run stand at the beginning of a span: as those of the older run there, or for themselves.
+#[derive(Drop)]
+pub enum Standing<const N: usize> {
+    Alike,
+    Apart(Live<N>),
+}
+
+/// The run of a plan, beside an older one or none. The meter rises by the moves that the older run doesn't have.
+///
+/// # Errors
+/// There is no memory.
 pub fn rerun<const N: usize>(
     alloc: Global,
-    old: &KeptMoves,
+    old: &Plan<N>,
+    old_spans: &Spans,
     plan: &Plan<N>,
     meter: &mut Meter,
-) -> Result<KeptMoves, AllocError>
-    requires made { All IsMade old.now.moves }
-    requires in_time { AreInTime old.now.moves }
-    ensures run { IfOk result (λ run. SafeRun plan.now (map move_of run.moves)) }
-    ensures own { IfOk result (λ run. All (IsOwn plan.now) run.moves) }
-    ensures cost { IfOk result (λ run. (old_plan : PlanData) → All (IsOwn old_plan) old.now.moves
-        → (n : ℕ) × AreFresh old_plan (map move_of old.now.moves) plan.now (map move_of run.moves) n × (meter.new ≡ raised meter.old n)) }
+) -> Result<Spans, AllocError>
+    requires old { IsOld N old.now old_spans.now }
+    ensures kept { IfOk result (λ spans. IsKept N plan.now spans) }
+    ensures cost { IfOk result (λ spans. Costs old.now (moves_of old_spans.now) plan.now (moves_of spans) meter.old meter.new) }
     ensures rises { meter.old ≤ meter.new }
 {
     let _end = plan.end();
     let _count = meter.count();
-    let mut live = Live::new(alloc, plan)?;
-    let mut run = KeptMoves::new(alloc);
-    let mut places = first_places(alloc, &live, &mut run)?;
-    let mut from = 0;
-    while let Some((port, due)) = live.next(plan) {
-        let answer = live.reply(plan, port, &due);
-        from = skip(old, from, due.time);
-        let entry = make(old, from, plan, &mut live, port, &due, &answer, meter);
-        let after = run.add(live.port(port).copy())?;
-        run.push(KeptMove {
-            port,
-            before: places[port - 1],
-            due,
-            answer,
-            after,
-            entry,
-        })?;
-        places[port - 1] = after;
+    let mut spans = Spans::new(alloc);
+    let (at, standing) = run_beside(alloc, old, old_spans, plan, &mut spans, meter)?;
+    if let Standing::Apart(mut live) = standing {
+        run_on(alloc, plan, at, &mut live, &mut spans, meter)?;
     }
-    Ok(run)
+    Ok(spans)
 }
 
-// Keeps each port's record at the start, and answers their places.
-fn first_places<const N: usize>(
+// The spans that both runs have: where they end, and how the ports stand there.
+fn run_beside<const N: usize>(
     alloc: Global,
-    live: &Live<N>,
-    run: &mut KeptMoves,
-) -> Result<Vec<usize>, AllocError>
-    ensures count { IfOk result (λ places. length places.items ≡ N) }
-    ensures places { IfOk result (λ places. AreAt run.new.records live.now N places.items) }
-    ensures moves { OnOk result (run.new.moves ≡ run.old.moves) }
-{
-    let mut places = Vec::new(alloc);
-    for port in 0..N {
-        let place = run.add(live.port(port + 1).copy())?;
-        places.push(place)?;
-    }
-    Ok(places)
-}
-
-// A port's move for a due: copied where the old run has it, else a step.
-fn make<const N: usize>(
-    old: &KeptMoves,
-    from: usize,
+    old: &Plan<N>,
+    old_spans: &Spans,
     plan: &Plan<N>,
-    live: &mut Live<N>,
-    port: usize,
-    due: &Due,
-    answer: &Option<Answer>,
+    spans: &mut Spans,
     meter: &mut Meter,
-) -> Entry
-    requires made { All IsMade old.now.moves }
-    requires in_time { AreInTime old.now.moves }
-    requires before { AreBefore old.now.moves from due.now.time }
-    requires plan { IsPlan N plan.now }
-    requires stands { (past : List Move) × StandsAfter plan.now past live.old }
-    requires next { IsNext plan.now live.old port due.now }
-    requires budget { live.old.account.budget ≡ force plan.now due.now.time }
-    requires answer { answer.now ≡ reply_at live.old (port - 1) due.now }
-    ensures entry { (past : List Move) → StandsAfter plan.now past live.old
-        → result ≡ (next_move plan.now past (port - 1) due.now).entry }
-    ensures stands { (past : List Move) → StandsAfter plan.now past live.old
-        → StandsAfter plan.now (past ++ next_move plan.now past (port - 1) due.now ∷ []) live.new }
-    ensures less { steps_left plan.now live.new < steps_left plan.now live.old }
-    ensures charges { Charges old.now.moves (kept_of port (port_at live.old (port - 1)) due.now answer.now) meter.old meter.new }
+) -> Result<(u64, Standing<N>), AllocError>
+    requires old { IsOld N old.now old_spans.now }
+    requires none { spans.old ≡ [] }
+    ensures so_far { IfOk result (λ r. IsSoFar N plan.now spans.new r.0) }
+    ensures standing { IfOk result (λ r. Stands N old.now old_spans.now plan.now (moves_of spans.new) r.0 r.1) }
+    ensures done { IfOk result (λ r. IsDone N plan.now r.0 r.1) }
+    ensures over { IfOk result (λ r. r.0 ≤ plan.now.end → AreOver old_spans.now r.0) }
+    ensures cost { IfOk result (λ r. Costs old.now (moves_of old_spans.now) plan.now (moves_of spans.new) meter.old meter.new) }
     ensures rises { meter.old ≤ meter.new }
 {
+    let _end = plan.end();
     let _count = meter.count();
-    match find(old, from, port, live.port(port), due, answer) {
-        Some(i) => {
-            live.settle(plan, port, due, old.after(i).copy());
-            old.left(i).copy()
-        }
-        None => live.step(plan, port, due, copy_answer(answer), meter),
+    let mut beside = Beside::new(alloc, old, plan)?;
+    let mut standing = Standing::Apart(Live::new(alloc, plan)?);
+    let mut at = 0;
+    while at <= plan.end() {
+        let Some(span) = old_spans.span(spans.count()) else {
+            return Ok((at, standing));
+        };
+        let agree = beside.advance(old, plan, at + SPAN);
+        let (next, then) = next_span(alloc, span, plan, at, agree, standing, meter)?;
+        spans.push(next)?;
+        standing = then;
+        at += SPAN;
     }
+    Ok((at, standing))
 }
 
-// The first place from `from` on whose move isn't before this time.
-fn skip(old: &KeptMoves, from: usize, time: u64) -> usize
-    requires within { from ≤ length old.now.moves }
-    requires before { AreBefore old.now.moves from time }
-    ensures within { result ≤ length old.now.moves }
-    ensures before { AreBefore old.now.moves result time }
+// A span of a run, beside the older one's.
+fn next_span<const N: usize>(
+    alloc: Global,
+    old: &Rc<KeptMoves>,
+    plan: &Plan<N>,
+    at: u64,
+    agree: bool,
+    standing: Standing<N>,
+    meter: &mut Meter,
+) -> Result<(Rc<KeptMoves>, Standing<N>), AllocError>
+    requires comes { (old_plan : PlanData) × (old_spans : List RunData) × (moves : List Move)
+        × ComesTo N old_plan old_spans old.now.value plan.now moves at agree standing }
+    ensures next { IfOk result (λ r. (old_plan : PlanData) (old_spans : List RunData) (moves : List Move)
+        → ComesTo N old_plan old_spans old.now.value plan.now moves at agree standing.entry
+        → IsNextSpan N plan.now moves at (at + span_length) r.0.value) }
+    ensures stands { IfOk result (λ r. (old_plan : PlanData) (old_spans : List RunData) (moves : List Move)
+        → ComesTo N old_plan old_spans old.now.value plan.now moves at agree standing.entry
+        → Stands N old_plan old_spans plan.now (moves ++ map move_of r.0.value.moves) (at + span_length) r.1) }
+    ensures cost { IfOk result (λ r. (old_plan : PlanData) (old_spans : List RunData) (moves : List Move)
+        → ComesTo N old_plan old_spans old.now.value plan.now moves at agree standing.entry
+        → Costs old_plan (moves_of old_spans) plan.now (map move_of r.0.value.moves) meter.old meter.new) }
+    ensures rises { meter.old ≤ meter.new }
 {
-    let mut at = from;
-    while at < old.len() && old.time(at) < time {
-        at += 1;
+    let _end = plan.end();
+    let _count = meter.count();
+    if agree && stands_alike(&standing, old) {
+        return Ok((old.clone()?, Standing::Alike));
     }
-    at
+    let mut live = standing_live(alloc, old, plan, at, standing)?;
+    let span = run_span(alloc, old, plan, &mut live, at + SPAN, meter)?;
+    Ok((Rc::new(alloc, span)?, Standing::Apart(live)))
 }
 
-// The place of a move in the old run, of which all moves before `from` are of earlier times.
-fn find(
+// The ports where they stand at the beginning of a span.
+fn standing_live<const N: usize>(
+    alloc: Global,
     old: &KeptMoves,
-    from: usize,
-    port: usize,
-    before: &Port,
-    due: &Due,
-    answer: &Option<Answer>,
-) -> Option<usize>
-    requires made { All IsMade old.now.moves }
-    requires in_time { AreInTime old.now.moves }
-    requires before { AreBefore old.now.moves from due.now.time }
-    ensures found { IfSome result (λ i. i < length old.now.moves
-        × slice_index_or old.now.moves i (kept_of port before.now due.now answer.now) ≡ kept_of port before.now due.now answer.now) }
-    ensures none { IfNone result (Contains old.now.moves (kept_of port before.now due.now answer.now) → ⊥) }
+    plan: &Plan<N>,
+    at: u64,
+    standing: Standing<N>,
+) -> Result<Live<N>, AllocError>
+    requires comes { (old_plan : PlanData) × (old_spans : List RunData) × (moves : List Move) × (agree : Bool)
+        × ComesTo N old_plan old_spans old.now plan.now moves at agree standing }
+    ensures { IfOk result (λ live. (old_plan : PlanData) (old_spans : List RunData) (moves : List Move) (agree : Bool)
+        → ComesTo N old_plan old_spans old.now plan.now moves at agree standing.entry → StandsAfter plan.now moves live) }
 {
-    for i in from..old.len() {
-        if old.time(i) > due.time {
-            return None;
-        }
-        if old.repeats(i, port, before, due, answer) {
-            return Some(i);
+    match standing {
+        Standing::Alike => Live::resume(alloc, plan, old.first_ports(alloc, N)?, at),
+        Standing::Apart(live) => Ok(live),
+    }
+}
+
+// Whether the ports stand as those of the older run at the beginning of its span.
+fn stands_alike<const N: usize>(standing: &Standing<N>, span: &KeptMoves) -> bool
+    ensures { IsTrue result ↔ AreStanding N standing.now span.now }
+{
+    match standing {
+        Standing::Alike => true,
+        Standing::Apart(live) => begins_with(span, live),
+    }
+}
+
+// Whether a span begins with these ports.
+fn begins_with<const N: usize>(span: &KeptMoves, live: &Live<N>) -> bool
+    ensures { IsTrue result ↔ BeginsWith N span.now live.now }
+{
+    for port in 0..N {
+        if !span.has_at(port, live.port(port + 1)) {
+            return false;
         }
     }
-    None
+    true
+}
+
+// The spans beyond the older run.
+fn run_on<const N: usize>(
+    alloc: Global,
+    plan: &Plan<N>,
+    from: u64,
+    live: &mut Live<N>,
+    spans: &mut Spans,
+    meter: &mut Meter,
+) -> Result<(), AllocError>
+    requires so_far { IsSoFar N plan.now spans.old from }
+    requires stands { StandsAfter plan.now (moves_of spans.old) live.old }
+    ensures kept { OnOk result (IsKept N plan.now spans.new) }
+    ensures cost { OnOk result ((old : PlanData) (old_spans : List RunData) (first : ℕ) → (from ≤ plan.now.end → AreOver old_spans from) → All (IsOwn old) (kept_of_spans old_spans)
+        → Costs old (moves_of old_spans) plan.now (moves_of spans.old) first meter.old
+        → Costs old (moves_of old_spans) plan.now (moves_of spans.new) first meter.new) }
+    ensures rises { meter.old ≤ meter.new }
+{
+    let _end = plan.end();
+    let _count = meter.count();
+    let nothing = KeptMoves::new(alloc);
+    let mut at = from;
+    while at <= plan.end() {
+        let span = run_span(alloc, &nothing, plan, live, at + SPAN, meter)?;
+        spans.push(Rc::new(alloc, span)?)?;
+        at += SPAN;
+    }
+    Ok(())
 }

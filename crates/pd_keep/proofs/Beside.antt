@@ -1,0 +1,267 @@
+-- A run beside an older one.
+use Rattle.std.proofs.Common.{◌≡◌, ⊎_elim, inl, inr, ℕ, zero, suc, ◌+◌, ◌*◌, ◌-◌, ◌<◌, ◌≤◌, Bool, true, List, [], ◌∷◌, ◌++◌}
+use Rattle.std.proofs.lemmas.Option.{slice_get_within, slice_get-get_or}
+use Rattle.std.proofs.lemmas.Bool.{cases_lt}
+use Rattle.std.proofs.Common.{length, map, take, get_or, All, Contains, Some, None, slice_get, refl, ap, sym, ◌∙◌, subst, arith}
+use Rattle.std.proofs.lemmas.List.{same_lists, get_or-take, length-take-le, get_or_default, length-map}
+use Rattle.std.proofs.Math.ListN as list_map
+use Rattle.std.proofs.lemmas.List.Elements.{Contains-append_left, Contains-append_right}
+use Rattle.pd_setup.specs.Settings.{SettingsData}
+use Rattle.pd_port.specs.Port.{PortData}
+use Rattle.pd_scenario.specs.Plan.{Plan, IsPlan, count, settings_of, no_settings}
+use Rattle.pd_run.specs.Live.{LiveData, StandsAfter, port_after}
+use Rattle.pd_run.specs.Run.{Move, Run}
+use Rattle.pd_run.specs.Start.{no_port}
+use Rattle.pd_run.specs.UpTo.{before, IsUpTo, AgreeIn, AreAlike, AreAfter}
+use Rattle.pd_run.proofs.Alike.{go_alike, between}
+use Rattle.pd_run.proofs.Cut.{All-nil, IsEarlier, run_up_to, starts_up_to, timely_all}
+use Rattle.pd_run.proofs.Taken.{taken_is}
+use Rattle.pd_keep.specs.declared.rerun.Standing.{Standing}
+use Rattle.pd_keep.specs.declared.rerun.Standing.TheVariants as standing
+use Rattle.pd_keep.specs.Fresh.{IsRepeated, AreFresh}
+use Rattle.pd_keep.specs.Kept.{KeptData, move_of, IsOwn}
+use Rattle.pd_keep.specs.Places.{RunData}
+use Rattle.pd_keep.specs.Spans.{span_length, kept_of_spans, moves_of, BeginsAfter, IsKept}
+use Rattle.pd_keep.specs.Rerun.{StandsAlike, Stands, Costs, IsNextSpan, ComesTo, BeginsWith, AreStanding, IsOld, IsSoFar, AreOver, AreThose, IsDone}
+use Rattle.pd_keep.proofs.Parted.{in_span, moves_push}
+
+-- What moves cost.
+
+pub fresh-append : (old_plan : Plan) (old : List Move) (plan : Plan) (xs ys : List Move) (n k : ℕ) → AreFresh old_plan old plan xs n
+    → AreFresh old_plan old plan ys k → AreFresh old_plan old plan (xs ++ ys) (n + k)
+fresh-append old_plan old plan [] ys n k h f = subst (λ i. AreFresh old_plan old plan ys i) (omega arith) f
+fresh-append old_plan old plan (x ∷ xs) ys n k h f =
+    ⊎_elim
+    (λ (w : IsRepeated old_plan old plan x × AreFresh old_plan old plan xs n). inl
+    (w.0, fresh-append old_plan old plan xs ys n k w.1 f))
+    (λ (w : (IsRepeated old_plan old plan x → ⊥) × ((i : ℕ) × (n ≡ i + 1) × AreFresh old_plan old plan xs i)). inr (
+      w.0,
+      (w.1.0 + k, (let e = w.1.1 in omega arith), fresh-append old_plan old plan xs ys w.1.0 k w.1.2 f),
+    ))
+    h
+
+pub none_fresh : (old_plan : Plan) (old : List Move) (plan : Plan) (moves : List Move)
+    → ((m : Move) → Contains moves m → IsRepeated old_plan old plan m) → AreFresh old_plan old plan moves 0
+none_fresh old_plan old plan [] h = refl
+none_fresh old_plan old plan (m ∷ ms) h =
+    inl (h m (zero, (omega arith), refl), none_fresh old_plan old plan ms (λ x c. h x (suc c.0, (let e = c.1 in omega arith), c.2)))
+
+pub costs-append : (old_plan : Plan) (old : List Move) (plan : Plan) (xs ys : List Move) (a b c : ℕ) → Costs old_plan old plan xs a b
+    → Costs old_plan old plan ys b c → Costs old_plan old plan (xs ++ ys) a c
+costs-append old_plan old plan xs ys a b c h k =
+    (h.0 + k.0, fresh-append old_plan old plan xs ys h.0 k.0 h.1 k.1, (let e = h.2 in let f = k.2 in omega arith))
+
+-- Where ports stand.
+
+same_settings : (a b : Plan) → count a ≡ count b → ((p : ℕ) → p < count a → settings_of a p ≡ settings_of b p) → a.settings ≡ b.settings
+same_settings a b n h =
+    same_lists a.settings b.settings n
+    (λ k d lt. get_or_default a.settings k d no_settings lt ∙ h k lt ∙ sym (get_or_default b.settings k d no_settings (omega (arith, n))))
+
+-- ports that stand where a span of the old run begins stand alike
+alike_from : (n : ℕ) (a : Plan) (moves : List Move) (b : Plan) (others : List Move) (s : RunData) (live : LiveData) → IsPlan n a
+    → IsPlan n b → BeginsAfter n a moves s → BeginsWith n s live → StandsAfter b others live → AreAlike a moves b others
+alike_from n a moves b others s live is_a is_b begun begins stands =
+    let counts : count a ≡ count b = is_a.settings_count ∙ sym is_b.settings_count in
+    let at : (p : ℕ) → p < count a → port_after a moves p ≡ port_after b others p =
+    λ p lt. sym (begun p (omega (arith, is_a.settings_count))).1 ∙ (begins p (omega (arith, is_a.settings_count))).1
+    ∙ stands.ports_are p (omega arith) in
+    record {
+      settings = same_settings a b counts (λ p lt. ap (λ (x : PortData). x.settings) (at p lt));
+      records = λ p lt. ap (λ (x : PortData). x.port_record) (at p lt);
+    }
+
+-- and where they stand alike a span begins with the ports of both
+pub begins_both : (n : ℕ) (a : Plan) (moves : List Move) (b : Plan) (others : List Move) (s : RunData) → IsPlan n a
+    → AreAlike a moves b others → BeginsAfter n a moves s → BeginsAfter n b others s
+begins_both n a moves b others s is alike begun = λ p lt.
+    let k : p < count a = omega (arith, is.settings_count) in
+    let h = begun p lt in
+    let set = ap (λ (l : List SettingsData). get_or l p no_settings) alike.settings in
+    let rec = alike.records p k in
+    (h.0, h.1 ∙ (λ i. record { settings = set i; port_record = rec i }))
+
+-- the ports of a run that comes to a span of the old run's stand alike, where it is seen that they do
+pub comes_alike : (n : ℕ) (old : Plan) (old_spans : List RunData) (span : RunData) (plan : Plan) (moves : List Move) (at : ℕ)
+    (agree : Bool) (st : Standing n) → (c : ComesTo n old old_spans span plan moves at agree st) → AreStanding n st span
+    → AreAlike old (before at (moves_of old_spans)) plan moves
+comes_alike n old old_spans span plan moves at agree standing.Alike c h = c.stands.alike
+comes_alike n old old_spans span plan moves at agree (standing.Apart live) c h =
+    let w = in_span n old old_spans c.place span c.kept c.there in
+    let begun : BeginsAfter n old (before at (moves_of old_spans)) span =
+    subst (λ t. BeginsAfter n old (before t (moves_of old_spans)) span) (sym c.at_is) w.begun in
+    alike_from n old (before at (moves_of old_spans)) plan moves span live c.kept.is_plan c.is_plan begun h c.stands
+
+pub record IsShared (n : ℕ) (old : Plan) (old_spans : List RunData) (span : RunData) (plan : Plan) (moves : List Move) (at : ℕ) : Type 0
+  where
+    pub next : IsNextSpan n plan moves at (at + span_length) span
+    pub stands : StandsAlike n old old_spans plan (moves ++ map move_of span.moves) (at + span_length)
+    pub fresh : AreFresh old (moves_of old_spans) plan (map move_of span.moves) 0
+
+own_too : (a b : Plan) (k : KeptData) → a.settings ≡ b.settings → IsOwn a k → IsOwn b k
+own_too a b k set h = record {
+  made = h.made;
+  from_one = h.from_one;
+  settings = h.settings ∙ ap (λ (l : List SettingsData). get_or l (k.port - 1) no_settings) set;
+}
+
+-- a span in which both plans ask the same, and at whose beginning the ports stand alike, is shared
+pub shares : (n : ℕ) (old : Plan) (old_spans : List RunData) (span : RunData) (plan : Plan) (moves : List Move) (at : ℕ)
+    (agree : Bool) (st : Standing n) → ComesTo n old old_spans span plan moves at agree st
+    → AreAlike old (before at (moves_of old_spans)) plan moves → AgreeIn old plan at (at + span_length)
+    → IsShared n old old_spans span plan moves at
+shares n old old_spans span plan moves at agree st c alike same =
+    let to = at + span_length in
+    let all : List Move = moves_of old_spans in
+    let mid : List Move = map move_of span.moves in
+    let w = in_span n old old_spans c.place span c.kept c.there in
+    let run : Run old all = c.kept.safe.run in
+    let is_next : before to all ≡ before at all ++ mid =
+    subst (λ t. before (t + span_length) all ≡ before t all ++ mid) (sym c.at_is) w.is_next in
+    let begun : BeginsAfter n old (before at all) span =
+    subst (λ t. BeginsAfter n old (before t all) span) (sym c.at_is) w.begun in
+    let place = c.kept.count.needed c.place (within c.place c.there) in
+    let old_up : IsUpTo old (before at all) at = run_up_to old all at run in
+    let parts = between old all mid at to run is_next in
+    let on = go_alike old plan all moves mid at to run c.up alike same (omega arith)
+    (λ p lt. taken_is old (before at all) at p old_up (let e = c.at_is in omega arith) lt)
+    (λ p lt. taken_is plan moves at p c.up c.soon lt) is_next in
+    record {
+      next = record {
+        begun = begins_both n old (before at all) plan moves span c.kept.is_plan alike begun;
+        own = λ k d lt. own_too old plan _ alike.settings (w.own k d lt);
+        later = λ k d lt. (parts.inside k d lt).0;
+        up = on.0;
+      };
+      stands = record {
+        kept = c.kept;
+        alike = on.1;
+        ends = ⊎_elim (λ (e : old.end ≡ plan.end). inl e) (λ (e : (to ≤ old.end) × (to ≤ plan.end)). inr e.0) same.ends;
+      };
+      fresh = none_fresh old all plan mid
+          (λ m h. (
+            m,
+            subst (λ (l : List Move). Contains l m) (sym parts.whole)
+                (Contains-append_left (before at all ++ mid) parts.rest m (Contains-append_right (before at all) mid m h)),
+            record {
+              port = refl;
+              before = refl;
+              settings = ap (λ (l : List SettingsData). get_or l m.port no_settings) alike.settings;
+              due = refl;
+              answer = refl;
+            },
+          ));
+    } where
+      within : (k : ℕ) → slice_get old_spans k ≡ Some span → k < length old_spans
+      within k e = slice_get_within old_spans k span e
+
+-- the ports at the beginning of a span are where the run stands, where they stand alike
+pub resumes : (n : ℕ) (old : Plan) (old_spans : List RunData) (span : RunData) (plan : Plan) (moves : List Move) (at : ℕ)
+    (agree : Bool) → ComesTo n old old_spans span plan moves at agree standing.Alike
+    → (n ≤ length span.records) × (length (take n span.records) ≡ n) × AreAfter plan moves (take n span.records)
+resumes n old old_spans span plan moves at agree c =
+    let w = in_span n old old_spans c.place span c.kept c.there in
+    let begun : BeginsAfter n old (before at (moves_of old_spans)) span =
+    subst (λ t. BeginsAfter n old (before t (moves_of old_spans)) span) (sym c.at_is) w.begun in
+    let both = begins_both n old (before at (moves_of old_spans)) plan moves span c.kept.is_plan c.stands.alike begun in
+    let some = c.is_plan.some_port in
+    let last = (both (n - 1) (omega arith)).0 in (
+      omega (arith, last),
+      length-take-le n span.records (omega (arith, last)),
+      λ p lt.
+          let inside : p < n = omega (arith, c.is_plan.settings_count) in
+          get_or-take n span.records p no_port inside ∙ (both p inside).1,
+    )
+
+-- Where the old run has ended.
+
+pub over_from : (n : ℕ) (old : Plan) (old_spans : List RunData) (at : ℕ) → IsOld n old old_spans → length old_spans * span_length ≤ at
+    → AreOver old_spans at
+over_from n old old_spans at (inl none) le =
+    subst (λ (l : List RunData). AreOver l at) (sym none) (All-nil (IsEarlier at))
+over_from n old old_spans at (inr kept) le =
+    let past = kept.count.beyond in
+    timely_all old [] (moves_of old_spans) at kept.safe.run.timely (omega arith)
+
+pub own_old : (n : ℕ) (old : Plan) (old_spans : List RunData) → IsOld n old old_spans → All (IsOwn old) (kept_of_spans old_spans)
+own_old n old old_spans (inl none) = subst (λ (l : List RunData). All (IsOwn old) (kept_of_spans l)) (sym none) (All-nil (IsOwn old))
+own_old n old old_spans (inr kept) = kept.own
+
+pub over_later : (spans : List RunData) (from at : ℕ) → from ≤ at → AreOver spans from → AreOver spans at
+over_later spans from at le over = λ k d lt. let e = over k d lt in omega arith
+
+pub over_those : (spans : List RunData) (at to : ℕ) → AreOver spans at → AreThose (kept_of_spans spans) at to []
+over_those spans at to over = λ k ge lt. (
+  λ h.
+      let kept : List KeptData = kept_of_spans spans in
+      let is : get_or (map move_of kept) h.0 (move_of k) ≡ move_of k = list_map.get_or-map move_of kept h.0 k ∙ ap move_of h.2 in
+      let time : (get_or (map move_of kept) h.0 (move_of k)).due.time < at = over h.0 (move_of k) (omega (arith, length-map kept move_of, h.1)) in
+      let same = ap (λ (m : Move). m.due.time) is in
+      absurd (omega arith),
+  λ h. absurd (let e = h.1 in omega arith),
+)
+
+-- where the old run has no span any more, ports that stand as its own are at the end
+pub done_alike : (n : ℕ) (old : Plan) (old_spans : List RunData) (plan : Plan) (moves : List Move) (at : ℕ) (st : Standing n)
+    → Stands n old old_spans plan moves at st → length old_spans * span_length ≤ at → IsDone n plan at st
+done_alike n old old_spans plan moves at standing.Alike s le =
+    let past = s.kept.count.beyond in
+    ⊎_elim (λ (e : old.end ≡ plan.end). omega arith) (λ (e : at ≤ old.end). absurd (omega arith)) s.ends
+done_alike n old old_spans plan moves at (standing.Apart live) s le = tt
+
+pub done_past : (n : ℕ) (plan : Plan) (at : ℕ) (st : Standing n) → plan.end < at → IsDone n plan at st
+done_past n plan at standing.Alike past = past
+done_past n plan at (standing.Apart live) past = tt
+
+-- the cost with one more span
+pub next_costs : (old : Plan) (old_moves : List Move) (plan : Plan) (spans : List RunData) (s : RunData) (first a b : ℕ)
+    → Costs old old_moves plan (moves_of spans) first a → Costs old old_moves plan (map move_of s.moves) a b
+    → Costs old old_moves plan (moves_of (spans ++ s ∷ [])) first b
+next_costs old old_moves plan spans s first a b h k =
+    subst (λ (l : List Move). Costs old old_moves plan l first b) (sym (moves_push spans s))
+    (costs-append old old_moves plan (moves_of spans) (map move_of s.moves) first a b h k)
+
+-- a run that begins
+pub so_far_none : (n : ℕ) (plan : Plan) → IsPlan n plan → IsSoFar n plan [] 0
+so_far_none n plan is = record {
+  is_plan = is;
+  up = starts_up_to plan 0 refl;
+  own = All-nil (IsOwn plan);
+  spanned = record { parted = λ k le. none k; begun = λ k s e. absurd (let h : None ≡ Some s = e in cc) };
+  at_is = refl;
+  needed = λ k lt. absurd (omega arith);
+} where
+  none : (k : ℕ) → before (k * span_length) (moves_of []) ≡ moves_of (take k [])
+  none zero = refl
+  none (suc k) = refl
+
+-- Spans of the old run.
+
+pub is_kept_of : (n : ℕ) (old : Plan) (old_spans : List RunData) (k : ℕ) (s : RunData) → IsOld n old old_spans
+    → slice_get old_spans k ≡ Some s → IsKept n old old_spans
+is_kept_of n old old_spans k s (inl none) e =
+    absurd (let h : None ≡ Some s = sym (ap (λ (l : List RunData). slice_get l k) none) ∙ e in cc)
+is_kept_of n old old_spans k s (inr kept) e = kept
+
+pub past_all : (spans : List RunData) (k : ℕ) → slice_get spans k ≡ None → length spans ≤ k
+past_all spans k e =
+    ⊎_elim
+    (λ (inside : k < length spans). absurd (let h : None ≡ Some _ = sym e ∙ slice_get-get_or spans k (record { records = []; moves = [] }) inside in cc))
+    (λ (past : length spans ≤ k). past) (cases_lt k (length spans))
+
+-- a run that comes to the beginning of an old run's span
+pub comes_to : (n : ℕ) (old : Plan) (old_spans spans : List RunData) (s : RunData) (plan : Plan) (k at from : ℕ) (agree : Bool)
+    (st : Standing n) → IsOld n old old_spans → IsSoFar n plan spans at → Stands n old old_spans plan (moves_of spans) at st
+    → k ≡ length spans → slice_get old_spans k ≡ Some s → at ≤ plan.end → from ≡ at
+    → (agree ≡ true → AgreeIn old plan from (at + span_length)) → ComesTo n old old_spans s plan (moves_of spans) at agree st
+comes_to n old old_spans spans s plan k at from agree st is_old far stands k_is there soon now agrees = record {
+  place = k;
+  kept = is_kept_of n old old_spans k s is_old there;
+  there = there;
+  at_is = far.at_is ∙ ap (λ i. i * span_length) (sym k_is);
+  is_plan = far.is_plan;
+  soon = soon;
+  up = far.up;
+  stands = stands;
+  agrees = λ e. subst (λ t. AgreeIn old plan t (at + span_length)) now (agrees e);
+}

@@ -1,0 +1,85 @@
+-- A run beside an older one.
+use Rattle.std.specs.Prelude.{◌≡◌, ◌⊎◌, ℕ, ◌+◌, ◌*◌, ◌<◌, ◌≤◌, ◌++◌, ◌↔◌, Bool, true, List, [], length, map, slice_get, Some, All, Contains}
+use Rattle.std.specs.Prelude.{slice_index_or}
+use Rattle.pd_port.specs.Meter.{raised}
+use Rattle.pd_scenario.specs.Plan.{Plan, IsPlan}
+use Rattle.pd_run.specs.Live.{LiveData, StandsAfter, port_at}
+use Rattle.pd_run.specs.Start.{no_port}
+use Rattle.pd_run.specs.Run.{Move}
+use Rattle.pd_run.specs.UpTo.{before, IsUpTo, AgreeIn, AreAlike}
+use Rattle.pd_keep.specs.declared.rerun.Standing.{Standing}
+use Rattle.pd_keep.specs.declared.rerun.Standing.TheVariants as standing
+use Rattle.pd_keep.specs.Fresh.{AreFresh}
+use Rattle.pd_keep.specs.Kept.{KeptData, move_of, IsOwn}
+use Rattle.pd_keep.specs.Places.{RunData}
+use Rattle.pd_keep.specs.Spans.{span_length, kept_of_spans, moves_of, BeginsAfter, AreSpans, IsKept}
+
+-- what a run is made beside: no run, or what is kept of a plan's
+abbrev pub IsOld : ℕ → Plan → List RunData → Type 0
+IsOld n old spans = (spans ≡ []) ⊎ IsKept n old spans
+
+-- After these moves the ports stand as those of the old run at a time, and the old run goes on from there, or both have ended.
+pub record StandsAlike (n : ℕ) (old : Plan) (old_spans : List RunData) (plan : Plan) (moves : List Move) (at : ℕ) : Type 0 where
+  pub kept : IsKept n old old_spans
+  pub alike : AreAlike old (before at (moves_of old_spans)) plan moves
+  pub ends : (old.end ≡ plan.end) ⊎ (at ≤ old.end)
+
+-- after these moves the ports stand so at a time
+abbrev pub Stands : (n : ℕ) → Plan → List RunData → Plan → List Move → ℕ → Standing n → Type 0
+Stands n old old_spans plan moves at standing.Alike = StandsAlike n old old_spans plan moves at
+Stands n old old_spans plan moves at (standing.Apart live) = StandsAfter plan moves live
+
+-- what moves cost beside old ones: a step for each that is fresh
+abbrev pub Costs : Plan → List Move → Plan → List Move → ℕ → ℕ → Type 0
+Costs old old_moves plan moves before after = (n : ℕ) × AreFresh old old_moves plan moves n × (after ≡ raised before n)
+
+-- what is kept of a plan's run as far as it has come: spans up to a time
+pub record IsSoFar (n : ℕ) (plan : Plan) (spans : List RunData) (at : ℕ) : Type 0 where
+  pub is_plan : IsPlan n plan
+  pub up : IsUpTo plan (moves_of spans) at
+  pub own : All (IsOwn plan) (kept_of_spans spans)
+  pub spanned : AreSpans n plan spans
+  pub at_is : at ≡ length spans * span_length
+  pub needed : (k : ℕ) → k < length spans → k * span_length ≤ plan.end
+
+-- a span that goes on with a run, from one time to another
+pub record IsNextSpan (n : ℕ) (plan : Plan) (moves : List Move) (from to : ℕ) (span : RunData) : Type 0 where
+  pub begun : BeginsAfter n plan moves span
+  pub own : All (IsOwn plan) span.moves
+  pub later : All (λ m. from ≤ m.due.time) (map move_of span.moves)
+  pub up : IsUpTo plan (moves ++ map move_of span.moves) to
+
+-- a run beside an old one comes to the beginning of a span of the old one, and may be told that both plans ask the same in it
+pub record ComesTo (n : ℕ) (old : Plan) (old_spans : List RunData) (span : RunData) (plan : Plan) (moves : List Move) (at : ℕ)
+    (agree : Bool) (standing : Standing n) : Type 0 where
+  pub place : ℕ
+  pub kept : IsKept n old old_spans
+  pub there : slice_get old_spans place ≡ Some span
+  pub at_is : at ≡ place * span_length
+  pub is_plan : IsPlan n plan
+  pub soon : at ≤ plan.end
+  pub up : IsUpTo plan moves at
+  pub stands : Stands n old old_spans plan moves at standing
+  pub agrees : agree ≡ true → AgreeIn old plan at (at + span_length)
+
+-- of what is kept of an old run these are all from one time to another
+abbrev pub AreThose : List KeptData → ℕ → ℕ → List KeptData → Type 0
+AreThose all from to some = (k : KeptData) → from ≤ k.due.time → k.due.time < to → (Contains all k ↔ Contains some k)
+
+-- the run has ended, unless its ports stand for themselves
+abbrev pub IsDone : (n : ℕ) → Plan → ℕ → Standing n → Type 0
+IsDone n plan at standing.Alike = plan.end < at
+IsDone n plan at (standing.Apart live) = Unit {0}
+
+-- a span begins with these ports
+abbrev pub BeginsWith : ℕ → RunData → LiveData → Type 0
+BeginsWith n span live = (p : ℕ) → p < n → (p < length span.records) × (slice_index_or span.records p no_port ≡ port_at live p)
+
+-- they stand so already, or the span begins with them
+abbrev pub AreStanding : (n : ℕ) → Standing n → RunData → Type 0
+AreStanding n standing.Alike span = Unit {0}
+AreStanding n (standing.Apart live) span = BeginsWith n span live
+
+-- an old run has no move from a time on
+abbrev pub AreOver : List RunData → ℕ → Type 0
+AreOver spans at = All (λ m. m.due.time < at) (moves_of spans)

@@ -1,0 +1,117 @@
+//! The moves of a run in spans, which runs share.
+
+ghost use Rattle.std.specs.Prelude.{◌≡◌, ◌+◌, ◌++◌, ◌∷◌, [], ℕ, OnOk, IfSome, length, map, option_map, slice_get};
+ghost use Rattle.pd_keep.specs.Firsts.{IsPlaceOf};
+ghost use Rattle.pd_keep.specs.Places.{shown_of};
+ghost use Rattle.pd_keep.specs.Spans.{kept_of_spans};
+
+use crate::kept_move::KeptMoves;
+use pd_port::Entry;
+use std::alloc::{AllocError, Global};
+use std::marker::Model;
+use std::rc::Rc;
+
+/// What is kept of one span of time, and how many moves the run has before it.
+#[derive(Drop)]
+pub struct Span {
+    first: usize,
+    kept: Rc<KeptMoves>,
+}
+
+/// The spans of a run, in their order. A span may be shared with other runs.
+#[derive(Drop)]
+pub struct Spans {
+    spans: Vec<Span>,
+    len: usize,
+}
+
+impl Model for Spans {
+    ghost use Rattle.std.specs.Prelude.{◌≡◌, length, map, List};
+    ghost use Rattle.pd_keep.specs.Places.{RunData};
+    ghost use Rattle.pd_keep.specs.Spans.{kept_of_spans};
+    ghost use Rattle.pd_keep.specs.Firsts.{AreCounted, span_of};
+
+    ghost Value = { List RunData };
+
+    ghost view = { λ s. map span_of s.spans.items };
+
+    ghost invariant = { λ s. AreCounted s.spans.items × (s.len ≡ length (kept_of_spans (map span_of s.spans.items))) };
+}
+
+impl Spans {
+    /// No spans.
+    pub fn new(alloc: Global) -> Spans
+        ensures { result ≡ [] }
+    {
+        Spans {
+            spans: Vec::new(alloc),
+            len: 0,
+        }
+    }
+
+    /// The number of moves in all spans.
+    pub fn len(&self) -> usize
+        ensures { result ≡ length (kept_of_spans self.now) }
+    {
+        self.len
+    }
+
+    /// The number of spans.
+    pub fn count(&self) -> usize
+        ensures { result ≡ length self.now }
+    {
+        self.spans.len()
+    }
+
+    /// A span, by its place.
+    pub fn span(&self, k: usize) -> Option<&Rc<KeptMoves>>
+        ensures { option_map (λ s. s.now.value) result ≡ slice_get self.now k }
+    {
+        let span = self.spans.get(k)?;
+        Some(&span.kept)
+    }
+
+    /// Adds a span at the end.
+    ///
+    /// # Errors
+    /// There is no memory, as where there are more moves than a `usize` counts.
+    pub fn push(&mut self, kept: Rc<KeptMoves>) -> Result<(), AllocError>
+        ensures { OnOk result (self.new ≡ self.old ++ kept.value ∷ []) }
+    {
+        let Some(len) = self.len.checked_add(kept.len()) else {
+            return Err(AllocError);
+        };
+        self.spans.push(Span {
+            first: self.len,
+            kept,
+        })?;
+        self.len = len;
+        Ok(())
+    }
+
+    /// A move's port and entry, by its place in the run.
+    pub fn entry(&self, i: usize) -> Option<(usize, &Entry)>
+        ensures { option_map (λ r. (r.0, r.1.now)) result ≡ option_map shown_of (slice_get (kept_of_spans self.now) i) }
+    {
+        let place = self.place_of(i);
+        let span = self.spans.get(place)?;
+        span.kept.entry(i - span.first)
+    }
+
+    // The span that has a move, which is the last one that doesn't begin after it.
+    fn place_of(&self, i: usize) -> usize
+        ensures { IsPlaceOf self.now i result }
+    {
+        let mut low = 0;
+        let mut high = self.spans.len();
+        while high - low > 1 {
+            let middle = low + (high - low) / 2;
+            if self.spans[middle].first <= i {
+                low = middle;
+            } else {
+                high = middle;
+            }
+        }
+        low
+    }
+}
