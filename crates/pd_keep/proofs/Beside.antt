@@ -21,7 +21,7 @@ use Rattle.pd_keep.specs.declared.rerun.Standing.TheVariants as standing
 use Rattle.pd_keep.specs.Fresh.{IsRepeated, AreFresh}
 use Rattle.pd_keep.specs.Kept.{KeptData, move_of, IsOwn}
 use Rattle.pd_keep.specs.Places.{RunData}
-use Rattle.pd_keep.specs.Spans.{span_length, kept_of_spans, moves_of, BeginsAfter, IsKept}
+use Rattle.pd_keep.specs.Spans.{kept_of_spans, moves_of, end_of, begins_at, BeginsAfter, IsKept}
 use Rattle.pd_keep.specs.Rerun.{StandsAlike, Stands, Costs, IsNextSpan, ComesTo, BeginsWith, AreStanding, IsOld, IsSoFar, AreOver, AreThose, IsDone}
 use Rattle.pd_keep.proofs.Parted.{in_span, moves_push}
 
@@ -82,20 +82,20 @@ begins_both n a moves b others s is alike begun = λ p lt.
     (h.0, h.1 ∙ (λ i. record { settings = set i; port_record = rec i }))
 
 -- the ports of a run that comes to a span of the old run's stand alike, where it is seen that they do
-pub comes_alike : (n : ℕ) (old : Plan) (old_spans : List RunData) (span : RunData) (plan : Plan) (moves : List Move) (at : ℕ)
-    (agree : Bool) (st : Standing n) → (c : ComesTo n old old_spans span plan moves at agree st) → AreStanding n st span
-    → AreAlike old (before at (moves_of old_spans)) plan moves
-comes_alike n old old_spans span plan moves at agree standing.Alike c h = c.stands.alike
-comes_alike n old old_spans span plan moves at agree (standing.Apart live) c h =
+pub comes_alike : (n : ℕ) (old : Plan) (old_spans : List RunData) (span : RunData) (plan : Plan) (spans : List RunData) (at : ℕ)
+    (agree : Bool) (st : Standing n) → (c : ComesTo n old old_spans span plan spans at agree st) → AreStanding n st span
+    → AreAlike old (before at (moves_of old_spans)) plan (moves_of spans)
+comes_alike n old old_spans span plan spans at agree standing.Alike c h = c.stands.alike
+comes_alike n old old_spans span plan spans at agree (standing.Apart live) c h =
     let w = in_span n old old_spans c.place span c.kept c.there in
     let begun : BeginsAfter n old (before at (moves_of old_spans)) span =
     subst (λ t. BeginsAfter n old (before t (moves_of old_spans)) span) (sym c.at_is) w.begun in
-    alike_from n old (before at (moves_of old_spans)) plan moves span live c.kept.is_plan c.is_plan begun h c.stands
+    alike_from n old (before at (moves_of old_spans)) plan (moves_of spans) span live c.kept.is_plan c.far.is_plan begun h c.stands
 
 pub record IsShared (n : ℕ) (old : Plan) (old_spans : List RunData) (span : RunData) (plan : Plan) (moves : List Move) (at : ℕ) : Type 0
   where
-    pub next : IsNextSpan n plan moves at (at + span_length) span
-    pub stands : StandsAlike n old old_spans plan (moves ++ map move_of span.moves) (at + span_length)
+    pub next : IsNextSpan n plan moves at span
+    pub stands : StandsAlike n old old_spans plan (moves ++ map move_of span.moves) span.to
     pub fresh : AreFresh old (moves_of old_spans) plan (map move_of span.moves) 0
 
 own_too : (a b : Plan) (k : KeptData) → a.settings ≡ b.settings → IsOwn a k → IsOwn b k
@@ -106,28 +106,32 @@ own_too a b k set h = record {
 }
 
 -- a span in which both plans ask the same, and at whose beginning the ports stand alike, is shared
-pub shares : (n : ℕ) (old : Plan) (old_spans : List RunData) (span : RunData) (plan : Plan) (moves : List Move) (at : ℕ)
-    (agree : Bool) (st : Standing n) → ComesTo n old old_spans span plan moves at agree st
-    → AreAlike old (before at (moves_of old_spans)) plan moves → AgreeIn old plan at (at + span_length)
-    → IsShared n old old_spans span plan moves at
-shares n old old_spans span plan moves at agree st c alike same =
-    let to = at + span_length in
+pub shares : (n : ℕ) (old : Plan) (old_spans : List RunData) (span : RunData) (plan : Plan) (spans : List RunData) (at : ℕ)
+    (agree : Bool) (st : Standing n) → ComesTo n old old_spans span plan spans at agree st
+    → AreAlike old (before at (moves_of old_spans)) plan (moves_of spans) → AgreeIn old plan at span.to
+    → IsShared n old old_spans span plan (moves_of spans) at
+shares n old old_spans span plan spans at agree st c alike same =
+    let to = span.to in
+    let moves : List Move = moves_of spans in
     let all : List Move = moves_of old_spans in
     let mid : List Move = map move_of span.moves in
     let w = in_span n old old_spans c.place span c.kept c.there in
     let run : Run old all = c.kept.safe.run in
     let is_next : before to all ≡ before at all ++ mid =
-    subst (λ t. before (t + span_length) all ≡ before t all ++ mid) (sym c.at_is) w.is_next in
+    subst (λ t. before to all ≡ before t all ++ mid) (sym c.at_is) w.is_next in
     let begun : BeginsAfter n old (before at all) span =
     subst (λ t. BeginsAfter n old (before t all) span) (sym c.at_is) w.begun in
-    let place = c.kept.count.needed c.place (within c.place c.there) in
+    let rising : at < to = (let e = c.at_is in let r = w.rising in omega (arith, e, r)) in
+    let needed = c.kept.reach.needed c.place (slice_get_within old_spans c.place span c.there) in
+    let soon : at ≤ old.end = (let e = c.at_is in omega (arith, e, needed)) in
     let old_up : IsUpTo old (before at all) at = run_up_to old all at run in
     let parts = between old all mid at to run is_next in
-    let on = go_alike old plan all moves mid at to run c.up alike same (omega arith)
-    (λ p lt. taken_is old (before at all) at p old_up (let e = c.at_is in omega arith) lt)
-    (λ p lt. taken_is plan moves at p c.up c.soon lt) is_next in
+    let on = go_alike old plan all moves mid at to run c.far.up alike same (omega (arith, rising))
+    (λ p lt. taken_is old (before at all) at p old_up soon lt)
+    (λ p lt. taken_is plan moves at p c.far.up c.soon lt) is_next in
     record {
       next = record {
+        rising = rising;
         begun = begins_both n old (before at all) plan moves span c.kept.is_plan alike begun;
         own = λ k d lt. own_too old plan _ alike.settings (w.own k d lt);
         later = λ k d lt. (parts.inside k d lt).0;
@@ -151,36 +155,34 @@ shares n old old_spans span plan moves at agree st c alike same =
               answer = refl;
             },
           ));
-    } where
-      within : (k : ℕ) → slice_get old_spans k ≡ Some span → k < length old_spans
-      within k e = slice_get_within old_spans k span e
+    }
 
 -- the ports at the beginning of a span are where the run stands, where they stand alike
-pub resumes : (n : ℕ) (old : Plan) (old_spans : List RunData) (span : RunData) (plan : Plan) (moves : List Move) (at : ℕ)
-    (agree : Bool) → ComesTo n old old_spans span plan moves at agree standing.Alike
-    → (n ≤ length span.records) × (length (take n span.records) ≡ n) × AreAfter plan moves (take n span.records)
-resumes n old old_spans span plan moves at agree c =
+pub resumes : (n : ℕ) (old : Plan) (old_spans : List RunData) (span : RunData) (plan : Plan) (spans : List RunData) (at : ℕ)
+    (agree : Bool) → ComesTo n old old_spans span plan spans at agree standing.Alike
+    → (n ≤ length span.records) × (length (take n span.records) ≡ n) × AreAfter plan (moves_of spans) (take n span.records)
+resumes n old old_spans span plan spans at agree c =
     let w = in_span n old old_spans c.place span c.kept c.there in
     let begun : BeginsAfter n old (before at (moves_of old_spans)) span =
     subst (λ t. BeginsAfter n old (before t (moves_of old_spans)) span) (sym c.at_is) w.begun in
-    let both = begins_both n old (before at (moves_of old_spans)) plan moves span c.kept.is_plan c.stands.alike begun in
-    let some = c.is_plan.some_port in
+    let both = begins_both n old (before at (moves_of old_spans)) plan (moves_of spans) span c.kept.is_plan c.stands.alike begun in
+    let some = c.far.is_plan.some_port in
     let last = (both (n - 1) (omega arith)).0 in (
       omega (arith, last),
       length-take-le n span.records (omega (arith, last)),
       λ p lt.
-          let inside : p < n = omega (arith, c.is_plan.settings_count) in
+          let inside : p < n = omega (arith, c.far.is_plan.settings_count) in
           get_or-take n span.records p no_port inside ∙ (both p inside).1,
     )
 
 -- Where the old run has ended.
 
-pub over_from : (n : ℕ) (old : Plan) (old_spans : List RunData) (at : ℕ) → IsOld n old old_spans → length old_spans * span_length ≤ at
+pub over_from : (n : ℕ) (old : Plan) (old_spans : List RunData) (at : ℕ) → IsOld n old old_spans → end_of 0 old_spans ≤ at
     → AreOver old_spans at
 over_from n old old_spans at (inl none) le =
     subst (λ (l : List RunData). AreOver l at) (sym none) (All-nil (IsEarlier at))
 over_from n old old_spans at (inr kept) le =
-    let past = kept.count.beyond in
+    let past = kept.reach.beyond in
     timely_all old [] (moves_of old_spans) at kept.safe.run.timely (omega arith)
 
 pub own_old : (n : ℕ) (old : Plan) (old_spans : List RunData) → IsOld n old old_spans → All (IsOwn old) (kept_of_spans old_spans)
@@ -203,9 +205,9 @@ over_those spans at to over = λ k ge lt. (
 
 -- where the old run has no span any more, ports that stand as its own are at the end
 pub done_alike : (n : ℕ) (old : Plan) (old_spans : List RunData) (plan : Plan) (moves : List Move) (at : ℕ) (st : Standing n)
-    → Stands n old old_spans plan moves at st → length old_spans * span_length ≤ at → IsDone n plan at st
+    → Stands n old old_spans plan moves at st → end_of 0 old_spans ≤ at → IsDone n plan at st
 done_alike n old old_spans plan moves at standing.Alike s le =
-    let past = s.kept.count.beyond in
+    let past = s.kept.reach.beyond in
     ⊎_elim (λ (e : old.end ≡ plan.end). omega arith) (λ (e : at ≤ old.end). absurd (omega arith)) s.ends
 done_alike n old old_spans plan moves at (standing.Apart live) s le = tt
 
@@ -227,13 +229,21 @@ so_far_none n plan is = record {
   is_plan = is;
   up = starts_up_to plan 0 refl;
   own = All-nil (IsOwn plan);
-  spanned = record { parted = λ k le. none k; begun = λ k s e. absurd (let h : None ≡ Some s = e in cc) };
+  spanned = record {
+    parted = λ k le. none k;
+    begun = λ k s e. absurd (let h : None ≡ Some s = e in cc);
+    rising = λ k s e. absurd (let h : None ≡ Some s = e in cc);
+  };
   at_is = refl;
+  within = λ k le. begins k;
   needed = λ k lt. absurd (omega arith);
 } where
-  none : (k : ℕ) → before (k * span_length) (moves_of []) ≡ moves_of (take k [])
+  none : (k : ℕ) → before (begins_at [] k) (moves_of []) ≡ moves_of (take k [])
   none zero = refl
   none (suc k) = refl
+  begins : (k : ℕ) → begins_at [] k ≤ 0
+  begins zero = omega arith
+  begins (suc k) = omega arith
 
 -- Spans of the old run.
 
@@ -246,22 +256,25 @@ is_kept_of n old old_spans k s (inr kept) e = kept
 pub past_all : (spans : List RunData) (k : ℕ) → slice_get spans k ≡ None → length spans ≤ k
 past_all spans k e =
     ⊎_elim
-    (λ (inside : k < length spans). absurd (let h : None ≡ Some _ = sym e ∙ slice_get-get_or spans k (record { records = []; moves = [] }) inside in cc))
+    (λ (inside : k < length spans). absurd (let h : None ≡ Some _ = sym e ∙ slice_get-get_or spans k (record { to = 0; records = []; moves = [] }) inside in cc))
     (λ (past : length spans ≤ k). past) (cases_lt k (length spans))
 
 -- a run that comes to the beginning of an old run's span
 pub comes_to : (n : ℕ) (old : Plan) (old_spans spans : List RunData) (s : RunData) (plan : Plan) (k at from : ℕ) (agree : Bool)
     (st : Standing n) → IsOld n old old_spans → IsSoFar n plan spans at → Stands n old old_spans plan (moves_of spans) at st
-    → k ≡ length spans → slice_get old_spans k ≡ Some s → at ≤ plan.end → from ≡ at
-    → (agree ≡ true → AgreeIn old plan from (at + span_length)) → ComesTo n old old_spans s plan (moves_of spans) at agree st
-comes_to n old old_spans spans s plan k at from agree st is_old far stands k_is there soon now agrees = record {
+    → at ≡ begins_at old_spans k → slice_get old_spans k ≡ Some s → at ≤ plan.end → from ≡ at
+    → (agree ≡ true → AgreeIn old plan from s.to) → ComesTo n old old_spans s plan spans at agree st
+comes_to n old old_spans spans s plan k at from agree st is_old far stands at_is there soon now agrees = record {
   place = k;
   kept = is_kept_of n old old_spans k s is_old there;
   there = there;
-  at_is = far.at_is ∙ ap (λ i. i * span_length) (sym k_is);
-  is_plan = far.is_plan;
+  at_is = at_is;
+  far = far;
   soon = soon;
-  up = far.up;
   stands = stands;
-  agrees = λ e. subst (λ t. AgreeIn old plan t (at + span_length)) now (agrees e);
+  agrees = λ e. subst (λ t. AgreeIn old plan t s.to) now (agrees e);
 }
+
+-- all of a list from a time on are so from a later time on
+pub those_later : (all some : List KeptData) (from at to : ℕ) → from ≤ at → AreThose all from to some → AreThose all at to some
+those_later all some from at to le those = λ k ge lt. those k (omega arith) lt

@@ -1,7 +1,8 @@
 -- What is kept stands in the order of times.
-use Rattle.std.proofs.Common.{◌≡◌, ◌≢◌, ⊎_elim, Contains, leb, true, false, ℕ, ◌<◌, ◌≤◌, ◌-◌, List, [], ◌∷◌, ◌++◌, length, map}
+use Rattle.std.proofs.Common.{◌≡◌, ◌≢◌, ◌+◌, ⊎_elim, All, Contains, leb, true, false, ℕ, ◌<◌, ◌≤◌, ◌-◌, List, [], ◌∷◌, ◌++◌, length, map}
 use Rattle.std.proofs.Common.{arith, get_or, zero, suc, ap}
 use Rattle.std.proofs.lemmas.Bool.Decides.{leb_tells}
+use Rattle.std.proofs.lemmas.List.{get_or-map, length-map}
 use Rattle.pd_run.specs.Order.{EachAfter}
 use Rattle.pd_run.specs.Run.{Move, IsInOrder, NoneLater}
 use Rattle.pd_keep.specs.Kept.{KeptData, move_of, AreInTime, AreBefore}
@@ -46,3 +47,16 @@ not_later old i m in_time none lt later has =
     absurd (omega arith))
     (λ (first : (leb i j ≡ false) × (j < i)). none j first.1 has.2)
     (leb_tells i j)
+
+-- where the last move is before a time, all are
+pub all_before : (old : List KeptData) (i t : ℕ) → AreInTime old → i + 1 ≡ length old
+    → ((e : KeptData) → (get_or old i e).due.time < t) → All (λ m. m.due.time < t) (map move_of old)
+all_before [] i t in_time last lt = λ k d inside. absurd (omega arith)
+all_before (x ∷ xs) i t in_time last lt = λ k d inside.
+    let count = length-map (x ∷ xs) move_of in
+    let within : k < length (x ∷ xs) = omega (arith, count, inside) in
+    let time : (get_or (map move_of (x ∷ xs)) k d).due.time ≡ (get_or (x ∷ xs) k x).due.time =
+    ap (λ (m : Move). m.due.time) (get_or-map move_of (x ∷ xs) k x d within) in
+    let le = in_time k i x (omega arith) (omega arith) in
+    let first = lt x in
+    omega (arith, time, le, first)

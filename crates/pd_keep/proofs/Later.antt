@@ -1,5 +1,5 @@
 -- Moves that go on from a run up to a time aren't earlier.
-use Rattle.std.proofs.Common.{◌≡◌, ℕ, ◌≤◌, ◌<◌, List, [], ◌∷◌, ◌++◌, Option, None, Some, IfNone, subst, arith}
+use Rattle.std.proofs.Common.{All, length, ◌≡◌, ℕ, ◌≤◌, ◌<◌, List, [], ◌∷◌, ◌++◌, Option, None, Some, IfNone, subst, arith}
 use Rattle.std.proofs.lemmas.List.{append-nil}
 use Rattle.pd_port.specs.declared.due.Due.{Due}
 use Rattle.pd_scenario.specs.Plan.{Plan, count}
@@ -26,3 +26,12 @@ due_later_yet plan past (m ∷ ms) from p d up runs lt e soon =
 pub if_none : {X : Type 0} (r : Option X) (P : Type 0) → P → IfNone r P
 if_none None P h = h
 if_none (Some x) P h = tt
+
+-- where there are moves between two times, the one is before the other
+pub between_some : (moves : List Move) (from to : ℕ) → 0 < length moves → All (λ m. from ≤ m.due.time) moves
+    → All (λ m. m.due.time < to) moves → from < to
+between_some [] from to some late early = absurd (omega arith)
+between_some (m ∷ ms) from to some late early =
+    let a = late 0 m (omega arith) in
+    let b = early 0 m (omega arith) in
+    omega (arith, a, b)

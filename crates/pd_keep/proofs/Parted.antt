@@ -15,7 +15,7 @@ use Rattle.pd_run.proofs.Cut.{All-append, All-front, All-back, EachAfter-front, 
 use Rattle.pd_run.proofs.Cut.{cut_from, ends_up_to, run_is_safe}
 use Rattle.pd_keep.specs.Kept.{KeptData, move_of, IsOwn, IsMade, AreInTime}
 use Rattle.pd_keep.specs.Places.{RunData}
-use Rattle.pd_keep.specs.Spans.{span_length, kept_of_spans, moves_of, BeginsAfter, IsKept}
+use Rattle.pd_keep.specs.Spans.{kept_of_spans, moves_of, end_of, begins_at, BeginsAfter, IsKept}
 use Rattle.pd_keep.specs.Rerun.{IsSoFar, IsNextSpan, AreThose}
 use Rattle.pd_keep.proofs.InTime.{times}
 
@@ -65,38 +65,99 @@ pub moves_next : (spans : List RunData) (k : ℕ) (s : RunData) → slice_get sp
     → moves_of (take (suc k) spans) ≡ moves_of (take k spans) ++ map move_of s.moves
 moves_next spans k s e = ap (map move_of) (kept_next spans k s e) ∙ map-append move_of (kept_of_spans (take k spans)) s.moves
 
+-- When spans end.
+
+pub end_push : (from : ℕ) (spans : List RunData) (s : RunData) → end_of from (spans ++ s ∷ []) ≡ s.to
+end_push from [] s = refl
+end_push from (t ∷ ts) s = end_push t.to ts s
+
+pub end_next : (from : ℕ) (spans : List RunData) (k : ℕ) (s : RunData) → slice_get spans k ≡ Some s → end_of from (take (suc k) spans) ≡ s.to
+end_next from [] k s e = absurd (let h : None ≡ Some s = e in cc)
+end_next from (t ∷ ts) zero s e = ap (λ (x : RunData). x.to) (same_Some t s e)
+end_next from (t ∷ ts) (suc k) s e = end_next t.to ts k s e
+
+-- the spans before a place are the same with one more span
+begins_front : (spans : List RunData) (s : RunData) (k : ℕ) → k ≤ length spans → begins_at (spans ++ s ∷ []) k ≡ begins_at spans k
+begins_front spans s k le = ap (end_of 0) (take-append-le k spans (s ∷ []) le)
+
 -- A run as far as it has come, with one more span.
 
 -- times of moves that stand in a range
 later_yet : (from to : ℕ) (moves : List Move) → from ≤ to → All (λ m. to ≤ m.due.time) moves → All (λ m. from ≤ m.due.time) moves
 later_yet from to moves le h = λ k d lt. let e = h k d lt in omega arith
 
-parted_push : (n : ℕ) (plan : Plan) (spans : List RunData) (s : RunData) (at to k : ℕ) → IsSoFar n plan spans at
-    → IsNextSpan n plan (moves_of spans) at to s → to ≡ at + span_length → k ≤ length (spans ++ s ∷ [])
-    → before (k * span_length) (moves_of (spans ++ s ∷ [])) ≡ moves_of (take k (spans ++ s ∷ []))
-parted_push n plan spans s at to k far next to_is le =
+parted_push : (n : ℕ) (plan : Plan) (spans : List RunData) (s : RunData) (at k : ℕ) → IsSoFar n plan spans at
+    → IsNextSpan n plan (moves_of spans) at s → k ≤ length (spans ++ s ∷ [])
+    → before (begins_at (spans ++ s ∷ []) k) (moves_of (spans ++ s ∷ [])) ≡ moves_of (take k (spans ++ s ∷ []))
+parted_push n plan spans s at k far next le =
     let count = length_push spans s in
     let old : List Move = moves_of spans in
     let mid : List Move = map move_of s.moves in
-    let time = far.at_is in
-    ap (before (k * span_length)) (moves_push spans s) ∙ ⊎_elim
+    let all : List RunData = spans ++ s ∷ [] in
+    ⊎_elim
     (λ (last : k ≡ length (spans ++ s ∷ [])).
-    let all : All (λ m. m.due.time < k * span_length) (old ++ mid) = λ i d lt. let e = next.up.earlier i d lt in omega arith in
-    before-all (k * span_length) (old ++ mid) all ∙ sym (moves_push spans s)
-    ∙ ap moves_of (sym (take_all k (spans ++ s ∷ []) (omega arith))))
+    let whole : take k all ≡ all = take_all k all (omega arith) in
+    let time : begins_at all k ≡ s.to = ap (end_of 0) whole ∙ end_push 0 spans s in
+    let early : All (λ m. m.due.time < begins_at all k) (old ++ mid) = λ i d lt. let e = next.up.earlier i d lt in omega (arith, e, time) in
+    ap (before (begins_at all k)) (moves_push spans s) ∙ before-all (begins_at all k) (old ++ mid) early ∙ sym (moves_push spans s)
+    ∙ ap moves_of (sym whole))
     (λ (other : k ≢ length (spans ++ s ∷ [])).
     let inside : k ≤ length spans = omega arith in
-    let late = later_yet (k * span_length) at mid (omega arith) next.later in
-    before-append (k * span_length) old mid
-    ∙ ap (λ (l : List Move). before (k * span_length) old ++ l) (before-none (k * span_length) mid late)
-    ∙ append-nil (before (k * span_length) old) ∙ far.spanned.parted k inside
+    let within : begins_at spans k ≤ at = far.within k inside in
+    let late = later_yet (begins_at spans k) at mid within next.later in
+    ap (λ t. before t (moves_of all)) (begins_front spans s k inside) ∙ ap (before (begins_at spans k)) (moves_push spans s)
+    ∙ before-append (begins_at spans k) old mid
+    ∙ ap (λ (l : List Move). before (begins_at spans k) old ++ l) (before-none (begins_at spans k) mid late)
+    ∙ append-nil (before (begins_at spans k) old) ∙ far.spanned.parted k inside
     ∙ ap moves_of (sym (take-append-le k spans (s ∷ []) inside)))
     (cases_eq k (length (spans ++ s ∷ [])))
 
-begun_push : (n : ℕ) (plan : Plan) (spans : List RunData) (s : RunData) (at to k : ℕ) (x : RunData) → IsSoFar n plan spans at
-    → IsNextSpan n plan (moves_of spans) at to s → slice_get (spans ++ s ∷ []) k ≡ Some x
+rising_push : (n : ℕ) (plan : Plan) (spans : List RunData) (s : RunData) (at k : ℕ) (x : RunData) → IsSoFar n plan spans at
+    → IsNextSpan n plan (moves_of spans) at s → slice_get (spans ++ s ∷ []) k ≡ Some x → begins_at (spans ++ s ∷ []) k < x.to
+rising_push n plan spans s at k x far next e =
+    let within = slice_get_within (spans ++ s ∷ []) k x e in
+    let count = length_push spans s in
+    ⊎_elim
+    (λ (last : k ≡ length spans).
+    let is : s ≡ x = get_push_last spans s x k last e in
+    let time : begins_at (spans ++ s ∷ []) k ≡ at = ap (end_of 0) (take_at spans (s ∷ []) k (sym last)) ∙ sym far.at_is in
+    let rising : at < x.to = subst (λ (y : RunData). at < y.to) is next.rising in
+    omega (arith, time, rising))
+    (λ (other : k ≢ length spans).
+    let inside : k < length spans = omega arith in
+    let time = begins_front spans s k (omega arith) in
+    let rising : begins_at spans k < x.to = far.spanned.rising k x (sym (get_push_other spans s k inside) ∙ e) in
+    omega (arith, time, rising))
+    (cases_eq k (length spans))
+
+within_push : (n : ℕ) (plan : Plan) (spans : List RunData) (s : RunData) (at k : ℕ) → IsSoFar n plan spans at
+    → IsNextSpan n plan (moves_of spans) at s → k ≤ length (spans ++ s ∷ []) → begins_at (spans ++ s ∷ []) k ≤ s.to
+within_push n plan spans s at k far next le =
+    let count = length_push spans s in
+    ⊎_elim
+    (λ (last : k ≡ length (spans ++ s ∷ [])).
+    let time : begins_at (spans ++ s ∷ []) k ≡ s.to = ap (end_of 0) (take_all k (spans ++ s ∷ []) (omega arith)) ∙ end_push 0 spans s in
+    omega (arith, time))
+    (λ (other : k ≢ length (spans ++ s ∷ [])).
+    let inside : k ≤ length spans = omega arith in
+    let time = begins_front spans s k inside in
+    let within : begins_at spans k ≤ at = far.within k inside in
+    let rising = next.rising in
+    omega (arith, time, within, rising))
+    (cases_eq k (length (spans ++ s ∷ [])))
+
+needed_push : (n : ℕ) (plan : Plan) (spans : List RunData) (s : RunData) (at k : ℕ) → IsSoFar n plan spans at → at ≤ plan.end
+    → k < length (spans ++ s ∷ []) → begins_at (spans ++ s ∷ []) k ≤ plan.end
+needed_push n plan spans s at k far soon lt =
+    let count = length_push spans s in
+    let time = begins_front spans s k (omega arith) in
+    let within : begins_at spans k ≤ at = far.within k (omega arith) in
+    omega (arith, time, within, soon)
+
+begun_push : (n : ℕ) (plan : Plan) (spans : List RunData) (s : RunData) (at k : ℕ) (x : RunData) → IsSoFar n plan spans at
+    → IsNextSpan n plan (moves_of spans) at s → slice_get (spans ++ s ∷ []) k ≡ Some x
     → BeginsAfter n plan (moves_of (take k (spans ++ s ∷ []))) x
-begun_push n plan spans s at to k x far next e =
+begun_push n plan spans s at k x far next e =
     let within = slice_get_within (spans ++ s ∷ []) k x e in
     let count = length_push spans s in
     ⊎_elim
@@ -112,26 +173,22 @@ begun_push n plan spans s at to k x far next e =
     (far.spanned.begun k x (sym (get_push_other spans s k inside) ∙ e)))
     (cases_eq k (length spans))
 
-pub so_far_push : (n : ℕ) (plan : Plan) (spans : List RunData) (s : RunData) (at to : ℕ) → IsSoFar n plan spans at → at ≤ plan.end
-    → IsNextSpan n plan (moves_of spans) at to s → to ≡ at + span_length → IsSoFar n plan (spans ++ s ∷ []) to
-so_far_push n plan spans s at to far soon next to_is =
-    let count = length_push spans s in
-    record {
-      is_plan = far.is_plan;
-      up = subst (λ (l : List Move). IsUpTo plan l to) (sym (moves_push spans s)) next.up;
-      own = subst (λ (l : List KeptData). All (IsOwn plan) l) (sym (kept_push spans s))
-          (All-append (IsOwn plan) (kept_of_spans spans) s.moves far.own next.own);
-      spanned = record {
-        parted = λ k le. parted_push n plan spans s at to k far next to_is le;
-        begun = λ k x e. begun_push n plan spans s at to k x far next e;
-      };
-      at_is = (let e = far.at_is in omega arith);
-      needed = λ k lt.
-          ⊎_elim
-          (λ (inside : k < length spans). far.needed k inside)
-          (λ (last : length spans ≤ k). let e = far.at_is in omega arith)
-          (cases_lt k (length spans));
-    }
+pub so_far_push : (n : ℕ) (plan : Plan) (spans : List RunData) (s : RunData) (at : ℕ) → IsSoFar n plan spans at → at ≤ plan.end
+    → IsNextSpan n plan (moves_of spans) at s → IsSoFar n plan (spans ++ s ∷ []) s.to
+so_far_push n plan spans s at far soon next = record {
+  is_plan = far.is_plan;
+  up = subst (λ (l : List Move). IsUpTo plan l s.to) (sym (moves_push spans s)) next.up;
+  own = subst (λ (l : List KeptData). All (IsOwn plan) l) (sym (kept_push spans s))
+      (All-append (IsOwn plan) (kept_of_spans spans) s.moves far.own next.own);
+  spanned = record {
+    parted = λ k le. parted_push n plan spans s at k far next le;
+    begun = λ k x e. begun_push n plan spans s at k x far next e;
+    rising = λ k x e. rising_push n plan spans s at k x far next e;
+  };
+  at_is = sym (end_push 0 spans s);
+  within = λ k le. within_push n plan spans s at k far next le;
+  needed = λ k lt. needed_push n plan spans s at k far soon lt;
+}
 
 -- beyond the end it is the whole run
 pub kept_whole : (n : ℕ) (plan : Plan) (spans : List RunData) (at : ℕ) → IsSoFar n plan spans at → plan.end < at → IsKept n plan spans
@@ -140,19 +197,19 @@ kept_whole n plan spans at far past = record {
   safe = run_is_safe n plan (moves_of spans) far.is_plan (ends_up_to plan (moves_of spans) at past far.up);
   own = far.own;
   spanned = far.spanned;
-  count = record { beyond = (let e = far.at_is in omega arith); needed = far.needed };
+  reach = record { beyond = (let e = far.at_is in omega arith); needed = far.needed };
 }
 
 -- What is kept in one span of a run.
 
 pub record InSpan (n : ℕ) (plan : Plan) (spans : List RunData) (k : ℕ) (s : RunData) : Type 0 where
-  pub is_before : before (k * span_length) (moves_of spans) ≡ moves_of (take k spans)
-  pub is_next : before (k * span_length + span_length) (moves_of spans)
-      ≡ before (k * span_length) (moves_of spans) ++ map move_of s.moves
-  pub begun : BeginsAfter n plan (before (k * span_length) (moves_of spans)) s
+  pub is_before : before (begins_at spans k) (moves_of spans) ≡ moves_of (take k spans)
+  pub is_next : before s.to (moves_of spans) ≡ before (begins_at spans k) (moves_of spans) ++ map move_of s.moves
+  pub rising : begins_at spans k < s.to
+  pub begun : BeginsAfter n plan (before (begins_at spans k) (moves_of spans)) s
   pub made : All IsMade s.moves
   pub in_time : AreInTime s.moves
-  pub those : AreThose (kept_of_spans spans) (k * span_length) (k * span_length + span_length) s.moves
+  pub those : AreThose (kept_of_spans spans) (begins_at spans k) s.to s.moves
   pub own : All (IsOwn plan) s.moves
 
 -- of a list that is cut in three by times, what is in the middle
@@ -176,16 +233,15 @@ pub in_span : (n : ℕ) (plan : Plan) (spans : List RunData) (k : ℕ) (s : RunD
     → InSpan n plan spans k s
 in_span n plan spans k s kept e =
     let within = slice_get_within spans k s e in
-    let at = k * span_length in
-    let to = k * span_length + span_length in
+    let at = begins_at spans k in
+    let to = s.to in
     let moves : List Move = moves_of spans in
     let x : List KeptData = kept_of_spans (take k spans) in
     let z : List KeptData = kept_of_spans (drop (suc k) spans) in
     let split : kept_of_spans spans ≡ (x ++ s.moves) ++ z = kept_split spans k s e in
     let first : before at moves ≡ moves_of (take k spans) = kept.spanned.parted k (omega arith) in
-    let same_time : suc k * span_length ≡ to = omega arith in
     let next : before to moves ≡ moves_of (take (suc k) spans) =
-    subst (λ t. before t moves ≡ moves_of (take (suc k) spans)) same_time (kept.spanned.parted (suc k) (omega arith)) in
+    ap (λ t. before t moves) (sym (end_next 0 spans k s e)) ∙ kept.spanned.parted (suc k) (omega arith) in
     let both : before to moves ≡ map move_of (x ++ s.moves) = next ∙ ap (map move_of) (kept_next spans k s e) in
     let cut_at = cut_from at [] moves kept.safe.run.ordered in
     let cut_to = cut_from to [] moves kept.safe.run.ordered in
@@ -208,6 +264,7 @@ in_span n plan spans k s kept e =
     record {
       is_before = first;
       is_next = next ∙ moves_next spans k s e ∙ ap (λ (l : List Move). l ++ map move_of s.moves) (sym first);
+      rising = kept.spanned.rising k s e;
       begun = subst (λ (l : List Move). BeginsAfter n plan l s) (sym first) (kept.spanned.begun k s e);
       made = λ i d lt. (own i d lt).made;
       in_time = λ i j d le lt. times s.moves (map move_of x) i j d ordered le lt;

@@ -7,8 +7,9 @@ use Rattle.pd_run.specs.Start.{no_port}
 use Rattle.pd_keep.specs.declared.kept_move.KeptMove.{KeptMove}
 use Rattle.pd_keep.specs.Kept.{KeptData}
 
--- records of ports, and moves
+-- moves up to a time, and records of ports
 pub record RunData : Type 0 where
+  pub to : ℕ
   pub records : List PortData
   pub moves : List KeptData
 

@@ -12,7 +12,7 @@ use Rattle.pd_keep.specs.declared.rerun.Standing.TheVariants as standing
 use Rattle.pd_keep.specs.Fresh.{AreFresh}
 use Rattle.pd_keep.specs.Kept.{KeptData, move_of, IsOwn}
 use Rattle.pd_keep.specs.Places.{RunData}
-use Rattle.pd_keep.specs.Spans.{span_length, kept_of_spans, moves_of, BeginsAfter, AreSpans, IsKept}
+use Rattle.pd_keep.specs.Spans.{kept_of_spans, moves_of, end_of, begins_at, BeginsAfter, AreSpans, IsKept}
 
 -- what a run is made beside: no run, or what is kept of a plan's
 abbrev pub IsOld : ℕ → Plan → List RunData → Type 0
@@ -39,28 +39,29 @@ pub record IsSoFar (n : ℕ) (plan : Plan) (spans : List RunData) (at : ℕ) : T
   pub up : IsUpTo plan (moves_of spans) at
   pub own : All (IsOwn plan) (kept_of_spans spans)
   pub spanned : AreSpans n plan spans
-  pub at_is : at ≡ length spans * span_length
-  pub needed : (k : ℕ) → k < length spans → k * span_length ≤ plan.end
+  pub at_is : at ≡ end_of 0 spans
+  pub within : (k : ℕ) → k ≤ length spans → begins_at spans k ≤ at
+  pub needed : (k : ℕ) → k < length spans → begins_at spans k ≤ plan.end
 
--- a span that goes on with a run, from one time to another
-pub record IsNextSpan (n : ℕ) (plan : Plan) (moves : List Move) (from to : ℕ) (span : RunData) : Type 0 where
+-- a span that goes on with a run, from a time on
+pub record IsNextSpan (n : ℕ) (plan : Plan) (moves : List Move) (from : ℕ) (span : RunData) : Type 0 where
+  pub rising : from < span.to
   pub begun : BeginsAfter n plan moves span
   pub own : All (IsOwn plan) span.moves
   pub later : All (λ m. from ≤ m.due.time) (map move_of span.moves)
-  pub up : IsUpTo plan (moves ++ map move_of span.moves) to
+  pub up : IsUpTo plan (moves ++ map move_of span.moves) span.to
 
 -- a run beside an old one comes to the beginning of a span of the old one, and may be told that both plans ask the same in it
-pub record ComesTo (n : ℕ) (old : Plan) (old_spans : List RunData) (span : RunData) (plan : Plan) (moves : List Move) (at : ℕ)
+pub record ComesTo (n : ℕ) (old : Plan) (old_spans : List RunData) (span : RunData) (plan : Plan) (spans : List RunData) (at : ℕ)
     (agree : Bool) (standing : Standing n) : Type 0 where
   pub place : ℕ
   pub kept : IsKept n old old_spans
   pub there : slice_get old_spans place ≡ Some span
-  pub at_is : at ≡ place * span_length
-  pub is_plan : IsPlan n plan
+  pub at_is : at ≡ begins_at old_spans place
+  pub far : IsSoFar n plan spans at
   pub soon : at ≤ plan.end
-  pub up : IsUpTo plan moves at
-  pub stands : Stands n old old_spans plan moves at standing
-  pub agrees : agree ≡ true → AgreeIn old plan at (at + span_length)
+  pub stands : Stands n old old_spans plan (moves_of spans) at standing
+  pub agrees : agree ≡ true → AgreeIn old plan at span.to
 
 -- of what is kept of an old run these are all from one time to another
 abbrev pub AreThose : List KeptData → ℕ → ℕ → List KeptData → Type 0

@@ -23,9 +23,11 @@ pub struct KeptMove {
     pub entry: Entry,
 }
 
-/// Moves of a run, and the ports as they were before and after them: each port stands once for all moves that it is between.
+/// Moves of a run up to a time, and the ports as they were before and after them: each port stands once for all moves that it is
+/// between.
 #[derive(Drop)]
 pub struct KeptMoves {
+    to: u64,
     records: Vec<Port>,
     moves: Vec<KeptMove>,
 }
@@ -36,7 +38,7 @@ impl Model for KeptMoves {
 
     ghost Value = { RunData };
 
-    ghost view = { λ r. record { records = r.records.items; moves = map (kept_in r.records.items) r.moves.items } };
+    ghost view = { λ r. record { to = r.to; records = r.records.items; moves = map (kept_in r.records.items) r.moves.items } };
 
     ghost invariant = { λ r. All (IsPlaced r.records.items) r.moves.items };
 }
@@ -44,12 +46,27 @@ impl Model for KeptMoves {
 impl KeptMoves {
     /// No moves.
     pub fn new(alloc: Global) -> KeptMoves
-        ensures { result ≡ record { records = []; moves = [] } }
+        ensures { result ≡ record { to = 0; records = []; moves = [] } }
     {
         KeptMoves {
+            to: 0,
             records: Vec::new(alloc),
             moves: Vec::new(alloc),
         }
+    }
+
+    /// Up to which time these are the moves of a run, in microseconds.
+    pub fn to(&self) -> u64
+        ensures { result ≡ self.now.to }
+    {
+        self.to
+    }
+
+    /// Says up to which time these are the moves of a run.
+    pub fn end_at(&mut self, to: u64)
+        ensures { self.new ≡ record self.old { to = to } }
+    {
+        self.to = to;
     }
 
     /// The number of moves.

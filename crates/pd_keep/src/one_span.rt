@@ -21,8 +21,15 @@ use pd_port::{Due, Entry, Meter, Port};
 use pd_run::{Live, Plan};
 use std::alloc::{AllocError, Global};
 
-/// The moves of a run up to a time, beside an older run's of the same span. The meter rises by those that the older one
-/// doesn't have.
+/// So many moves are enough for a span.
+const ENOUGH: usize = 64;
+
+/// A span that has enough moves ends at a multiple of this time, in microseconds, so that there aren't ever more spans than
+/// these.
+const STRIDE: u64 = 131_072;
+
+/// The moves of a run up to a time, or to an earlier one where these are enough for a span, beside an older run's. The meter
+/// rises by those that the older one doesn't have.
 ///
 /// # Errors
 /// There is no memory. The ports stand anywhere.
@@ -37,8 +44,10 @@ pub fn run_span<const N: usize>(
     requires made { All IsMade old.now.moves }
     requires in_time { AreInTime old.now.moves }
     requires stands { (past : List Move) × StandsAfter plan.now past live.old }
-    ensures span { IfOk result (λ span. (past : List Move) (from : ℕ) → from ≤ to → StandsAfter plan.now past live.old
-        → IsUpTo plan.now past from → IsNextSpan N plan.now past from to span) }
+    ensures span { IfOk result (λ span. (past : List Move) (from : ℕ) → from < to → StandsAfter plan.now past live.old
+        → IsUpTo plan.now past from → IsNextSpan N plan.now past from span) }
+    ensures within { IfOk result (λ span. span.to ≤ to) }
+    ensures soon { IfOk result (λ span. (span.to ≡ to) ⊎ (span.to ≤ plan.now.end)) }
     ensures stands { IfOk result (λ span. (past : List Move) → StandsAfter plan.now past live.old
         → StandsAfter plan.now (past ++ map move_of span.moves) live.new) }
     ensures cost { IfOk result (λ span. (old_plan : PlanData) (all : List KeptData) (past : List Move) (from : ℕ)
@@ -52,6 +61,10 @@ pub fn run_span<const N: usize>(
     let mut places = first_places(alloc, live, &mut span)?;
     let mut from = 0;
     while let Some((port, due)) = next_before(live, plan, to) {
+        if let Some(end) = end_before(&span, due.time) {
+            span.end_at(end);
+            return Ok(span);
+        }
         let answer = live.reply(plan, port, &due);
         from = skip(old, from, due.time);
         let entry = make(old, from, plan, live, port, &due, &answer, meter);
@@ -66,7 +79,24 @@ pub fn run_span<const N: usize>(
         })?;
         places[port - 1] = after;
     }
+    span.end_at(to);
     Ok(span)
+}
+
+// Where a span ends before a time, if its moves are enough.
+fn end_before(span: &KeptMoves, time: u64) -> Option<u64>
+    requires { AreInTime span.now.moves }
+    ensures { IfSome result (λ end. (end ≤ time) × (0 < length span.now.moves) × All (λ m. m.due.time < end) (map move_of span.now.moves)) }
+{
+    if span.len() < ENOUGH {
+        return None;
+    }
+    let end = time - time % STRIDE;
+    if span.time(span.len() - 1) < end {
+        Some(end)
+    } else {
+        None
+    }
 }
 
 // The port that moves next, with what falls due on it, if that is before a time.

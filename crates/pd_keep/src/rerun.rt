@@ -6,10 +6,10 @@ ghost use Rattle.pd_run.specs.Live.{StandsAfter, port_at};
 ghost use Rattle.pd_run.specs.Run.{Move};
 ghost use Rattle.pd_run.specs.Start.{no_port};
 ghost use Rattle.pd_run.specs.UpTo.{AgreeIn, IsUpTo};
-ghost use Rattle.pd_keep.specs.Kept.{move_of, IsOwn};
+ghost use Rattle.pd_keep.specs.Kept.{KeptData, move_of, IsMade, IsOwn, AreInTime};
 ghost use Rattle.pd_keep.specs.Places.{RunData};
-ghost use Rattle.pd_keep.specs.Rerun.{IsOld, IsSoFar, IsNextSpan, Stands, Costs, ComesTo, AreStanding, IsDone, BeginsWith, AreOver};
-ghost use Rattle.pd_keep.specs.Spans.{IsKept, kept_of_spans, moves_of, span_length};
+ghost use Rattle.pd_keep.specs.Rerun.{IsOld, IsSoFar, Stands, Costs, ComesTo, AreStanding, AreThose, IsDone, BeginsWith, AreOver};
+ghost use Rattle.pd_keep.specs.Spans.{IsKept, kept_of_spans, moves_of};
 
 use crate::kept_move::KeptMoves;
 use crate::one_span::run_span;
@@ -18,9 +18,6 @@ use pd_port::Meter;
 use pd_run::{Beside, Live, Plan};
 use std::alloc::{AllocError, Global};
 use std::rc::Rc;
-
-/// How long a span is, in microseconds.
-pub const SPAN: u64 = 131_072;
 
 /// Where the ports of a run stand at the beginning of a span: as those of the older run there, or for themselves.
 #[derive(Drop)]
@@ -50,7 +47,7 @@ pub fn rerun<const N: usize>(
     let mut spans = Spans::new(alloc);
     let (at, standing) = run_beside(alloc, old, old_spans, plan, &mut spans, meter)?;
     if let Standing::Apart(mut live) = standing {
-        run_on(alloc, plan, at, &mut live, &mut spans, meter)?;
+        finish(alloc, plan, at, &mut live, &mut spans, meter)?;
     }
     Ok(spans)
 }
@@ -75,53 +72,55 @@ fn run_beside<const N: usize>(
 {
     let _end = plan.end();
     let _count = meter.count();
+    let _places = old_spans.count();
     let mut beside = Beside::new(alloc, old, plan)?;
     let mut standing = Standing::Apart(Live::new(alloc, plan)?);
     let mut at = 0;
+    let mut place = 0;
     while at <= plan.end() {
-        let Some(span) = old_spans.span(spans.count()) else {
+        let Some(span) = old_spans.span(place) else {
             return Ok((at, standing));
         };
-        let agree = beside.advance(old, plan, at + SPAN);
-        let (next, then) = next_span(alloc, span, plan, at, agree, standing, meter)?;
-        spans.push(next)?;
-        standing = then;
-        at += SPAN;
+        let agree = beside.advance(old, plan, span.to());
+        standing = next_spans(alloc, span, plan, at, agree, standing, spans, meter)?;
+        at = span.to();
+        place += 1;
     }
     Ok((at, standing))
 }
 
-// A span of a run, beside the older one's.
-fn next_span<const N: usize>(
+// The spans of a run up to the end of the older one's.
+fn next_spans<const N: usize>(
     alloc: Global,
     old: &Rc<KeptMoves>,
     plan: &Plan<N>,
     at: u64,
     agree: bool,
     standing: Standing<N>,
+    spans: &mut Spans,
     meter: &mut Meter,
-) -> Result<(Rc<KeptMoves>, Standing<N>), AllocError>
-    requires comes { (old_plan : PlanData) × (old_spans : List RunData) × (moves : List Move)
-        × ComesTo N old_plan old_spans old.now.value plan.now moves at agree standing }
-    ensures next { IfOk result (λ r. (old_plan : PlanData) (old_spans : List RunData) (moves : List Move)
-        → ComesTo N old_plan old_spans old.now.value plan.now moves at agree standing.entry
-        → IsNextSpan N plan.now moves at (at + span_length) r.0.value) }
-    ensures stands { IfOk result (λ r. (old_plan : PlanData) (old_spans : List RunData) (moves : List Move)
-        → ComesTo N old_plan old_spans old.now.value plan.now moves at agree standing.entry
-        → Stands N old_plan old_spans plan.now (moves ++ map move_of r.0.value.moves) (at + span_length) r.1) }
-    ensures cost { IfOk result (λ r. (old_plan : PlanData) (old_spans : List RunData) (moves : List Move)
-        → ComesTo N old_plan old_spans old.now.value plan.now moves at agree standing.entry
-        → Costs old_plan (moves_of old_spans) plan.now (map move_of r.0.value.moves) meter.old meter.new) }
+) -> Result<Standing<N>, AllocError>
+    requires comes { (old_plan : PlanData) × (old_spans : List RunData)
+        × ComesTo N old_plan old_spans old.now.value plan.now spans.old at agree standing }
+    ensures so_far { OnOk result (IsSoFar N plan.now spans.new old.now.value.to) }
+    ensures stands { IfOk result (λ then. (old_plan : PlanData) (old_spans : List RunData)
+        → ComesTo N old_plan old_spans old.now.value plan.now spans.old at agree standing.entry
+        → Stands N old_plan old_spans plan.now (moves_of spans.new) old.now.value.to then) }
+    ensures cost { OnOk result ((old_plan : PlanData) (old_spans : List RunData) (first : ℕ)
+        → ComesTo N old_plan old_spans old.now.value plan.now spans.old at agree standing.entry
+        → Costs old_plan (moves_of old_spans) plan.now (moves_of spans.old) first meter.old
+        → Costs old_plan (moves_of old_spans) plan.now (moves_of spans.new) first meter.new) }
     ensures rises { meter.old ≤ meter.new }
 {
     let _end = plan.end();
     let _count = meter.count();
     if agree && stands_alike(&standing, old) {
-        return Ok((old.clone()?, Standing::Alike));
+        spans.push(old.clone()?)?;
+        return Ok(Standing::Alike);
     }
     let mut live = standing_live(alloc, old, plan, at, standing)?;
-    let span = run_span(alloc, old, plan, &mut live, at + SPAN, meter)?;
-    Ok((Rc::new(alloc, span)?, Standing::Apart(live)))
+    run_on(alloc, old, plan, at, old.to(), &mut live, spans, meter)?;
+    Ok(Standing::Apart(live))
 }
 
 // The ports where they stand at the beginning of a span.
@@ -132,10 +131,10 @@ fn standing_live<const N: usize>(
     at: u64,
     standing: Standing<N>,
 ) -> Result<Live<N>, AllocError>
-    requires comes { (old_plan : PlanData) × (old_spans : List RunData) × (moves : List Move) × (agree : Bool)
-        × ComesTo N old_plan old_spans old.now plan.now moves at agree standing }
-    ensures { IfOk result (λ live. (old_plan : PlanData) (old_spans : List RunData) (moves : List Move) (agree : Bool)
-        → ComesTo N old_plan old_spans old.now plan.now moves at agree standing.entry → StandsAfter plan.now moves live) }
+    requires comes { (old_plan : PlanData) × (old_spans : List RunData) × (spans : List RunData) × (agree : Bool)
+        × ComesTo N old_plan old_spans old.now plan.now spans at agree standing }
+    ensures { IfOk result (λ live. (old_plan : PlanData) (old_spans : List RunData) (spans : List RunData) (agree : Bool)
+        → ComesTo N old_plan old_spans old.now plan.now spans at agree standing.entry → StandsAfter plan.now (moves_of spans) live) }
 {
     match standing {
         Standing::Alike => Live::resume(alloc, plan, old.first_ports(alloc, N)?, at),
@@ -165,8 +164,43 @@ fn begins_with<const N: usize>(span: &KeptMoves, live: &Live<N>) -> bool
     true
 }
 
-// The spans beyond the older run.
+// The spans of a run from one time to another, beside what is kept of an older one in between.
 fn run_on<const N: usize>(
+    alloc: Global,
+    old: &KeptMoves,
+    plan: &Plan<N>,
+    from: u64,
+    to: u64,
+    live: &mut Live<N>,
+    spans: &mut Spans,
+    meter: &mut Meter,
+) -> Result<(), AllocError>
+    requires made { All IsMade old.now.moves }
+    requires in_time { AreInTime old.now.moves }
+    requires rising { from < to }
+    requires soon { from ≤ plan.now.end }
+    requires so_far { IsSoFar N plan.now spans.old from }
+    requires stands { StandsAfter plan.now (moves_of spans.old) live.old }
+    ensures so_far { OnOk result (IsSoFar N plan.now spans.new to) }
+    ensures stands { OnOk result (StandsAfter plan.now (moves_of spans.new) live.new) }
+    ensures cost { OnOk result ((old_plan : PlanData) (all : List KeptData) (first : ℕ) → All (IsOwn old_plan) all
+        → AreThose all from to old.now.moves → Costs old_plan (map move_of all) plan.now (moves_of spans.old) first meter.old
+        → Costs old_plan (map move_of all) plan.now (moves_of spans.new) first meter.new) }
+    ensures rises { meter.old ≤ meter.new }
+{
+    let _end = plan.end();
+    let _count = meter.count();
+    let mut at = from;
+    while at < to {
+        let span = run_span(alloc, old, plan, live, to, meter)?;
+        at = span.to();
+        spans.push(Rc::new(alloc, span)?)?;
+    }
+    Ok(())
+}
+
+// What is left of a run, which the older one doesn't have.
+fn finish<const N: usize>(
     alloc: Global,
     plan: &Plan<N>,
     from: u64,
@@ -177,19 +211,18 @@ fn run_on<const N: usize>(
     requires so_far { IsSoFar N plan.now spans.old from }
     requires stands { StandsAfter plan.now (moves_of spans.old) live.old }
     ensures kept { OnOk result (IsKept N plan.now spans.new) }
-    ensures cost { OnOk result ((old : PlanData) (old_spans : List RunData) (first : ℕ) → (from ≤ plan.now.end → AreOver old_spans from) → All (IsOwn old) (kept_of_spans old_spans)
+    ensures cost { OnOk result ((old : PlanData) (old_spans : List RunData) (first : ℕ) → (from ≤ plan.now.end → AreOver old_spans from)
+        → All (IsOwn old) (kept_of_spans old_spans)
         → Costs old (moves_of old_spans) plan.now (moves_of spans.old) first meter.old
         → Costs old (moves_of old_spans) plan.now (moves_of spans.new) first meter.new) }
     ensures rises { meter.old ≤ meter.new }
 {
-    let _end = plan.end();
+    let end = plan.end();
     let _count = meter.count();
-    let nothing = KeptMoves::new(alloc);
-    let mut at = from;
-    while at <= plan.end() {
-        let span = run_span(alloc, &nothing, plan, live, at + SPAN, meter)?;
-        spans.push(Rc::new(alloc, span)?)?;
-        at += SPAN;
+    if end < from {
+        return Ok(());
     }
+    let nothing = KeptMoves::new(alloc);
+    run_on(alloc, &nothing, plan, from, end + 1, live, spans, meter)?;
     Ok(())
 }

@@ -1,24 +1,25 @@
-use Rattle.std.proofs.Common.{◌≡◌, ◌≢◌, ◌<◌, ◌≤◌, ◌-◌, ◌++◌, ◌∷◌, [], List, ℕ, length, map, refl, arith, ap, sym, ◌∙◌, subst}
+use Rattle.std.proofs.Common.{All, ◌≡◌, ◌≢◌, ◌<◌, ◌≤◌, ◌-◌, ◌++◌, ◌∷◌, [], List, ℕ, length, map, refl, arith, ap, sym, ◌∙◌, subst}
 use Rattle.std.proofs.Common.{slice_index, slice_index_or, slice_set, append_assoc}
 use Rattle.std.proofs.Math.Seq.{get_or-append_seam}
-use Rattle.std.proofs.lemmas.List.{append-nil, map-append, length_push, length-set, get_or_default}
+use Rattle.std.proofs.lemmas.List.{append-nil, map-append, length_push, length-set, length-map, get_or_default}
 use Rattle.std.proofs.lemmas.List.Elements.{All-push}
 use Rattle.pd_port.specs.Port.{PortData}
 use Rattle.pd_scenario.specs.Plan.{count, settings_of}
-use Rattle.pd_run.specs.Run.{Move, Standing}
+use Rattle.pd_run.specs.Order.{EachAfter}
+use Rattle.pd_run.specs.Run.{Move, Standing, IsInOrder}
 use Rattle.pd_run.specs.Live.{LiveData, StandsAfter, next_move, port_at, port_after, due_at}
 use Rattle.pd_run.specs.Start.{no_port}
 use Rattle.pd_run.specs.StepsLeft.{steps_left}
 use Rattle.pd_run.specs.UpTo.{IsUpTo}
 use Rattle.pd_run.proofs.Alike.{none_later-back}
-use Rattle.pd_run.proofs.Cut.{All-nil, All-append, IsEarlier, IsLater}
+use Rattle.pd_run.proofs.Cut.{All-nil, All-append, EachAfter-back, IsEarlier, IsLater, next_up_to}
 use Rattle.pd_run.proofs.Moves.{standing-other}
 use Rattle.pd_run.proofs.Steps.{moved_known}
 use Rattle.pd_keep.specs.Kept.{KeptData, move_of, kept_of, IsOwn}
 use Rattle.pd_keep.specs.Places.{RunData, AreAt}
 use Rattle.pd_keep.proofs.Fresh.{fresh_step}
-use Rattle.pd_keep.proofs.InTime.{none_later-last, before_later}
-use Rattle.pd_keep.proofs.Later.{due_later_yet}
+use Rattle.pd_keep.proofs.InTime.{none_later-last, before_later, times}
+use Rattle.pd_keep.proofs.Later.{due_later_yet, between_some}
 use Rattle.pd_keep.proofs.Made.{kept_is_next, kept_is_own, kept_is_moved, charges_those}
 use Rattle.pd_keep.proofs.Places.{at_more, at_set, begins_at, begins_more}
 use Rattle.pd_keep.proofs.one_span.run_span.Goals as goal
@@ -209,20 +210,52 @@ loop-port-preserved g c =
           (i.cost old_plan some o from some_own those s up);
     })
 
-pub returns-clause-span : goal.returns-clause-span
-returns-clause-span g c = λ past from le s up.
+pub end_before-requires : goal.end_before-requires
+end_before-requires g c = λ a b e le lt.
+    let i = c.loop-port.invariant in
+    let past = c.requires.stands.0 in
+    let moves : List Move = map move_of c.loop-port.span.moves in
+    let stands : StandsAfter c.args.plan.now (past ++ moves) c.loop-port.live = i.stands past c.requires.stands.1 in
+    let ordered : EachAfter IsInOrder past moves = EachAfter-back IsInOrder [] past moves stands.runs.ordered in
+    times c.loop-port.span.moves past a b e ordered le lt
+
+pub returns-in-Some-end_before-clause-span : goal.returns-in-Some-end_before-clause-span
+returns-in-Some-end_before-clause-span g c = λ past from lt s up.
     let i = c.loop-port.invariant in
     let moves : List Move = map move_of c.loop-port.span.moves in
-    record {
+    let end = c.in-Some-end_before.end in
+    let w = c.in-Some-end_before.ensures in
+    let later : All (IsLater from) moves = i.later past from s up in
+    let some : 0 < length moves = (let count = length-map c.loop-port.span.moves move_of in omega (arith, count, w.1)) in
+    let rising : from < end = between_some moves from end some later w.2 in
+    rw c.end_at.ensures (record {
+      rising = rising;
+      begun = i.begun past s;
+      own = i.own;
+      later = later;
+      up = next_up_to c.args.plan.now (past ++ moves) c.loop-port.live c.in-Some.port end c.in-Some.due (i.stands past s)
+          (All-append (IsEarlier end) past moves (λ k d inside. let e = up.earlier k d inside in omega (arith, e, rising)) w.2)
+          c.in-Some.ensures.next.0 w.0;
+    })
+
+pub returns-in-Some-end_before-clause-cost : goal.returns-in-Some-end_before-clause-cost
+returns-in-Some-end_before-clause-cost g c = rw c.end_at.ensures c.loop-port.invariant.cost
+
+pub returns-clause-span : goal.returns-clause-span
+returns-clause-span g c = λ past from lt s up.
+    let i = c.loop-port.invariant in
+    let moves : List Move = map move_of c.loop-port.span.moves in
+    rw c.end_at-2.ensures (record {
+      rising = lt;
       begun = i.begun past s;
       own = i.own;
       later = i.later past from s up;
       up = c.in_default.ensures.none (past ++ moves) (i.stands past s)
-          (All-append (IsEarlier c.args.to) past moves (λ k d lt. let e = up.earlier k d lt in omega arith) i.earlier);
-    }
+          (All-append (IsEarlier c.args.to) past moves (λ k d inside. let e = up.earlier k d inside in omega arith) i.earlier);
+    })
 
 pub returns-clause-stands : goal.returns-clause-stands
-returns-clause-stands g c = c.loop-port.invariant.stands
+returns-clause-stands g c = rw c.end_at-2.ensures c.loop-port.invariant.stands
 
 pub returns-clause-cost : goal.returns-clause-cost
-returns-clause-cost g c = c.loop-port.invariant.cost
+returns-clause-cost g c = rw c.end_at-2.ensures c.loop-port.invariant.cost

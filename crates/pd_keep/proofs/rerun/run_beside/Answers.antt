@@ -1,11 +1,14 @@
-use Rattle.std.proofs.Common.{◌≡◌, ◌+◌, ◌++◌, ◌∷◌, [], List, None, Some, length, slice_get, refl, arith, sym}
-use Rattle.std.proofs.Common.{subst}
+use Rattle.std.proofs.Common.{◌≡◌, ◌+◌, ◌-◌, ◌≤◌, ◌<◌, Bool, true, [], List, ℕ, None, Some, suc, length, map, slice_get, refl, arith, ap, sym, ◌∙◌, subst}
+use Rattle.std.proofs.lemmas.List.{take_all}
+use Rattle.std.proofs.lemmas.Option.{slice_get_within}
 use Rattle.pd_run.specs.Run.{Move}
+use Rattle.pd_run.specs.UpTo.{AgreeIn}
+use Rattle.pd_keep.specs.Kept.{move_of}
 use Rattle.pd_keep.specs.Places.{RunData}
-use Rattle.pd_keep.specs.Rerun.{Stands, ComesTo, IsNextSpan}
-use Rattle.pd_keep.specs.Spans.{moves_of, span_length}
-use Rattle.pd_keep.proofs.Beside.{next_costs, so_far_none, over_from, past_all, comes_to}
-use Rattle.pd_keep.proofs.Parted.{so_far_push, moves_push}
+use Rattle.pd_keep.specs.Rerun.{Stands, ComesTo, IsSoFar, AreOver}
+use Rattle.pd_keep.specs.Spans.{moves_of, end_of, begins_at}
+use Rattle.pd_keep.proofs.Beside.{so_far_none, done_alike, done_past, over_from, past_all, comes_to}
+use Rattle.pd_keep.proofs.Parted.{end_next}
 use Rattle.pd_keep.proofs.rerun.run_beside.Goals as goal
 
 pub loop-at-init : goal.loop-at-init
@@ -13,58 +16,81 @@ loop-at-init g c =
     rw c.requires.none (record {
       so_far = so_far_none g.row.N c.args.plan.now c.end-end.ensures.is_plan;
       stands = c.in_ok-new.ensures;
+      begins = refl;
       beside = c.in_ok-beside.ensures.are;
       now = c.in_ok-beside.ensures.at;
       rises = omega arith;
       cost = (0, refl, omega arith);
     })
 
-pub next_span-requires : goal.next_span-requires
-next_span-requires g c =
+pub next_spans-requires : goal.next_spans-requires
+next_spans-requires g c =
     let i = c.loop-at.invariant in
     let old = c.args.old.now in
     let old_spans : List RunData = c.args.old_spans.now in
     let spans : List RunData = c.loop-at.spans in
+    let plan = c.args.plan.now in
+    let at = c.loop-at.at in
+    let place = c.loop-at.place in
     let s : RunData = c.in-Some.span.now.value in
-    let there : slice_get old_spans c.count.result ≡ Some s = sym c.in-Some.ensures in
-    let comes : ComesTo g.row.N old old_spans s c.args.plan.now (moves_of spans) c.loop-at.at c.advance-agree.result c.loop-at.standing =
-    comes_to g.row.N old old_spans spans s c.args.plan.now c.count.result c.loop-at.at c.loop-at.beside.at c.advance-agree.result
-    c.loop-at.standing c.requires.old i.so_far i.stands c.count.ensures there (omega arith) i.now (λ e. c.advance-agree.ensures.agree.0 e) in
-    (omega arith, (omega arith, (old, old_spans, moves_of spans, comes)))
+    let there : slice_get old_spans place ≡ Some s = sym c.in-Some.ensures in
+    let to_is : c.to.result ≡ s.to = c.to.ensures ∙ ap (λ (r : RunData). r.to) c.deref.ensures in
+    let comes : ComesTo g.row.N old old_spans s plan spans at c.advance-agree.result c.loop-at.standing =
+    comes_to g.row.N old old_spans spans s plan place at c.loop-at.beside.at c.advance-agree.result c.loop-at.standing c.requires.old
+    i.so_far i.stands i.begins there (omega arith) i.now
+    (λ e. subst (λ t. AgreeIn old plan c.loop-at.beside.at t) to_is (c.advance-agree.ensures.agree.0 e)) in
+    (omega arith, (omega arith, (old, old_spans, comes)))
+
+pub loop-at-smaller : goal.loop-at-smaller
+loop-at-smaller g c =
+    let there : slice_get c.args.old_spans.now c.loop-at.place ≡ Some c.in-Some.span.now.value = sym c.in-Some.ensures in
+    let within = slice_get_within c.args.old_spans.now c.loop-at.place c.in-Some.span.now.value there in
+    omega (arith, within)
 
 pub loop-at-preserved : goal.loop-at-preserved
 loop-at-preserved g c =
     let i = c.loop-at.invariant in
-    let plan = c.args.plan.now in
     let old = c.args.old.now in
     let old_spans : List RunData = c.args.old_spans.now in
     let spans : List RunData = c.loop-at.spans in
+    let plan = c.args.plan.now in
     let at = c.loop-at.at in
-    let to = c.loop-at.at + span_length in
+    let place = c.loop-at.place in
     let s : RunData = c.in-Some.span.now.value in
-    let x : RunData = c.in_ok-next.next.value in
-    let there : slice_get old_spans c.count.result ≡ Some s = sym c.in-Some.ensures in
-    let comes : ComesTo g.row.N old old_spans s plan (moves_of spans) at c.advance-agree.result c.loop-at.standing =
-    comes_to g.row.N old old_spans spans s plan c.count.result at c.loop-at.beside.at c.advance-agree.result c.loop-at.standing
-    c.requires.old i.so_far i.stands c.count.ensures there (omega arith) i.now (λ e. c.advance-agree.ensures.agree.0 e) in
-    let next : IsNextSpan g.row.N plan (moves_of spans) at to x = c.in_ok-next.ensures.next old old_spans (moves_of spans) comes in
-    let kept : c.push.new.self ≡ spans ++ x ∷ [] = c.in_ok-push.ensures in
-    rw kept (record {
-      so_far = so_far_push g.row.N plan spans x at to i.so_far (omega arith) next refl;
-      stands = subst (λ (l : List Move). Stands g.row.N old old_spans plan l to c.in_ok-next.then) (sym (moves_push spans x))
-          (c.in_ok-next.ensures.stands old old_spans (moves_of spans) comes);
+    let there : slice_get old_spans place ≡ Some s = sym c.in-Some.ensures in
+    let to_is : c.to.result ≡ s.to = c.to.ensures ∙ ap (λ (r : RunData). r.to) c.deref.ensures in
+    let comes : ComesTo g.row.N old old_spans s plan spans at c.advance-agree.result c.loop-at.standing =
+    comes_to g.row.N old old_spans spans s plan place at c.loop-at.beside.at c.advance-agree.result c.loop-at.standing c.requires.old
+    i.so_far i.stands i.begins there (omega arith) i.now
+    (λ e. subst (λ t. AgreeIn old plan c.loop-at.beside.at t) to_is (c.advance-agree.ensures.agree.0 e)) in
+    let end_is : c.to-at.result ≡ s.to = c.to-at.ensures ∙ ap (λ (r : RunData). r.to) c.deref-in-loop-at.ensures in
+    let one : suc place ≡ place + 1 = omega arith in
+    let next : begins_at old_spans (place + 1) ≡ s.to = ap (begins_at old_spans) (sym one) ∙ end_next 0 old_spans place s there in
+    rw end_is (record {
+      so_far = c.in_ok-standing.ensures.so_far;
+      stands = c.in_ok-standing.ensures.stands old old_spans comes;
+      begins = sym next;
       beside = c.advance-agree.ensures.are;
-      now = c.advance-agree.ensures.at;
-      rises = omega (arith, i.rises, c.next_span.ensures.rises);
-      cost = next_costs old (moves_of old_spans) plan spans x c.args.meter.now c.loop-at.meter c.next_span.new.meter i.cost
-          (c.in_ok-next.ensures.cost old old_spans (moves_of spans) comes);
+      now = c.advance-agree.ensures.at ∙ to_is;
+      rises = omega (arith, i.rises, c.next_spans.ensures.rises);
+      cost = c.in_ok-standing.ensures.cost old old_spans c.args.meter.now comes i.cost;
     })
 
 pub returns-in_default-clause-over : goal.returns-in_default-clause-over
 returns-in_default-clause-over g c = λ soon.
     let i = c.loop-at.invariant in
     let old_spans : List RunData = c.args.old_spans.now in
-    let none : slice_get old_spans c.count.result ≡ None = sym c.in_default.ensures in
-    let le = past_all old_spans c.count.result none in
-    let count : c.count.result ≡ length c.loop-at.spans = c.count.ensures in
-    over_from g.row.N c.args.old.now old_spans c.loop-at.at c.requires.old (omega (arith, le, count, i.so_far.at_is))
+    let none : slice_get old_spans c.loop-at.place ≡ None = sym c.in_default.ensures in
+    let time : c.loop-at.at ≡ end_of 0 old_spans =
+    i.begins ∙ ap (end_of 0) (take_all c.loop-at.place old_spans (past_all old_spans c.loop-at.place none)) in
+    over_from g.row.N c.args.old.now old_spans c.loop-at.at c.requires.old (omega (arith, time))
+
+pub returns-in_default-clause-done : goal.returns-in_default-clause-done
+returns-in_default-clause-done g c =
+    let i = c.loop-at.invariant in
+    let old_spans : List RunData = c.args.old_spans.now in
+    let none : slice_get old_spans c.loop-at.place ≡ None = sym c.in_default.ensures in
+    let time : c.loop-at.at ≡ end_of 0 old_spans =
+    i.begins ∙ ap (end_of 0) (take_all c.loop-at.place old_spans (past_all old_spans c.loop-at.place none)) in
+    done_alike g.row.N c.args.old.now old_spans c.args.plan.now (moves_of c.loop-at.spans) c.loop-at.at c.loop-at.standing i.stands
+    (omega (arith, time))

@@ -9,6 +9,7 @@ use Rattle.pd_keep.specs.declared.rerun.Standing.{Standing}
 use Rattle.pd_keep.specs.declared.rerun.Standing.TheVariants as standing
 use Rattle.pd_keep.specs.Places.{RunData}
 use Rattle.pd_keep.specs.Rerun.{ComesTo}
+use Rattle.pd_keep.specs.Spans.{moves_of}
 use Rattle.pd_keep.proofs.Beside.{resumes}
 use Rattle.pd_keep.proofs.rerun.standing_live.Goals as goal
 
@@ -35,10 +36,10 @@ returns-in_ok-first_ports-in-Alike g c =
     let are : ports ≡ take g.row.N old.records = c.in_ok-first_ports-in-Alike.ensures in
     IfOk-weaker c.resume.result
     (λ (live : LiveData). (past : List Move) → IsUpTo plan past c.args.at → AreAfter plan past ports → StandsAfter plan past live)
-    (λ (live : LiveData). (old_plan : Plan) (old_spans : List RunData) (moves : List Move) (agree : Bool)
-    → ComesTo g.row.N old_plan old_spans old plan moves c.args.at agree c.args.standing → StandsAfter plan moves live)
-    (λ live stands old_plan old_spans moves agree h.
-    let k : ComesTo g.row.N old_plan old_spans old plan moves c.args.at agree standing.Alike =
-    subst (λ (st : Standing g.row.N). ComesTo g.row.N old_plan old_spans old plan moves c.args.at agree st) c.in-Alike.is h in
-    let after = (resumes g.row.N old_plan old_spans old plan moves c.args.at agree k).2 in
-    stands moves k.up (subst (λ (l : List PortData). AreAfter plan moves l) (sym are) after)) c.resume.ensures
+    (λ (live : LiveData). (old_plan : Plan) (old_spans : List RunData) (spans : List RunData) (agree : Bool)
+    → ComesTo g.row.N old_plan old_spans old plan spans c.args.at agree c.args.standing → StandsAfter plan (moves_of spans) live)
+    (λ live stands old_plan old_spans spans agree h.
+    let k : ComesTo g.row.N old_plan old_spans old plan spans c.args.at agree standing.Alike =
+    subst (λ (st : Standing g.row.N). ComesTo g.row.N old_plan old_spans old plan spans c.args.at agree st) c.in-Alike.is h in
+    let after = (resumes g.row.N old_plan old_spans old plan spans c.args.at agree k).2 in
+    stands (moves_of spans) k.far.up (subst (λ (l : List PortData). AreAfter plan (moves_of spans) l) (sym are) after)) c.resume.ensures

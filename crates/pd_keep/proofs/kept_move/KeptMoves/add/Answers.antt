@@ -8,6 +8,6 @@ pub returns-clause-added : goal.returns-clause-added
 returns-clause-added c =
     let moves = c.self.inside.moves.items in
     let more = kept_with_more c.self.inside.records.items moves c.args.port c.self.invariant in
-    ap (λ (l : List PortData). record { records = l; moves = map (kept_in l) moves }) c.in_ok-push.ensures.items
-    ∙ (λ i. record { records = c.self.inside.records.items ++ c.args.port ∷ []; moves = more i })
-    ∙ ap (λ (r : RunData). record { records = r.records ++ c.args.port ∷ []; moves = r.moves }) c.self.view_is
+    ap (λ (l : List PortData). record { to = c.self.inside.to; records = l; moves = map (kept_in l) moves }) c.in_ok-push.ensures.items
+    ∙ (λ i. record { to = c.self.inside.to; records = c.self.inside.records.items ++ c.args.port ∷ []; moves = more i })
+    ∙ ap (λ (r : RunData). record { to = r.to; records = r.records ++ c.args.port ∷ []; moves = r.moves }) c.self.view_is

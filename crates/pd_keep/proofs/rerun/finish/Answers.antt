@@ -1,0 +1,34 @@
+use Rattle.std.proofs.Common.{◌≡◌, ◌+◌, ◌≤◌, ◌<◌, [], List, ℕ, All, ap, sym, subst, arith}
+use Rattle.pd_run.proofs.Cut.{All-nil}
+use Rattle.pd_keep.specs.Kept.{KeptData, IsMade, AreInTime}
+use Rattle.pd_keep.specs.Places.{RunData}
+use Rattle.pd_keep.specs.Rerun.{IsSoFar, AreThose}
+use Rattle.pd_keep.specs.Spans.{kept_of_spans}
+use Rattle.pd_keep.proofs.Beside.{over_those}
+use Rattle.pd_keep.proofs.Parted.{kept_whole}
+use Rattle.pd_keep.proofs.rerun.finish.Goals as goal
+
+pub run_on-requires : goal.run_on-requires
+run_on-requires g c =
+    let none : c.new-nothing.result.moves ≡ [] = ap (λ (r : RunData). r.moves) c.new-nothing.ensures in
+    let made : All IsMade c.new-nothing.result.moves = subst (λ (l : List KeptData). All IsMade l) (sym none) (All-nil IsMade) in
+    let in_time : AreInTime c.new-nothing.result.moves =
+    subst (λ (l : List KeptData). AreInTime l) (sym none) (λ a b e le lt. absurd (omega arith)) in
+    (omega arith, (omega arith, (made, (in_time, (omega arith, (omega arith, (c.requires.so_far, c.requires.stands)))))))
+
+pub returns-then-end-from-clause-kept : goal.returns-then-end-from-clause-kept
+returns-then-end-from-clause-kept g c = kept_whole g.row.N c.args.plan.now c.args.spans.now c.args.from c.requires.so_far (omega arith)
+
+pub returns-clause-kept : goal.returns-clause-kept
+returns-clause-kept g c =
+    let so_far : IsSoFar g.row.N c.args.plan.now c.run_on.new.spans (c.args.plan.now.end + 1) =
+    subst (λ e. IsSoFar g.row.N c.args.plan.now c.run_on.new.spans (e + 1)) c.end-end.ensures.end c.in_ok-run_on.ensures.so_far in
+    kept_whole g.row.N c.args.plan.now c.run_on.new.spans (c.args.plan.now.end + 1) so_far (omega arith)
+
+pub returns-clause-cost : goal.returns-clause-cost
+returns-clause-cost g c = λ old old_spans first over own so_far.
+    let none : c.new-nothing.result.moves ≡ [] = ap (λ (r : RunData). r.moves) c.new-nothing.ensures in
+    let those : AreThose (kept_of_spans old_spans) c.args.from (c.end-end.result + 1) c.new-nothing.result.moves =
+    subst (λ (l : List KeptData). AreThose (kept_of_spans old_spans) c.args.from (c.end-end.result + 1) l) (sym none)
+    (over_those old_spans c.args.from (c.end-end.result + 1) (over (omega arith))) in
+    c.in_ok-run_on.ensures.cost old (kept_of_spans old_spans) first own those so_far
