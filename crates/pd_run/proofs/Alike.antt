@@ -1,6 +1,6 @@
 -- Ports that stand alike, of whom two plans ask the same, move alike.
-use Rattle.std.proofs.Common.{◌≡◌, ◌≢◌, ⊎_elim, ◌⊎◌, inl, inr, ℕ, zero, suc, ◌+◌, ◌<◌, ◌≤◌, nat_lt, Bool, true, false, cond, ◌||◌, ◌&&◌}
-use Rattle.std.proofs.Common.{List, [], ◌∷◌, ◌++◌, length, map, drop, get_or, All, Option, Some, None, slice_get, if◌then◌else◌}
+use Rattle.std.proofs.Common.{◌≡◌, ◌≢◌, ⊎_elim, ◌⊎◌, inl, inr, ℕ, zero, suc, ◌+◌, ◌<◌, ◌≤◌, nat_lt, Bool, true, false, cond}
+use Rattle.std.proofs.Common.{List, [], ◌∷◌, ◌++◌, length, map, drop, get_or, All, Option, Some, None, slice_get}
 use Rattle.std.proofs.Common.{refl, ap, sym, ◌∙◌, subst, arith, append_assoc, option_map}
 use Rattle.std.specs.List.{range_with_len}
 use Rattle.std.proofs.lemmas.List.{append-nil, append_cancel_left, drop-drop, same_lists}
@@ -8,8 +8,6 @@ use Rattle.std.proofs.lemmas.List.FromFn.{get_or-map-range_with_len, length-map-
 use Rattle.std.proofs.lemmas.Bool.{cases_eq, cases_lt, cases_Bool}
 use Rattle.std.proofs.lemmas.Bool.Decides.{nat_tests}
 use Rattle.std.proofs.lemmas.Option.{same_Some}
-use Rattle.pd_objects.specs.declared.query.Answer.{Answer}
-use Rattle.pd_objects.specs.declared.query.Query.{Query}
 use Rattle.pd_setup.specs.Settings.{SettingsData, floor_of}
 use Rattle.pd_setup.specs.Events.{EventData}
 use Rattle.pd_port.specs.declared.due.Due.{Due}
@@ -21,14 +19,14 @@ use Rattle.pd_ledger.specs.Account.{Account}
 use Rattle.pd_ledger.specs.Offer.{answer_of}
 use Rattle.pd_scenario.specs.Plan.{Plan, count, settings_of, script_of, floors_of, force, no_settings}
 use Rattle.pd_run.specs.Order.{EachAfter}
-use Rattle.pd_run.specs.Run.{Move, Run, Standing, standing, moved, after, taken_after, due_after, holds_after, account_after, reply_after}
+use Rattle.pd_run.specs.Run.{Move, Run, Standing, standing, after, taken_after, due_after, holds_after, account_after, reply_after}
 use Rattle.pd_run.specs.Run.{GoesOn, IsAnswered, IsInOrder, NoneLater}
-use Rattle.pd_run.specs.UpTo.{before, IsUpTo, until, had_by, events_in, AgreeIn, AreAlike, GoOnAlike}
+use Rattle.pd_run.specs.UpTo.{before, IsUpTo, until, had_by, AgreeIn, AreAlike, GoOnAlike}
 use Rattle.pd_run.proofs.Moves.{standing-same, standing-other}
 use Rattle.pd_run.proofs.Steps.{some_event}
 use Rattle.pd_run.proofs.Taken.{taken_is}
 use Rattle.pd_run.proofs.Cut.{All-head, All-tail, All-append, All-front, All-back, EachAfter-append, EachAfter-front, EachAfter-back}
-use Rattle.pd_run.proofs.Cut.{Cut, cut_from, run_up_to, up_to, earlier_none, IsEarlier, IsLater}
+use Rattle.pd_run.proofs.Cut.{cut_from, run_up_to, up_to, earlier_none, IsEarlier, IsLater}
 
 -- What falls due, and the next event.
 

@@ -1,5 +1,5 @@
 -- A run that is cut at a time.
-use Rattle.std.proofs.Common.{◌≡◌, ◌≢◌, ⊎_elim, ℕ, zero, suc, ◌<◌, ◌≤◌, nat_lt, cond, List, [], ◌∷◌, ◌++◌, length, get_or, All, Some}
+use Rattle.std.proofs.Common.{◌≡◌, ◌≢◌, ⊎_elim, ℕ, zero, suc, ◌<◌, ◌≤◌, nat_lt, cond, List, [], ◌∷◌, ◌++◌, All, Some}
 use Rattle.std.proofs.Common.{refl, ap, sym, ◌∙◌, subst, arith, append_assoc}
 use Rattle.std.proofs.lemmas.List.{append-nil}
 use Rattle.std.proofs.lemmas.Bool.{cases_eq, cases_lt}
@@ -7,9 +7,9 @@ use Rattle.std.proofs.lemmas.Bool.Decides.{nat_tests}
 use Rattle.std.proofs.lemmas.Option.{same_Some}
 use Rattle.pd_port.specs.declared.due.Due.{Due}
 use Rattle.pd_scenario.specs.Plan.{Plan, IsPlan, count}
-use Rattle.pd_run.specs.Order.{EachAfter, IsNoLater}
+use Rattle.pd_run.specs.Order.{EachAfter}
 use Rattle.pd_run.specs.Run.{Move, Run, GoesOn, IsInOrder, IsAnswered, IsDone, NoneLater, due_after}
-use Rattle.pd_run.specs.Live.{LiveData, RunsTo, StandsAfter, IsNext, IsOver, due_at}
+use Rattle.pd_run.specs.Live.{LiveData, StandsAfter, IsNext, IsOver}
 use Rattle.pd_run.specs.Shown.{SafeRun}
 use Rattle.pd_run.specs.UpTo.{before, IsUpTo}
 use Rattle.pd_run.proofs.Moves.{due_after-other, in_order-member}
