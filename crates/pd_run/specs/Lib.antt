@@ -2,6 +2,7 @@ pub mod Beside
 pub mod Cost
 pub mod Laws
 pub mod Live
+pub mod Notes
 pub mod Order
 pub mod Run
 pub mod Sheds

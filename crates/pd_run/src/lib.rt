@@ -5,12 +5,14 @@ mod beside;
 mod had;
 pub mod laws;
 mod live;
+mod note;
 mod plain;
 mod plan;
 mod runner;
 
 pub use beside::Beside;
 pub use live::Live;
+pub use note::{Marks, Note};
 pub use plain::Plain;
 pub use plan::Plan;
 pub use runner::Runner;

@@ -6,7 +6,7 @@ ghost use Rattle.pd_scenario.specs.Plans.{plan_of};
 ghost use Rattle.pd_run.specs.Cost.{IsPaid, CostsAllMoves};
 ghost use Rattle.pd_run.specs.Shown.{Shows, IsShown};
 
-use crate::{Live, Plan, Runner};
+use crate::{Live, Note, Plan, Runner};
 use pd_port::{Entry, Meter};
 use pd_scenario::Scenario;
 use std::alloc::{AllocError, Global};
@@ -73,6 +73,17 @@ impl<const N: usize> Runner<N> for Plain<N> {
     fn entry(&self, i: usize) -> Option<(usize, &Entry)> {
         let (port, entry) = self.entries.get(i)?;
         Some((*port, entry))
+    }
+
+    fn next_with(&self, note: Note, from: usize) -> usize {
+        let mut at = from.min(self.entries.len());
+        while let Some((port, entry)) = self.entries.get(at) {
+            if note.is_left_by(*port, entry) {
+                return at;
+            }
+            at += 1;
+        }
+        at
     }
 }
 

@@ -5,8 +5,10 @@ ghost use Rattle.pd_port.specs.declared.entry.Entry.{Entry as EntryData};
 ghost use Rattle.pd_scenario.specs.Plan.{Plan};
 ghost use Rattle.pd_scenario.specs.Plans.{plan_of};
 ghost use Rattle.pd_run.specs.Cost.{Costs, IsPaid};
+ghost use Rattle.pd_run.specs.Notes.{IsNextWith};
 ghost use Rattle.pd_run.specs.Shown.{Shows, AreEntriesOf};
 
+use crate::Note;
 use pd_port::{Entry, Meter};
 use pd_scenario::Scenario;
 use std::alloc::{AllocError, Global};
@@ -53,4 +55,8 @@ pub trait Runner<const N: usize> {
     fn entry(&self, i: usize) -> Option<(usize, &Entry)>
         ensures entry { option_map (λ r. (r.0, r.1.now)) result ≡ slice_get (entries self.now) i }
         ensures run { AreEntriesOf N (plan self.now) (entries self.now) };
+
+    /// The first place from one on whose entry leaves such a note, or the number of moves where none does.
+    fn next_with(&self, note: Note, from: usize) -> usize
+        ensures { IsNextWith note (entries self.now) from result };
 }
