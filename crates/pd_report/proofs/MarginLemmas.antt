@@ -1,11 +1,11 @@
 -- What a walk over the entries of a run knows of each instant.
-use Rattle.std.proofs.Common.{◌≡◌, ◌≢◌, ℕ, zero, suc, ◌+◌, ◌-◌, ◌<◌, ◌≤◌, Bool, true, false, cond, leb, ⊎_elim, inl, inr, List, []}
+use Rattle.std.proofs.Common.{◌≡◌, ◌≢◌, ℕ, zero, suc, ◌+◌, ◌-◌, ◌<◌, ◌≤◌, Bool, false, cond, leb, ⊎_elim, inl, inr, List, []}
 use Rattle.std.proofs.Common.{◌∷◌, ◌++◌, length, map, take, drop, get_or, set, replicate, Option, Some, None, refl, sym, ap, subst, ◌∙◌}
 use Rattle.std.proofs.Common.{arith, append_assoc}
-use Rattle.std.specs.Prelude.{filter, slice_get}
+use Rattle.std.specs.Prelude.{IsSome, filter, slice_get}
 use Rattle.std.specs.List.{AllByRecursion, cons_option, flat_map, filter_map, last_or, range_with_len}
 use Rattle.std.specs.Option.{option_map_or}
-use Rattle.std.proofs.lemmas.Bool.{cases_eq, le-leb, lt-leb, eq-eqb, ne_eqb}
+use Rattle.std.proofs.lemmas.Bool.{cases_eq, cases_lt, le-leb, lt-leb, eq-eqb, ne_eqb}
 use Rattle.std.proofs.lemmas.List.{append-nil, drop_all, take-append-drop, drop_more, take_more, length-set, get_or-set_same}
 use Rattle.std.proofs.lemmas.List.{get_or-set_other, same_lists}
 use Rattle.std.proofs.lemmas.List.Concat.{flat_map-append}
@@ -21,7 +21,7 @@ use Rattle.pd_run.specs.Run.{Move, GoesOn, IsInOrder, shown}
 use Rattle.pd_run.specs.Shown.{AreEntriesOf}
 use Rattle.pd_run.proofs.Moves.{in_order-member}
 use Rattle.pd_report.specs.Margins.{most_ports, power_left, change_on, power_on, up_to}
-use Rattle.pd_report.specs.Walk.{noted, NoneLater, NoneBefore}
+use Rattle.pd_report.specs.Walk.{noted, ChangesBy, NoChangeLater, NoneBefore}
 
 -- ---- lists
 
@@ -52,10 +52,6 @@ module _ {X : Type 0} (xs : List X) (i : ℕ) (x : X) (e : slice_get xs i ≡ So
       let within : i < length xs = slice_get_within xs i x e in
       drop_more xs i x within ∙ ap (λ y. y ∷ drop (i + 1) xs) (get_or_from_slice_get xs i x x e)
 
-filter-all : {X : Type 0} (p : X → Bool) (xs : List X) → AllByRecursion (λ x. p x ≡ true) xs → filter p xs ≡ xs
-filter-all p [] h = refl
-filter-all p (x ∷ xs) h = ap (λ b. cond b (x ∷ filter p xs) (filter p xs)) h.0 ∙ ap (λ v. x ∷ v) (filter-all p xs h.1)
-
 filter-none : {X : Type 0} (p : X → Bool) (xs : List X) → AllByRecursion (λ x. p x ≡ false) xs → filter p xs ≡ []
 filter-none p [] h = refl
 filter-none p (x ∷ xs) h = ap (λ b. cond b (x ∷ filter p xs) (filter p xs)) h.0 ∙ filter-none p xs h.1
@@ -63,22 +59,6 @@ filter-none p (x ∷ xs) h = ap (λ b. cond b (x ∷ filter p xs) (filter p xs))
 last_or-append : {X : Type 0} (o : Option X) (xs : List X) (x : X) → last_or o (xs ++ x ∷ []) ≡ Some x
 last_or-append o [] x = refl
 last_or-append o (y ∷ ys) x = last_or-append (Some y) ys x
-
--- ---- the entries up to a time
-
-not_up : (t a : ℕ) → t < a → leb a t ≡ false
-not_up t a h = lt-leb a t h
-
-pub up_to-is : (moves : Moves) (i t : ℕ) → NoneLater t (take i moves) → AllByRecursion (λ m. t < m.1.at) (drop i moves) →
-    up_to t moves ≡ take i moves
-up_to-is moves i t past ahead =
-    let p : ℕ × Entry → Bool = λ m. leb m.1.at t in
-    ap (filter p) (sym (take-append-drop i moves)) ∙ filter-append p (take i moves) (drop i moves)
-    ∙ ap (λ v. v ++ filter p (drop i moves))
-    (filter-all p (take i moves) (all-mono (λ m. m.1.at ≤ t) (λ m. p m ≡ true) (λ m h. le-leb m.1.at t h) (take i moves) past))
-    ∙ ap (λ v. take i moves ++ v)
-    (filter-none p (drop i moves) (all-mono (λ m. t < m.1.at) (λ m. p m ≡ false) (λ m h. not_up t m.1.at h) (drop i moves) ahead))
-    ∙ append-nil (take i moves)
 
 -- ---- the powers
 
@@ -109,6 +89,10 @@ change_other p m e = ap (λ b. cond b m.1.contract None) (ne_eqb m.0 p e)
 no_change : (p : ℕ) (m : ℕ × Entry) → m.1.contract ≡ None → change_on p m ≡ None
 no_change p m e = ⊎_elim (λ (same : m.0 ≡ p). change_here p m same ∙ e) (λ (other : m.0 ≢ p). change_other p m other) (cases_eq m.0 p)
 
+pub none_of : (o : Option ContractChange) → ¬ IsSome o → o ≡ None
+none_of None h = refl
+none_of (Some c) h = absurd (h refl)
+
 -- a table over the ports with one entry changed
 set-table : (f g : ℕ → ℕ) (n p v : ℕ) → 1 ≤ p → p ≤ n → ((k : ℕ) → k ≢ p → g k ≡ f k) → g p ≡ v →
     set (map f (range_with_len 1 n)) (p - 1) v ≡ map g (range_with_len 1 n)
@@ -132,7 +116,7 @@ set-table f g n p v one lt others here =
     (cases_eq (k + 1) p))
 
 -- a table that is the same at each port
-same-table : (f g : ℕ → ℕ) (a n : ℕ) → ((k : ℕ) → f k ≡ g k) → map f (range_with_len a n) ≡ map g (range_with_len a n)
+pub same-table : (f g : ℕ → ℕ) (a n : ℕ) → ((k : ℕ) → f k ≡ g k) → map f (range_with_len a n) ≡ map g (range_with_len a n)
 same-table f g a zero h = refl
 same-table f g a (suc n) h = ap (λ y. y ∷ map f (range_with_len (a + 1) n)) (h a) ∙ ap (λ v. g a ∷ v) (same-table f g (a + 1) n h)
 
@@ -141,16 +125,54 @@ unfolding power_on
 powers-start a zero = refl
 powers-start a (suc n) = ap (λ v. 0 ∷ v) (powers-start (a + 1) n)
 
+-- an entry that changes no contract changes no power
+pub powers-same : (moves : Moves) (m : ℕ × Entry) (a n : ℕ) → m.1.contract ≡ None →
+    map (power_on moves) (range_with_len a n) ≡ map (power_on (moves ++ m ∷ [])) (range_with_len a n)
+unfolding power_then
+powers-same moves m a n e =
+    same-table (power_on moves) (power_on (moves ++ m ∷ [])) a n (λ k. sym (change-then k moves m None (no_change k m e)))
+
 -- an entry changes the power of its own port alone
 pub powers-more : (moves : Moves) (m : ℕ × Entry) (n : ℕ) (o : Option ContractChange) → m.1.contract ≡ o → 1 ≤ m.0 → m.0 ≤ n →
     noted (map (power_on moves) (range_with_len 1 n)) m.0 o ≡ map (power_on (moves ++ m ∷ [])) (range_with_len 1 n)
 unfolding power_then
-powers-more moves m n None e one lt =
-    same-table (power_on moves) (power_on (moves ++ m ∷ [])) 1 n (λ k. sym (change-then k moves m None (no_change k m e)))
+powers-more moves m n None e one lt = powers-same moves m 1 n e
 powers-more moves m n (Some c) e one lt =
     set-table (power_on moves) (power_on (moves ++ m ∷ [])) n m.0 (power_left c) one lt
     (λ k other. change-then k moves m None (change_other k m (λ x. other (sym x))))
     (change-then m.0 moves m (Some c) (change_here m.0 m refl ∙ e))
+
+-- ---- the entries up to a time
+
+-- of entries whose changes are no later than a time, those up to it have all changes
+changes_up_to : (t p : ℕ) (moves : Moves) → NoChangeLater t moves →
+    filter_map (change_on p) (up_to t moves) ≡ filter_map (change_on p) moves
+changes_up_to t p [] past = refl
+changes_up_to t p (m ∷ ms) past =
+    let rest = changes_up_to t p ms past.1 in
+    let kept : Bool → Moves = λ b. cond b (m ∷ up_to t ms) (up_to t ms) in
+    ⊎_elim
+    (λ (late : t < m.1.at).
+    let none : m.1.contract ≡ None = none_of m.1.contract (λ some. let early = past.0 some in omega arith) in
+    ap (λ b. filter_map (change_on p) (kept b)) (lt-leb m.1.at t late) ∙ rest
+    ∙ ap (λ o. cons_option o (filter_map (change_on p) ms)) (sym (no_change p m none)))
+    (λ (soon : m.1.at ≤ t).
+    ap (λ b. filter_map (change_on p) (kept b)) (le-leb m.1.at t soon) ∙ ap (cons_option (change_on p m)) rest)
+    (cases_lt t m.1.at)
+
+pub powers_up_to : (moves : Moves) (i t p : ℕ) → NoChangeLater t (take i moves) → AllByRecursion (λ m. t < m.1.at) (drop i moves) →
+    power_on (up_to t moves) p ≡ power_on (take i moves) p
+unfolding power_on
+powers_up_to moves i t p past ahead =
+    let up : ℕ × Entry → Bool = λ m. leb m.1.at t in
+    let later =
+    filter-none up (drop i moves)
+    (all-mono (λ m. t < m.1.at) (λ m. up m ≡ false) (λ m h. lt-leb m.1.at t h) (drop i moves) ahead) in
+    ap (λ l. option_map_or power_left (last_or None l) 0)
+    (ap (λ (l : Moves). filter_map (change_on p) l)
+    (ap (up_to t) (sym (take-append-drop i moves)) ∙ filter-append up (take i moves) (drop i moves)
+    ∙ ap (λ v. up_to t (take i moves) ++ v) later ∙ append-nil (up_to t (take i moves)))
+    ∙ changes_up_to t p (take i moves) past)
 
 -- ---- the instants
 
@@ -261,12 +283,12 @@ module _ (moves : Moves) (i : ℕ) (m : ℕ × Entry) (e : slice_get moves i ≡
   pub on-port : InOrder moves → OnPort m
   on-port h = (subst (AllByRecursion OnPort) (drop-next moves i m e) (all-drop OnPort moves i h.on_ports)).0
 
-  pub none-before-next : InOrder moves → NoneBefore m.1.at (drop (i + 1) moves)
+  none-before-next : InOrder moves → NoneBefore m.1.at (drop (i + 1) moves)
   unfolding Rising
   none-before-next h = (subst Rising (drop-next moves i m e) (rising-drop moves i h.rising)).0
 
-  pub not-before : (t : ℕ) → NoneBefore t (drop i moves) → t ≤ m.1.at
-  not-before t h = (subst (NoneBefore t) (drop-next moves i m e) h).0
+  pub none-before-rest : (t : ℕ) → NoneBefore t (drop i moves) → NoneBefore t (drop (i + 1) moves)
+  none-before-rest t h = (subst (NoneBefore t) (drop-next moves i m e) h).1
 
   -- where an entry is no sooner than a time, none from it on is
   pub none-before-here : (t : ℕ) → t ≤ m.1.at → InOrder moves → NoneBefore t (drop i moves)
@@ -275,11 +297,9 @@ module _ (moves : Moves) (i : ℕ) (m : ℕ × Entry) (e : slice_get moves i ≡
       all-mono (λ (x : ℕ × Entry). m.1.at ≤ x.1.at) (λ x. t ≤ x.1.at) (λ x k. omega arith) (drop (i + 1) moves) (none-before-next h) in
       subst (NoneBefore t) (sym (drop-next moves i m e)) (le, more)
 
-  pub none-later-next : (t : ℕ) → t ≤ m.1.at → NoneLater t (take i moves) → NoneLater m.1.at (take (i + 1) moves)
-  none-later-next t le h =
-      subst (NoneLater m.1.at) (sym (take-next moves i m e))
-      (all-append (λ x. x.1.at ≤ m.1.at) (take i moves) (m ∷ [])
-      (all-mono (λ x. x.1.at ≤ t) (λ x. x.1.at ≤ m.1.at) (λ x k. omega arith) (take i moves) h) (omega arith, tt))
+  pub changes-by-next : (t : ℕ) → ChangesBy t m → NoChangeLater t (take i moves) → NoChangeLater t (take (i + 1) moves)
+  changes-by-next t by h =
+      subst (NoChangeLater t) (sym (take-next moves i m e)) (all-append (ChangesBy t) (take i moves) (m ∷ []) h (by, tt))
 
 -- after the last entry there is none
 pub none-after : (moves : Moves) (i t : ℕ) → slice_get moves i ≡ None → NoneBefore t (drop i moves)

@@ -1,6 +1,6 @@
 -- A walk over the entries of a run and the changes of the budget, step by step.
 use Rattle.std.proofs.Common.{◌≡◌, ℕ, zero, suc, ◌+◌, ◌-◌, ◌<◌, ◌≤◌, Bool, true, false, cond, eqb, List, [], ◌∷◌, ◌++◌, map, take}
-use Rattle.std.proofs.Common.{drop, replicate}
+use Rattle.std.proofs.Common.{drop, length, replicate}
 use Rattle.std.proofs.Common.{Option, Some, None, Result, refl, sym, ap, subst, ◌∙◌, arith, append_assoc}
 use Rattle.std.specs.Prelude.{IfSome, sum, slice_get, ◌||◌, ◌&&◌, not, Ok, Err}
 use Rattle.std.specs.List.{AllByRecursion, flat_map, range_with_len}
@@ -11,6 +11,8 @@ use Rattle.std.proofs.lemmas.List.{append-nil}
 use Rattle.std.proofs.lemmas.Option.{slice_get_within}
 use Rattle.pd_port.specs.declared.entry.Entry.{Entry}
 use Rattle.pd_scenario.specs.Plan.{Plan, force}
+use Rattle.pd_run.specs.declared.note.Note.TheVariants.{Contract}
+use Rattle.pd_run.specs.Notes.{Leaves, NoneLeaves}
 use Rattle.pd_device.specs.declared.fault.BenchFault.{BenchFault}
 use Rattle.pd_device.specs.Device.{Writes, WrotePart}
 use Rattle.pd_device.proofs.DeviceLemmas.{WrotePart-after, WrotePart-longer}
@@ -19,10 +21,11 @@ use Rattle.pd_report.specs.declared.walk.Walk.{Walk}
 use Rattle.pd_report.specs.Margins.{most_ports, power_on, up_to, contracts_at, stays_at, has_line, instant_text, margin_text, margins_head}
 use Rattle.pd_report.specs.Margins.{margins_text}
 use Rattle.pd_report.specs.Walk.{standing_at, standing_before, standing_of, noted, noted_walk, line_after}
-use Rattle.pd_report.specs.Walk.{KnowsBudget, GoesOnTo, NoneLater, NoneBefore, IsWalk, left_of, text_before}
-use Rattle.pd_report.proofs.MarginLemmas.{Moves, InOrder, all-mono, take-next, up_to-is, powers-start, powers-more, text-next, text-to}
-use Rattle.pd_report.proofs.MarginLemmas.{on-port, none-before-next, not-before, none-later-next}
+use Rattle.pd_report.specs.Walk.{KnowsBudget, GoesOnTo, ChangesBy, NoChangeLater, NoneBefore, IsWalk, left_of, text_before}
+use Rattle.pd_report.proofs.MarginLemmas.{Moves, InOrder, all-mono, take-next, same-table, none_of, powers-start, powers-more, powers-same}
+use Rattle.pd_report.proofs.MarginLemmas.{powers_up_to, text-next, text-to, on-port, none-before-rest, changes-by-next}
 use Rattle.pd_report.proofs.BudgetLemmas.{force-stays}
+use Rattle.pd_report.proofs.NotedLemmas.{along, at_index, not_left}
 
 standing : ℕ → ℕ → Standing
 standing c b = record { contracts = c; budget = b }
@@ -58,10 +61,12 @@ line_is plan moves t c o before sums =
 
 -- the sum at a time, from the powers after the entries up to it
 sum_is : (moves : Moves) (i t : ℕ) (powers : List ℕ) → powers ≡ map (power_on (take i moves)) (range_with_len 1 most_ports) →
-    up_to t moves ≡ take i moves →
+    NoChangeLater t (take i moves) → AllByRecursion (λ m. t < m.1.at) (drop i moves) →
     sum powers ≡ contracts_at moves t
 unfolding contracts_at
-sum_is moves i t powers e u = ap sum e ∙ ap (λ (l : Moves). sum (map (power_on l) (range_with_len 1 most_ports))) (sym u)
+sum_is moves i t powers e past ahead =
+    ap sum
+    (e ∙ same-table (power_on (take i moves)) (power_on (up_to t moves)) 1 most_ports (λ p. sym (powers_up_to moves i t p past ahead)))
 
 -- the instant at which a walk stands has its line, once all later entries are later
 last_line-is : (plan : Plan) (moves : Moves) (walk : Walk) → IsWalk plan moves walk →
@@ -71,21 +76,25 @@ unfolding standing
 last_line-is plan moves walk w ahead =
     ap (λ b. line_after walk.before walk.at (standing (sum walk.powers) b)) w.knows.budget_is
     ∙ line_is plan moves walk.at (sum walk.powers) walk.before w.before_is
-    (sum_is moves walk.seen walk.at walk.powers w.powers_are (up_to-is moves walk.seen walk.at w.past ahead))
+    (sum_is moves walk.seen walk.at walk.powers w.powers_are w.past ahead)
+
+-- changes up to a time are up to a later one
+changes-by : (t u : ℕ) (moves : Moves) → t ≤ u → NoChangeLater t moves → NoChangeLater u moves
+changes-by t u moves le h = all-mono (ChangesBy t) (ChangesBy u) (λ m by some. let early = by some in omega arith) moves h
 
 -- between the instant of a walk and the next entry no line stands while the budget stays
 silent_between : (plan : Plan) (moves : Moves) (i a b : ℕ) → ((v : ℕ) → a < v → v < b → force plan (v - 1) ≡ force plan v) →
-    NoneLater a (take i moves) →
+    NoChangeLater a (take i moves) →
     NoneBefore b (drop i moves) → (v : ℕ) → a < v → v < b → instant_text plan moves v ≡ []
-unfolding contracts_at
 silent_between plan moves i a b steady past ahead v low high =
-    let later = all-mono (λ (m : ℕ × Entry). b ≤ m.1.at) (λ m. v < m.1.at) (λ m h. omega arith) (drop i moves) ahead in
-    let at_v = up_to-is moves i v (all-mono (λ m. m.1.at ≤ a) (λ m. m.1.at ≤ v) (λ m h. omega arith) (take i moves) past) later in
-    let before_v = up_to-is moves i (v - 1) (all-mono (λ m. m.1.at ≤ a) (λ m. m.1.at ≤ v - 1) (λ m h. omega arith) (take i moves) past)
-    (all-mono (λ m. b ≤ m.1.at) (λ m. v - 1 < m.1.at) (λ m h. omega arith) (drop i moves) ahead) in
-    silent_at plan moves v (omega arith)
-    (ap (λ (l : Moves). sum (map (power_on l) (range_with_len 1 most_ports))) (before_v ∙ sym at_v))
-    (steady v low high)
+    let powers : List ℕ = map (power_on (take i moves)) (range_with_len 1 most_ports) in
+    let at_v =
+    sum_is moves i v powers refl (changes-by a v (take i moves) (omega arith) past)
+    (all-mono (λ (m : ℕ × Entry). b ≤ m.1.at) (λ m. v < m.1.at) (λ m h. omega arith) (drop i moves) ahead) in
+    let before_v =
+    sum_is moves i (v - 1) powers refl (changes-by a (v - 1) (take i moves) (omega arith) past)
+    (all-mono (λ (m : ℕ × Entry). b ≤ m.1.at) (λ m. v - 1 < m.1.at) (λ m h. omega arith) (drop i moves) ahead) in
+    silent_at plan moves v (omega arith) (sym before_v ∙ at_v) (steady v low high)
 
 -- ---- a walk that goes on to a later instant, up to which nothing happens
 
@@ -107,19 +116,18 @@ module _ (plan : Plan) (moves : Moves) (walk : Walk) (at : ℕ) (w : IsWalk plan
   stood : Some (standing_of walk) ≡ standing_before plan moves at
   unfolding standing
   stood =
-      let past = all-mono (λ (x : ℕ × Entry). x.1.at ≤ walk.at) (λ x. x.1.at ≤ at - 1) (λ x h. omega arith) (take walk.seen moves) w.past in
+      let past = changes-by walk.at (at - 1) (take walk.seen moves) (omega arith) w.past in
       let more = all-mono (λ (x : ℕ × Entry). at ≤ x.1.at) (λ x. at - 1 < x.1.at) (λ x h. omega arith) (drop walk.seen moves) ahead in
-      let sums = sum_is moves walk.seen (at - 1) walk.powers w.powers_are (up_to-is moves walk.seen (at - 1) past more) in
+      let sums = sum_is moves walk.seen (at - 1) walk.powers w.powers_are past more in
       let budgets : walk.budget ≡ force plan (at - 1) = w.knows.budget_is ∙ sym (steady (at - 1) (omega arith) (omega arith)) in
       ap (λ x. Some (standing x walk.budget)) sums ∙ ap (λ x. Some (standing (contracts_at moves (at - 1)) x)) budgets
       ∙ ap (λ b. cond b None (Some (standing_at plan moves (at - 1)))) (sym (ne_eqb at 0 (λ e. omega arith)))
 
   pub walk-on : (new : Walk) → at ≤ plan.end + 1 → GoesOnTo plan walk at new → IsWalk plan moves new
   walk-on new soon goes =
-      let P : ℕ → ℕ → Type 0 = λ t k. NoneLater t (take k moves) in
+      let P : ℕ → ℕ → Type 0 = λ t k. NoChangeLater t (take k moves) in
       let A : ℕ → ℕ → Type 0 = λ t k. NoneBefore t (drop k moves) in
-      let past : P at walk.seen =
-      all-mono (λ (x : ℕ × Entry). x.1.at ≤ walk.at) (λ x. x.1.at ≤ at) (λ x h. omega arith) (take walk.seen moves) w.past in
+      let past : P at walk.seen = changes-by walk.at at (take walk.seen moves) (omega arith) w.past in
       record {
         powers_are =
             goes.powers_are ∙ w.powers_are ∙ ap (λ k. map (power_on (take k moves)) (range_with_len 1 most_ports)) (sym goes.seen_is);
@@ -144,33 +152,55 @@ pub less-on : (plan : Plan) (moves : Moves) (walk : Walk) (at : ℕ) (new : Walk
     left_of plan moves new < left_of plan moves walk
 less-on plan moves walk at new soon goes = omega (arith, goes.later, goes.at_is, goes.seen_is)
 
--- ---- a walk that sees one more entry of its instant
+-- ---- a walk that sees one more entry
 
 module _ (plan : Plan) (moves : Moves) (walk : Walk) (m : ℕ × Entry) (w : IsWalk plan moves walk)
-    (here : slice_get moves walk.seen ≡ Some m) (order : InOrder moves) (now : m.1.at ≤ walk.at) where
-  same_time : m.1.at ≡ walk.at
-  same_time = let le = not-before moves walk.seen m here walk.at w.ahead in omega arith
+    (here : slice_get moves walk.seen ≡ Some m) where
+  seen_more : (powers : List ℕ) → powers ≡ map (power_on (take walk.seen moves ++ m ∷ [])) (range_with_len 1 most_ports) →
+      ChangesBy walk.at m →
+      IsWalk plan moves (record walk { seen = walk.seen + 1; powers = powers })
+  seen_more powers are by = record {
+    powers_are = are ∙ ap (λ (l : Moves). map (power_on l) (range_with_len 1 most_ports)) (sym (take-next moves walk.seen m here));
+    some_are_seen = let within = slice_get_within moves walk.seen m here in omega arith;
+    past = changes-by-next moves walk.seen m here walk.at by w.past;
+    ahead = none-before-rest moves walk.seen m here walk.at w.ahead;
+    before_is = w.before_is;
+    knows = record { budget_is = w.knows.budget_is; next_is = w.knows.next_is };
+    in_time = w.in_time;
+  }
 
-  pub walk-noted : IsWalk plan moves (noted_walk walk m.0 m.1.contract)
-  walk-noted =
+  -- of its instant
+  pub walk-noted : InOrder moves → m.1.at ≤ walk.at → IsWalk plan moves (noted_walk walk m.0 m.1.contract)
+  walk-noted order now =
       let known = on-port moves walk.seen m here order in
-      let P : ℕ → Type 0 = λ t. NoneLater t (take (walk.seen + 1) moves) in
-      let A : ℕ → Type 0 = λ t. NoneBefore t (drop (walk.seen + 1) moves) in
-      record {
-        powers_are =
-            ap (λ l. noted l m.0 m.1.contract) w.powers_are
-            ∙ powers-more (take walk.seen moves) m most_ports m.1.contract refl known.0 known.1
-            ∙ ap (λ (l : Moves). map (power_on l) (range_with_len 1 most_ports)) (sym (take-next moves walk.seen m here));
-        some_are_seen = let within = slice_get_within moves walk.seen m here in omega arith;
-        past = subst P same_time (none-later-next moves walk.seen m here walk.at (omega (arith, same_time)) w.past);
-        ahead = subst A same_time (none-before-next moves walk.seen m here order);
-        before_is = w.before_is;
-        knows = record { budget_is = w.knows.budget_is; next_is = w.knows.next_is };
-        in_time = w.in_time;
-      }
+      seen_more (noted walk.powers m.0 m.1.contract)
+      (ap (λ l. noted l m.0 m.1.contract) w.powers_are
+      ∙ powers-more (take walk.seen moves) m most_ports m.1.contract refl known.0 known.1)
+      (λ some. now)
+
+  -- that changes no contract
+  pub walk-passed : ¬ Leaves Contract m → IsWalk plan moves (record walk { seen = walk.seen + 1 })
+  walk-passed unchanged =
+      seen_more walk.powers (w.powers_are ∙ powers-same (take walk.seen moves) m 1 most_ports (none_of m.1.contract unchanged))
+      (λ some. absurd (unchanged some))
 
   pub less-noted : left_of plan moves (noted_walk walk m.0 m.1.contract) < left_of plan moves walk
   less-noted = let within = slice_get_within moves walk.seen m here in omega arith
+
+-- entries that change no contract are passed
+module _ (plan : Plan) (moves : Moves) (walk : Walk) where
+  seen_by : ℕ → Walk
+  seen_by k = record walk { seen = k }
+
+  pub walk-passes : (to : ℕ) → walk.seen ≤ to → to ≤ length moves → NoneLeaves Contract moves walk.seen to → IsWalk plan moves walk →
+      IsWalk plan moves (record walk { seen = to })
+  unfolding seen_by
+  walk-passes to up within none w = along (λ k. IsWalk plan moves (seen_by k)) walk.seen to up w step
+    where
+      step : (k : ℕ) → walk.seen ≤ k → k < to → IsWalk plan moves (seen_by k) → IsWalk plan moves (seen_by (k + 1))
+      step k low high is =
+          let m = at_index moves k (omega arith) in
+          walk-passed plan moves (seen_by k) m.0 is m.1 (not_left Contract moves walk.seen to k m.0 none low high m.1)
 
 -- ---- the start and the end
 
@@ -182,7 +212,7 @@ pub walk-start : (plan : Plan) (moves : Moves) (walk : Walk) → walk.seen ≡ 0
     walk.before ≡ None → KnowsBudget plan walk →
     IsWalk plan moves walk
 walk-start plan moves walk seen powers at before knows =
-    let P : ℕ → ℕ → Type 0 = λ t k. NoneLater t (take k moves) in
+    let P : ℕ → ℕ → Type 0 = λ t k. NoChangeLater t (take k moves) in
     let A : ℕ → ℕ → Type 0 = λ t k. NoneBefore t (drop k moves) in
     record {
       powers_are = powers ∙ powers-start 1 most_ports ∙ ap (λ k. map (power_on (take k moves)) (range_with_len 1 most_ports)) (sym seen);

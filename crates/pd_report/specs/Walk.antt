@@ -1,5 +1,5 @@
 -- How far a walk over the entries of a run and the changes of the budget has come.
-use Rattle.std.specs.Prelude.{◌≡◌, ℕ, ◌+◌, ◌-◌, ◌==◌, ◌<◌, ◌≤◌, ◌&&◌, if◌then◌else◌, List, [], length, take, drop, map, sum, slice_set}
+use Rattle.std.specs.Prelude.{◌≡◌, ℕ, ◌+◌, ◌-◌, ◌==◌, ◌<◌, ◌≤◌, ◌&&◌, if◌then◌else◌, List, [], length, take, drop, map, sum, slice_set, IsSome}
 use Rattle.std.specs.Prelude.{Option, Some, None}
 use Rattle.std.specs.List.{AllByRecursion, flat_map, range_with_len}
 use Rattle.pd_port.specs.declared.entry.ContractChange.{ContractChange}
@@ -51,19 +51,24 @@ pub record GoesOnTo (plan : Plan) (walk : Walk) (at : ℕ) (new : Walk) : Type 0
   pub before_is : new.before ≡ Some (standing_of walk)
   pub knows : KnowsBudget plan new
 
--- no entry is later than a time; none is before it
-abbrev pub NoneLater : ℕ → List (ℕ × Entry) → Type 0
-NoneLater t moves = AllByRecursion (λ move. move.1.at ≤ t) moves
+-- a change of a contract is no later than a time
+abbrev pub ChangesBy : ℕ → ℕ × Entry → Type 0
+ChangesBy t move = IsSome move.1.contract → move.1.at ≤ t
 
+-- no change is later than a time
+abbrev pub NoChangeLater : ℕ → List (ℕ × Entry) → Type 0
+NoChangeLater t moves = AllByRecursion (ChangesBy t) moves
+
+-- no entry is before a time
 abbrev pub NoneBefore : ℕ → List (ℕ × Entry) → Type 0
 NoneBefore t moves = AllByRecursion (λ move. t ≤ move.1.at) moves
 
 -- The walk has seen some of the entries: it knows the power of each port's contract after them, stands at an instant that is
--- not before any of them nor after any other, and knows what stood before that instant and the budget there.
+-- not before any change among them nor after any other entry, and knows what stood before that instant and the budget there.
 pub record IsWalk (plan : Plan) (moves : List (ℕ × Entry)) (walk : Walk) : Type 0 where
   pub powers_are : walk.powers ≡ map (power_on (take walk.seen moves)) (range_with_len 1 most_ports)
   pub some_are_seen : walk.seen ≤ length moves
-  pub past : NoneLater walk.at (take walk.seen moves)
+  pub past : NoChangeLater walk.at (take walk.seen moves)
   pub ahead : NoneBefore walk.at (drop walk.seen moves)
   pub before_is : walk.before ≡ standing_before plan moves walk.at
   pub knows : KnowsBudget plan walk

@@ -8,7 +8,7 @@ use crate::line::start_of_line;
 use crate::page::{PAGE, Show, write_entries};
 use pd_device::{BenchFault, Text, TextOut, write_all};
 use pd_port::{ContractChange, Entry};
-use pd_run::Runner;
+use pd_run::{Note, Runner};
 
 /// The most bytes of a line.
 const WIDTH: usize = 160;
@@ -35,6 +35,10 @@ struct EachChange;
 
 impl Show for EachChange {
     ghost adds = { λ _ move. contract_line move };
+
+    fn note(&self) -> Note {
+        Note::Contract
+    }
 
     #[tactic(auto, unfolding(crate::specs::ContractLines::change_text))]
     fn add(&self, port: usize, entry: &Entry, page: &mut Text<PAGE>) {

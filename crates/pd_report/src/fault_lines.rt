@@ -13,7 +13,7 @@ use crate::report::side_text;
 use pd_device::{BenchFault, Text, TextOut, write_all};
 use pd_header::{Kind, Side};
 use pd_port::{Entry, Fault};
-use pd_run::Runner;
+use pd_run::{Note, Runner};
 
 /// The most bytes of a line.
 const WIDTH: usize = 160;
@@ -43,6 +43,10 @@ struct EachFault;
 
 impl Show for EachFault {
     ghost adds = { λ _ move. fault_lines move };
+
+    fn note(&self) -> Note {
+        Note::Fault
+    }
 
     fn add(&self, port: usize, entry: &Entry, page: &mut Text<PAGE>) {
         // Read for the prover alone: that there are at most eight.

@@ -5,12 +5,13 @@ ghost use Rattle.std.specs.Prelude.{unwrap_or, IfSome};
 ghost use Rattle.pd_device.specs.Device.{CountsFailure, Writes};
 ghost use Rattle.pd_report.specs.Margins.{margins_text};
 ghost use Rattle.pd_report.specs.Walk.{IsWalk, NoneBefore, left_of, text_before};
+ghost use Rattle.pd_scenario.specs.Plan.{Plan};
 ghost use Rattle.pd_scenario.specs.Plans.{plan_of};
 
 use crate::page::{MOST, PAGE};
 use crate::walk::{WIDTH, Walk};
 use pd_device::{BenchFault, Text, TextOut, write_all, write_text};
-use pd_run::Runner;
+use pd_run::{Note, Runner};
 use pd_scenario::Scenario;
 
 /// Writes what the contracts of all ports take of the scenario's budget and what they leave of it, in microwatts: a line
@@ -79,9 +80,39 @@ fn add_step<const N: usize, T: Runner<N>>(
     }
 }
 
+/// Sees the next entry that changes a contract, or goes on to the next instant, and answers the line of the one that has ended.
+fn step<const N: usize, T: Runner<N>>(
+    run: &T,
+    scenario: &Scenario<N>,
+    walk: &mut Walk,
+) -> Option<Text<WIDTH>>
+    requires walk { IsWalk (plan_of scenario.now) (T.entries run.now) walk.old }
+    requires in_time { walk.old.at ≤ (plan_of scenario.now).end }
+    ensures walk { IsWalk (plan_of scenario.now) (T.entries run.now) walk.new }
+    ensures text { text_before (plan_of scenario.now) (T.entries run.now) walk.new.at
+        ≡ text_before (plan_of scenario.now) (T.entries run.now) walk.old.at ++ unwrap_or result [] }
+    ensures short { IfSome result (λ line. length line ≤ WIDTH) }
+    ensures less { left_of (plan_of scenario.now) (T.entries run.now) walk.new
+        < left_of (plan_of scenario.now) (T.entries run.now) walk.old }
+{
+    pass(run, walk);
+    see(run, scenario, walk)
+}
+
+/// Passes the entries that change no contract.
+fn pass<const N: usize, T: Runner<N>>(run: &T, walk: &mut Walk)
+    requires seen { walk.old.seen ≤ length (T.entries run.now) }
+    ensures walk { (plan : Plan) → IsWalk plan (T.entries run.now) walk.old → IsWalk plan (T.entries run.now) walk.new }
+    ensures still { walk.new.at ≡ walk.old.at }
+    ensures up { walk.old.seen ≤ walk.new.seen }
+{
+    let _count = run.len();
+    walk.seen = run.next_with(Note::Contract, walk.seen);
+}
+
 /// Sees the next entry of the instant at which the walk stands. Where there is none left, that instant has ended: goes on to
 /// the next one at which something may change, and answers the line of the one that has ended.
-fn step<const N: usize, T: Runner<N>>(
+fn see<const N: usize, T: Runner<N>>(
     run: &T,
     scenario: &Scenario<N>,
     walk: &mut Walk,

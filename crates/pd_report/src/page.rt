@@ -1,13 +1,14 @@
 //! Shows that are written a page at a time.
 
-ghost use Rattle.std.specs.Prelude.{◌≡◌, ◌+◌, ◌<◌, ◌≤◌, ◌++◌, ℕ, List, MatchOption, length, slice_get, take};
+ghost use Rattle.std.specs.Prelude.{◌≡◌, ◌+◌, ◌<◌, ◌≤◌, ◌++◌, ℕ, List, [], MatchOption, length, slice_get, take};
 ghost use Rattle.std.specs.List.{flat_map};
 ghost use Rattle.pd_device.specs.Device.{CountsFailure, Writes};
 ghost use Rattle.pd_port.specs.declared.entry.Entry.{Entry as EntryData};
+ghost use Rattle.pd_run.specs.Notes.{Leaves};
 
 use pd_device::{BenchFault, Text, TextOut, write_text};
 use pd_port::Entry;
-use pd_run::Runner;
+use pd_run::{Note, Runner};
 
 /// The most bytes of a page.
 pub(crate) const PAGE: usize = 8_192;
@@ -19,6 +20,10 @@ pub(crate) const MOST: usize = 1_280;
 pub(crate) trait Show {
     /// What a port's entry adds.
     ghost adds: { Self → ℕ × EntryData → List ℕ };
+
+    /// What it shows: an entry that doesn't leave this adds nothing.
+    fn note(&self) -> Note
+        ensures { (move : ℕ × EntryData) → ¬ Leaves result move → adds self.now move ≡ [] };
 
     /// Adds to a page what an entry adds to the show.
     fn add(&self, port: usize, entry: &Entry, page: &mut Text<PAGE>)
@@ -59,14 +64,14 @@ fn page_from<const N: usize, S: Show, T: Runner<N>>(
     ensures text { flat_map (S.adds show.now) (take result.1 (T.entries run.now))
         ≡ flat_map (S.adds show.now) (take from (T.entries run.now)) ++ result.0 }
 {
+    let note = show.note();
     let mut page = Text::new();
-    for index in from..run.len() {
+    let mut index = from;
+    while index < run.len() && page.as_slice().len() <= PAGE - MOST {
         add_entry(show, run, index, &mut page);
-        if page.as_slice().len() > PAGE - MOST {
-            return (page, index + 1);
-        }
+        index = run.next_with(note, index + 1);
     }
-    (page, run.len())
+    (page, index)
 }
 
 /// Adds to a page what the entry at an index adds to a show.

@@ -10,7 +10,7 @@ use pd_device::{BenchFault, Text, TextOut, write_text};
 use pd_header::{Side, header_id, header_kind};
 use pd_packet::{Fate, Packet, codes_of};
 use pd_port::{Entry, Start};
-use pd_run::Runner;
+use pd_run::{Note, Runner};
 use pd_symbols::{Channel, OrderedSet, ordered};
 
 /// The most bytes of a line.
@@ -41,6 +41,10 @@ struct OfPort {
 
 impl Show for OfPort {
     ghost adds = { λ show move. line_of show.port move };
+
+    fn note(&self) -> Note {
+        Note::Packet { port: self.port }
+    }
 
     #[tactic(auto, unfolding(crate::specs::Report::line_of))]
     fn add(&self, port: usize, entry: &Entry, page: &mut Text<PAGE>) {

@@ -8,8 +8,8 @@ use Rattle.pd_report.specs.declared.walk.Walk.{Walk}
 use Rattle.pd_report.proofs.MarginLemmas.{Moves, in-order, on-port, none-before-less}
 use Rattle.pd_report.proofs.BudgetLemmas.{next-later}
 use Rattle.pd_report.proofs.WalkLemmas.{walk-noted, less-noted, walk-on, text-on, less-on}
-use Rattle.pd_report.proofs.margin_lines.step.Goals as goal
-use Rattle.pd_report.proofs.margin_lines.step.Goals.{in-Some+else-entry-walk, in_default}
+use Rattle.pd_report.proofs.margin_lines.see.Goals as goal
+use Rattle.pd_report.proofs.margin_lines.see.Goals.{in-Some+else-entry-walk, in_default}
 
 pub note-requires-clause-from_one : goal.note-requires-clause-from_one
 note-requires-clause-from_one g c =
@@ -41,8 +41,7 @@ returns-then-entry-walk-clause-less g c =
     let plan : Plan = plan_of c.args.scenario.now in
     let moves : Moves = g.T.Runner.entries c.args.run.now in
     subst (λ (w : Walk). left_of plan moves w < left_of plan moves c.args.walk.now) (sym c.note.ensures)
-    (less-noted plan moves c.args.walk.now (c.in-Some.port, c.in-Some.entry.now) c.requires.walk (sym c.in-Some.ensures.entry)
-    (in-order _ _ _ c.entry.ensures.run) c.if-entry-walk.true)
+    (less-noted plan moves c.args.walk.now (c.in-Some.port, c.in-Some.entry.now) c.requires.walk (sym c.in-Some.ensures.entry))
 
 pub go_on-requires : goal.go_on-requires
 go_on-requires g c =
