@@ -6,5 +6,6 @@ pub mod InTime
 pub mod Later
 pub mod Made
 pub mod Paid
+pub mod Noted
 pub mod Parted
 pub mod Places

@@ -2,7 +2,9 @@
 use Rattle.std.specs.Prelude.{◌≡◌, ℕ, ◌<◌, List, length, slice_index, slice_index_or}
 use Rattle.pd_port.specs.declared.entry.Entry.{Entry}
 use Rattle.pd_port.specs.Port.{PortData}
+use Rattle.pd_run.specs.declared.note.Marks.{Marks}
 use Rattle.pd_run.specs.Live.{LiveData, port_at}
+use Rattle.pd_run.specs.Notes.{marks_of}
 use Rattle.pd_run.specs.Start.{no_port}
 use Rattle.pd_keep.specs.declared.kept_move.KeptMove.{KeptMove}
 use Rattle.pd_keep.specs.Kept.{KeptData}
@@ -27,6 +29,10 @@ kept_in records m = record {
 -- what a move shows
 abbrev pub shown_of : KeptData → ℕ × Entry
 shown_of k = (k.port, k.entry)
+
+-- the marks of a move's entry
+abbrev pub marks_kept : KeptMove → Marks
+marks_kept m = marks_of (m.port, m.entry)
 
 -- its records are among these
 pub record IsPlaced (records : List PortData) (m : KeptMove) : Type 0 where

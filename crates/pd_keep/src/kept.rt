@@ -11,7 +11,7 @@ ghost use Rattle.pd_keep.specs.Fresh.{IsCharged};
 use crate::rerun::rerun;
 use crate::spans::Spans;
 use pd_port::{Entry, Meter};
-use pd_run::{Plan, Runner};
+use pd_run::{Note, Plan, Runner};
 use pd_scenario::Scenario;
 use std::alloc::{AllocError, Global};
 use std::marker::Model;
@@ -88,5 +88,12 @@ impl<const N: usize> Runner<N> for Kept<N> {
     fn entry(&self, i: usize) -> Option<(usize, &Entry)> {
         let run = self.run.as_ref()?;
         run.spans.entry(i)
+    }
+
+    fn next_with(&self, note: Note, from: usize) -> usize {
+        match &self.run {
+            Some(run) => run.spans.next_with(note, from),
+            None => 0,
+        }
     }
 }

@@ -2,12 +2,14 @@
 
 ghost use Rattle.std.specs.Prelude.{◌≡◌, ◌↔◌, ◌<◌, ◌≤◌, ◌++◌, ◌∷◌, ℕ, [], List, IsTrue, IfOk, OnOk, All, length, map, slice_get, slice_index_or};
 ghost use Rattle.std.specs.Prelude.{option_map, take};
+ghost use Rattle.pd_run.specs.Notes.{IsNextWith};
 ghost use Rattle.pd_run.specs.Start.{no_port};
 ghost use Rattle.pd_keep.specs.Kept.{KeptData, kept_of, IsMade};
 ghost use Rattle.pd_keep.specs.Places.{RunData, kept_in, shown_of, IsPlaced};
 
 use pd_objects::Answer;
 use pd_port::{Due, Entry, Port};
+use pd_run::{Marks, Note};
 use std::alloc::{AllocError, Global};
 use std::marker::Model;
 
@@ -24,23 +26,24 @@ pub struct KeptMove {
 }
 
 /// Moves of a run up to a time, and the ports as they were before and after them: each port stands once for all moves that it is
-/// between.
+/// between. Beside the moves stand the marks of their entries, so that whoever looks for a note reads these alone.
 #[derive(Drop)]
 pub struct KeptMoves {
     to: u64,
     records: Vec<Port>,
     moves: Vec<KeptMove>,
+    marks: Vec<Marks>,
 }
 
 impl Model for KeptMoves {
-    ghost use Rattle.std.specs.Prelude.{All, map};
-    ghost use Rattle.pd_keep.specs.Places.{RunData, kept_in, IsPlaced};
+    ghost use Rattle.std.specs.Prelude.{◌≡◌, All, map};
+    ghost use Rattle.pd_keep.specs.Places.{RunData, kept_in, marks_kept, IsPlaced};
 
     ghost Value = { RunData };
 
     ghost view = { λ r. record { to = r.to; records = r.records.items; moves = map (kept_in r.records.items) r.moves.items } };
 
-    ghost invariant = { λ r. All (IsPlaced r.records.items) r.moves.items };
+    ghost invariant = { λ r. All (IsPlaced r.records.items) r.moves.items × (r.marks.items ≡ map marks_kept r.moves.items) };
 }
 
 impl KeptMoves {
@@ -52,6 +55,7 @@ impl KeptMoves {
             to: 0,
             records: Vec::new(alloc),
             moves: Vec::new(alloc),
+            marks: Vec::new(alloc),
         }
     }
 
@@ -82,6 +86,20 @@ impl KeptMoves {
     {
         let kept = self.moves.get(i)?;
         Some((kept.port, &kept.entry))
+    }
+
+    /// The place of the first move from one on whose entry leaves a note, or the number of moves where none does.
+    pub fn next_with(&self, note: Note, from: usize) -> usize
+        ensures { IsNextWith note (map shown_of self.now.moves) from result }
+    {
+        let mut at = from.min(self.marks.len());
+        while let Some(marks) = self.marks.get(at) {
+            if marks.have(note) {
+                return at;
+            }
+            at += 1;
+        }
+        at
     }
 
     /// Whether a port is the one that is kept at a place.
@@ -172,10 +190,14 @@ impl KeptMoves {
     /// # Errors
     /// There is no memory.
     pub fn push(&mut self, kept: KeptMove) -> Result<(), AllocError>
-        requires { IsPlaced self.old.records kept }
+        requires placed { IsPlaced self.old.records kept }
+        requires port { kept.port < 256 }
         ensures { OnOk result (self.new ≡ record self.old { moves = self.old.moves ++ kept_in self.old.records kept ∷ [] }) }
     {
+        let marks = Marks::of(kept.port, &kept.entry);
+        self.marks.reserve(1)?;
         self.moves.push(kept)?;
+        self.marks.push_reserved(marks);
         Ok(())
     }
 }

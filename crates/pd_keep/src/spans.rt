@@ -1,12 +1,14 @@
 //! The moves of a run in spans, which runs share.
 
 ghost use Rattle.std.specs.Prelude.{◌≡◌, ◌+◌, ◌++◌, ◌∷◌, [], ℕ, OnOk, IfSome, length, map, option_map, slice_get};
+ghost use Rattle.pd_run.specs.Notes.{IsNextWith};
 ghost use Rattle.pd_keep.specs.Firsts.{IsPlaceOf};
 ghost use Rattle.pd_keep.specs.Places.{shown_of};
 ghost use Rattle.pd_keep.specs.Spans.{kept_of_spans};
 
 use crate::kept_move::KeptMoves;
 use pd_port::Entry;
+use pd_run::Note;
 use std::alloc::{AllocError, Global};
 use std::marker::Model;
 use std::rc::Rc;
@@ -96,6 +98,22 @@ impl Spans {
         let place = self.place_of(i);
         let span = self.spans.get(place)?;
         span.kept.entry(i - span.first)
+    }
+
+    /// The place of the first move from one on whose entry leaves a note, or the number of moves where none does.
+    pub fn next_with(&self, note: Note, from: usize) -> usize
+        ensures { IsNextWith note (map shown_of (kept_of_spans self.now)) from result }
+    {
+        let len = self.len();
+        let mut place = self.place_of(from);
+        while let Some(span) = self.spans.get(place) {
+            let next = span.kept.next_with(note, from.saturating_sub(span.first));
+            if next < span.kept.len() {
+                return span.first + next;
+            }
+            place += 1;
+        }
+        len
     }
 
     // The span that has a move, which is the last one that doesn't begin after it.

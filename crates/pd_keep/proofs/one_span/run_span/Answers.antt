@@ -79,7 +79,11 @@ push-requires g c =
     let more = ap (λ (r : RunData). length r.records) c.in_ok-after.ensures.added in
     let one_more = length_push records c.copy.result in
     let there = i.at p known in
-    record { before = omega (arith, there.0); after = omega (arith, c.in_ok-after.ensures.place) }
+    let few = c.in-Some.ensures.is_plan.few_ports in
+    record {
+      placed = record { before = omega (arith, there.0); after = omega (arith, c.in_ok-after.ensures.place) };
+      port = omega (arith, known, few);
+    }
 
 pub loop-port-init : goal.loop-port-init
 loop-port-init g c =
