@@ -37,8 +37,8 @@ module _ (note : Note) (moves : List (ℕ × Entry)) where
       subst (λ (o : Option (ℕ × Entry)). IfSome o (λ x. ¬ Leaves note x)) here (none i low high)
 
   -- a show gets nothing from entries without its note
-  pub text_passed : (f : ℕ × Entry → List ℕ) (from to : ℕ) → ((m : ℕ × Entry) → ¬ Leaves note m → f m ≡ []) → from ≤ to → to ≤ length moves →
-      NoneLeaves note moves from to →
+  pub text_passed : (f : ℕ × Entry → List ℕ) (from to : ℕ) → ((m : ℕ × Entry) → ¬ Leaves note m → f m ≡ []) → from ≤ to →
+      to ≤ length moves → NoneLeaves note moves from to →
       flat_map f (take to moves) ≡ flat_map f (take from moves)
   text_passed f from to silent up within none = along (λ k. flat_map f (take k moves) ≡ flat_map f (take from moves)) from to up refl step
     where

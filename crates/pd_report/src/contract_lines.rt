@@ -4,7 +4,7 @@ ghost use Rattle.std.specs.Prelude.{◌≡◌, ◌+◌, ◌<◌, ◌≤◌, ◌+
 ghost use Rattle.pd_device.specs.Device.{CountsFailure, Writes};
 ghost use Rattle.pd_report.specs.ContractLines.{change_text, contract_line, contracts_text};
 
-use crate::line::start_of_line;
+use crate::line::push_start;
 use crate::page::{PAGE, Show, write_entries};
 use pd_device::{BenchFault, Text, TextOut, write_all};
 use pd_port::{ContractChange, Entry};
@@ -53,7 +53,8 @@ fn change_line(at: u64, port: usize, change: ContractChange) -> Text<WIDTH>
     ensures text { result ≡ change_text at port (Some change) }
     ensures short { length result ≤ WIDTH }
 {
-    let mut text = start_of_line(at, port);
+    let mut text = Text::new();
+    push_start(&mut text, at, port);
     match change {
         ContractChange::Made(contract) => {
             text.push_all(b"contract ");

@@ -7,7 +7,7 @@ ghost use Rattle.pd_device.specs.Device.{CountsFailure, Writes};
 ghost use Rattle.pd_report.specs.FaultLines.{fault_words, fault_text, fault_lines, faults_text};
 ghost use Rattle.pd_report.specs.Report.{side_text as side_words};
 
-use crate::line::start_of_line;
+use crate::line::push_start;
 use crate::page::{MOST, PAGE, Show, write_entries};
 use crate::report::side_text;
 use pd_device::{BenchFault, Text, TextOut, write_all};
@@ -61,74 +61,68 @@ fn add_faults(at: u64, port: usize, faults: &[Fault], page: &mut Text<PAGE>)
     ensures { page.new ≡ page.old ++ flat_map (fault_text at port) faults.now }
 {
     for fault in faults {
-        page.push_all(fault_line(at, port, *fault).as_slice());
+        add_fault(at, port, *fault, page);
     }
 }
 
 #[tactic(auto, unfolding(crate::specs::FaultLines::fault_text))]
-fn fault_line(at: u64, port: usize, fault: Fault) -> Text<WIDTH>
-    ensures text { result ≡ fault_text at port fault }
-    ensures short { length result ≤ WIDTH }
+fn add_fault(at: u64, port: usize, fault: Fault, page: &mut Text<PAGE>)
+    requires room { length page.old + WIDTH ≤ PAGE }
+    ensures text { page.new ≡ page.old ++ fault_text at port fault }
+    ensures short { length page.new ≤ length page.old + WIDTH }
 {
-    let mut text = start_of_line(at, port);
-    text.push_all(words_of(fault).as_slice());
-    text.push_all(b"\n");
-    text
+    push_start(page, at, port);
+    push_words(page, fault);
+    page.push_all(b"\n");
 }
 
 #[tactic(auto, unfolding(crate::specs::FaultLines::fault_words))]
-fn words_of(fault: Fault) -> Text<WORDS>
-    ensures words { result ≡ fault_words fault }
-    ensures short { length result ≤ WORDS }
+fn push_words(page: &mut Text<PAGE>, fault: Fault)
+    requires room { length page.old + WORDS ≤ PAGE }
+    ensures words { page.new ≡ page.old ++ fault_words fault }
+    ensures short { length page.new ≤ length page.old + WORDS }
 {
     match fault {
-        Fault::NoGoodCrc { side, kind } => no_good_crc(side, kind),
-        Fault::SoftReset { side } => reset_by(b"soft reset by ", side),
-        Fault::HardReset { side } => reset_by(b"hard reset by ", side),
-        Fault::SourceDisabled => text_of(b"source disabled"),
-        Fault::SinkDisabled => text_of(b"sink disabled"),
-        Fault::CableUnread => text_of(b"cable unread"),
-        Fault::Mismatch => text_of(b"mismatch"),
-        Fault::Reject => text_of(b"reject"),
-        Fault::Wait => text_of(b"wait"),
-        Fault::Ignored { id } => ignored(id),
+        Fault::NoGoodCrc { side, kind } => push_no_good_crc(page, side, kind),
+        Fault::SoftReset { side } => push_reset(page, b"soft reset by ", side),
+        Fault::HardReset { side } => push_reset(page, b"hard reset by ", side),
+        Fault::SourceDisabled => page.push_all(b"source disabled"),
+        Fault::SinkDisabled => page.push_all(b"sink disabled"),
+        Fault::CableUnread => page.push_all(b"cable unread"),
+        Fault::Mismatch => page.push_all(b"mismatch"),
+        Fault::Reject => page.push_all(b"reject"),
+        Fault::Wait => page.push_all(b"wait"),
+        Fault::Ignored { id } => push_ignored(page, id),
     }
 }
 
-fn text_of(words: &[u8]) -> Text<WORDS>
-    requires { length words.now ≤ 20 }
-    ensures { result ≡ words.now }
-{
-    let mut text = Text::new();
-    text.push_all(words);
-    text
-}
-
-fn no_good_crc(side: Side, kind: Kind) -> Text<WORDS>
-    ensures { result ≡ side_words side ++ codes " no GoodCRC " ++ name_of kind }
+fn push_no_good_crc(page: &mut Text<PAGE>, side: Side, kind: Kind)
+    requires room { length page.old + WORDS ≤ PAGE }
+    ensures words { page.new ≡ page.old ++ (side_words side ++ codes " no GoodCRC " ++ name_of kind) }
+    ensures short { length page.new ≤ length page.old + WORDS }
 {
     let name = kind.name();
-    let mut text = Text::new();
-    text.push_all(side_text(side));
-    text.push_all(b" no GoodCRC ");
-    text.push_all(name.as_str().as_bytes());
-    text
+    page.push_all(side_text(side));
+    page.push_all(b" no GoodCRC ");
+    page.push_all(name.as_str().as_bytes());
 }
 
-fn reset_by(words: &[u8], side: Side) -> Text<WORDS>
-    requires { length words.now ≤ 20 }
-    ensures { result ≡ words.now ++ side_words side }
+fn push_reset(page: &mut Text<PAGE>, words: &[u8], side: Side)
+    requires room { length page.old + WORDS ≤ PAGE }
+    requires few { length words.now ≤ 20 }
+    ensures words { page.new ≡ page.old ++ (words.now ++ side_words side) }
+    ensures short { length page.new ≤ length page.old + WORDS }
 {
-    let mut text = text_of(words);
-    text.push_all(side_text(side));
-    text
+    page.push_all(words);
+    page.push_all(side_text(side));
 }
 
-fn ignored(id: u32) -> Text<WORDS>
-    ensures { result ≡ codes "event " ++ decimal id ++ codes " ignored" }
+fn push_ignored(page: &mut Text<PAGE>, id: u32)
+    requires room { length page.old + WORDS ≤ PAGE }
+    ensures words { page.new ≡ page.old ++ (codes "event " ++ decimal id ++ codes " ignored") }
+    ensures short { length page.new ≤ length page.old + WORDS }
 {
-    let mut text = text_of(b"event ");
-    text.push_number(u64::from(id));
-    text.push_all(b" ignored");
-    text
+    page.push_all(b"event ");
+    page.push_number(u64::from(id));
+    page.push_all(b" ignored");
 }
