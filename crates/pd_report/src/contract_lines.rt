@@ -2,7 +2,7 @@
 
 ghost use Rattle.std.specs.Prelude.{◌≡◌, ◌+◌, ◌<◌, ◌≤◌, ◌++◌, List, ℕ, [], length, decimal, codes, Some};
 ghost use Rattle.pd_device.specs.Device.{CountsFailure, Writes};
-ghost use Rattle.pd_report.specs.ContractLines.{change_text, contract_line, contracts_text};
+ghost use Rattle.pd_report.specs.ContractLines.{change_text, change_words, contract_line, contracts_text};
 
 use crate::line::push_start;
 use crate::page::{PAGE, Show, write_entries};
@@ -12,6 +12,9 @@ use pd_run::{Note, Runner};
 
 /// The most bytes of a line.
 const WIDTH: usize = 160;
+
+/// The most bytes of a change's words.
+const WORDS: usize = 80;
 
 /// Writes the changes of the contracts of all ports, a line for each.
 ///
@@ -43,30 +46,36 @@ impl Show for EachChange {
     #[tactic(auto, unfolding(crate::specs::ContractLines::change_text))]
     fn add(&self, port: usize, entry: &Entry, page: &mut Text<PAGE>) {
         if let Some(change) = entry.contract {
-            page.push_all(change_line(entry.at, port, change).as_slice());
+            add_change(entry.at, port, change, page);
         }
     }
 }
 
 #[tactic(auto, unfolding(crate::specs::ContractLines::change_text))]
-fn change_line(at: u64, port: usize, change: ContractChange) -> Text<WIDTH>
-    ensures text { result ≡ change_text at port (Some change) }
-    ensures short { length result ≤ WIDTH }
+fn add_change(at: u64, port: usize, change: ContractChange, page: &mut Text<PAGE>)
+    requires { length page.old + WIDTH ≤ PAGE }
+    ensures { page.new ≡ page.old ++ change_text at port (Some change) }
 {
-    let mut text = Text::new();
-    push_start(&mut text, at, port);
+    push_start(page, at, port);
+    push_words(page, change);
+    page.push_all(b"\n");
+}
+
+fn push_words(page: &mut Text<PAGE>, change: ContractChange)
+    requires { length page.old + WORDS ≤ PAGE }
+    ensures words { page.new ≡ page.old ++ change_words change }
+    ensures short { length page.new ≤ length page.old + WORDS }
+{
     match change {
         ContractChange::Made(contract) => {
-            text.push_all(b"contract ");
-            text.push_number(u64::from(contract.position));
-            text.push_all(b" ");
-            text.push_number(u64::from(contract.mv));
-            text.push_all(b" mV ");
-            text.push_number(u64::from(contract.ma));
-            text.push_all(b" mA");
+            page.push_all(b"contract ");
+            page.push_number(u64::from(contract.position));
+            page.push_all(b" ");
+            page.push_number(u64::from(contract.mv));
+            page.push_all(b" mV ");
+            page.push_number(u64::from(contract.ma));
+            page.push_all(b" mA");
         }
-        ContractChange::Lost => text.push_all(b"none"),
+        ContractChange::Lost => page.push_all(b"none"),
     }
-    text.push_all(b"\n");
-    text
 }
