@@ -1,5 +1,5 @@
 -- A run beside an older one.
-use Rattle.std.proofs.Common.{◌≡◌, ⊎_elim, inl, inr, ℕ, zero, suc, ◌+◌, ◌*◌, ◌-◌, ◌<◌, ◌≤◌, Bool, true, List, [], ◌∷◌, ◌++◌}
+use Rattle.std.proofs.Common.{◌≡◌, ⊎_elim, inl, inr, ℕ, zero, suc, ◌+◌, ◌-◌, ◌<◌, ◌≤◌, Bool, true, List, [], ◌∷◌, ◌++◌}
 use Rattle.std.proofs.lemmas.Option.{slice_get_within, slice_get-get_or}
 use Rattle.std.proofs.lemmas.Bool.{cases_lt}
 use Rattle.std.proofs.Common.{length, map, take, get_or, All, Contains, Some, None, slice_get, refl, ap, sym, ◌∙◌, subst, arith}
@@ -241,6 +241,7 @@ so_far_none n plan is = record {
   none : (k : ℕ) → before (begins_at [] k) (moves_of []) ≡ moves_of (take k [])
   none zero = refl
   none (suc k) = refl
+
   begins : (k : ℕ) → begins_at [] k ≤ 0
   begins zero = omega arith
   begins (suc k) = omega arith

@@ -1,7 +1,7 @@
 -- The next move that leaves a note.
-use Rattle.std.proofs.Common.{◌≡◌, ⊎_elim, ◌⊎◌, ℕ, ◌+◌, ◌-◌, ◌<◌, ◌≤◌, List, [], ◌∷◌, ◌++◌, length, map, All, take, drop, Option, None, Some, IfSome, slice_get, option_map, true, false}
-use Rattle.std.proofs.Common.{refl, ap, sym, ◌∙◌, subst, arith, zero, suc}
-use Rattle.std.specs.Prelude.{min, is_some, IsSome, IsTrue}
+use Rattle.std.proofs.Common.{◌≡◌, ⊎_elim, ℕ, ◌+◌, ◌-◌, ◌<◌, ◌≤◌, List, [], ◌∷◌, ◌++◌, length, map, All, take, drop, Option, None, Some, IfSome, slice_get, option_map}
+use Rattle.std.proofs.Common.{refl, ap, sym, ◌∙◌, subst, arith, suc}
+use Rattle.std.specs.Prelude.{min}
 use Rattle.std.proofs.Math.Nat.{min-le_left, min-le_right, min-eq_left, min-eq_right}
 use Rattle.std.proofs.lemmas.Bool.{cases_lt, lt-ltb, ltb-true}
 use Rattle.std.proofs.lemmas.List.{length-append, length-map}
@@ -10,7 +10,7 @@ use Rattle.pd_port.specs.declared.entry.Entry.{Entry}
 use Rattle.pd_scenario.specs.Plan.{Plan}
 use Rattle.pd_port.specs.Port.{PortData}
 use Rattle.pd_run.specs.Notes.{Leaves, NoneLeaves, IsNextWith, Have, marks_of}
-use Rattle.pd_run.specs.Run.{Move, shown}
+use Rattle.pd_run.specs.Run.{shown}
 use Rattle.pd_run.specs.declared.note.Marks.{Marks}
 use Rattle.pd_run.specs.declared.note.Note.{Note}
 use Rattle.pd_run.specs.declared.note.Note.TheVariants.{Contract, Fault, Packet}

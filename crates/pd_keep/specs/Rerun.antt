@@ -1,5 +1,5 @@
 -- A run beside an older one.
-use Rattle.std.specs.Prelude.{◌≡◌, ◌⊎◌, ℕ, ◌+◌, ◌*◌, ◌<◌, ◌≤◌, ◌++◌, ◌↔◌, Bool, true, List, [], length, map, slice_get, Some, All, Contains}
+use Rattle.std.specs.Prelude.{◌≡◌, ◌⊎◌, ℕ, ◌<◌, ◌≤◌, ◌++◌, ◌↔◌, Bool, true, List, [], length, map, slice_get, Some, All, Contains}
 use Rattle.std.specs.Prelude.{slice_index_or}
 use Rattle.pd_port.specs.Meter.{raised}
 use Rattle.pd_scenario.specs.Plan.{Plan, IsPlan}

@@ -1,4 +1,4 @@
-use Rattle.std.proofs.Common.{◌≡◌, ◌-◌, ◌%◌, ◌≤◌, ◌<◌, length, arith}
+use Rattle.std.proofs.Common.{◌-◌, ◌%◌, arith}
 use Rattle.pd_keep.proofs.InTime.{all_before}
 use Rattle.pd_keep.proofs.one_span.end_before.Goals as goal
 

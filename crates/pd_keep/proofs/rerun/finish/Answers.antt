@@ -1,4 +1,4 @@
-use Rattle.std.proofs.Common.{◌≡◌, ◌+◌, ◌≤◌, ◌<◌, [], List, ℕ, All, ap, sym, subst, arith}
+use Rattle.std.proofs.Common.{◌≡◌, ◌+◌, [], List, All, ap, sym, subst, arith}
 use Rattle.pd_run.proofs.Cut.{All-nil}
 use Rattle.pd_keep.specs.Kept.{KeptData, IsMade, AreInTime}
 use Rattle.pd_keep.specs.Places.{RunData}

@@ -1,12 +1,12 @@
-use Rattle.std.proofs.Common.{◌≡◌, ◌≤◌, ◌<◌, ◌++◌, ◌∷◌, [], List, ℕ, map, ap, sym, ◌∙◌, subst, arith}
+use Rattle.std.proofs.Common.{◌≡◌, ◌<◌, ◌++◌, ◌∷◌, [], List, map, ap, sym, ◌∙◌, subst, arith}
 use Rattle.pd_run.specs.Live.{StandsAfter}
 use Rattle.pd_run.specs.Run.{Move}
 use Rattle.pd_keep.specs.Kept.{KeptData, move_of}
 use Rattle.pd_keep.specs.Places.{RunData}
 use Rattle.pd_keep.specs.Rerun.{ComesTo, IsSoFar, StandsAlike, AreStanding, AreThose, Costs}
-use Rattle.pd_keep.specs.Spans.{kept_of_spans, moves_of, begins_at}
+use Rattle.pd_keep.specs.Spans.{kept_of_spans, moves_of}
 use Rattle.pd_keep.proofs.Beside.{IsShared, comes_alike, shares, next_costs}
-use Rattle.pd_keep.proofs.Parted.{InSpan, in_span, so_far_push, moves_push}
+use Rattle.pd_keep.proofs.Parted.{in_span, so_far_push, moves_push}
 use Rattle.pd_keep.proofs.rerun.next_spans.Goals as goal
 
 pub returns-then-stands_alike-clause-so_far : goal.returns-then-stands_alike-clause-so_far

@@ -1,13 +1,11 @@
-use Rattle.std.proofs.Common.{◌≡◌, ◌+◌, ◌-◌, ◌≤◌, ◌<◌, Bool, true, [], List, ℕ, None, Some, suc, length, map, slice_get, refl, arith, ap, sym, ◌∙◌, subst}
+use Rattle.std.proofs.Common.{◌≡◌, ◌+◌, List, None, Some, suc, slice_get, refl, arith, ap, sym, ◌∙◌, subst}
 use Rattle.std.proofs.lemmas.List.{take_all}
 use Rattle.std.proofs.lemmas.Option.{slice_get_within}
-use Rattle.pd_run.specs.Run.{Move}
 use Rattle.pd_run.specs.UpTo.{AgreeIn}
-use Rattle.pd_keep.specs.Kept.{move_of}
 use Rattle.pd_keep.specs.Places.{RunData}
-use Rattle.pd_keep.specs.Rerun.{Stands, ComesTo, IsSoFar, AreOver}
+use Rattle.pd_keep.specs.Rerun.{ComesTo}
 use Rattle.pd_keep.specs.Spans.{moves_of, end_of, begins_at}
-use Rattle.pd_keep.proofs.Beside.{so_far_none, done_alike, done_past, over_from, past_all, comes_to}
+use Rattle.pd_keep.proofs.Beside.{so_far_none, done_alike, over_from, past_all, comes_to}
 use Rattle.pd_keep.proofs.Parted.{end_next}
 use Rattle.pd_keep.proofs.rerun.run_beside.Goals as goal
 

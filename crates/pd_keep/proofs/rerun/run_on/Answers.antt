@@ -1,7 +1,7 @@
-use Rattle.std.proofs.Common.{◌≡◌, ◌⊎◌, ⊎_elim, inl, inr, ◌++◌, ◌∷◌, ◌≤◌, ◌<◌, ◌-◌, [], List, ℕ, map, arith, ap, sym, ◌∙◌, subst}
+use Rattle.std.proofs.Common.{◌≡◌, ⊎_elim, inr, ◌++◌, ◌∷◌, ◌≤◌, ◌<◌, [], List, map, arith, ap, sym, ◌∙◌, subst}
 use Rattle.pd_run.specs.Run.{Move}
 use Rattle.pd_run.specs.Live.{StandsAfter}
-use Rattle.pd_keep.specs.Kept.{KeptData, move_of}
+use Rattle.pd_keep.specs.Kept.{move_of}
 use Rattle.pd_keep.specs.Places.{RunData}
 use Rattle.pd_keep.specs.Rerun.{IsSoFar, IsNextSpan, Costs}
 use Rattle.pd_keep.specs.Spans.{moves_of}

@@ -6,7 +6,7 @@ use Rattle.pd_keep.specs.declared.kept.KeptRun.{KeptRun}
 use Rattle.pd_keep.specs.Fresh.{Running}
 use Rattle.pd_keep.specs.Places.{shown_of}
 use Rattle.pd_keep.specs.Running.{running, Keeps}
-use Rattle.pd_keep.specs.Spans.{IsKept, kept_of_spans, moves_of}
+use Rattle.pd_keep.specs.Spans.{IsKept, kept_of_spans}
 use Rattle.pd_keep.proofs.Noted.{shown_all}
 use Rattle.pd_keep.proofs.kept.KeptRunner.next_with.Goals as goal
 
