@@ -2,6 +2,8 @@
 #![tactic(auto)]
 
 #[cfg(test)]
+mod cost;
+#[cfg(test)]
 mod damages;
 mod devices;
 #[cfg(test)]

@@ -30,6 +30,16 @@ sink = [{ name = \"phone\", max = 5000, demand = 15000 }]
 event = [{ id = 1, at = 0, port = 1, kind = \"attach\", cable = \"thin\", sink = \"phone\" }]
 ";
 
+/// That port for two minutes.
+pub(crate) const TWO_MINUTES: &[u8] = b"version = 1
+end = 120000000
+budget = 60000
+port = [{ floor = 2500, identity_tries = 1, supplies = [[5000, 3000]] }]
+cable = [{ name = \"thin\", plug = \"none\", rating = 3000 }]
+sink = [{ name = \"phone\", max = 5000, demand = 15000 }]
+event = [{ id = 1, at = 0, port = 1, kind = \"attach\", cable = \"thin\", sink = \"phone\" }]
+";
+
 /// That port for ten seconds, and a sink that wants twice what is offered.
 pub(crate) const GREEDY: &[u8] = b"version = 1
 end = 10000000
