@@ -22,7 +22,8 @@ use Rattle.pd_keep.specs.Fresh.{IsRepeated, AreFresh}
 use Rattle.pd_keep.specs.Kept.{KeptData, move_of, IsOwn}
 use Rattle.pd_keep.specs.Places.{RunData}
 use Rattle.pd_keep.specs.Spans.{kept_of_spans, moves_of, end_of, begins_at, BeginsAfter, IsKept}
-use Rattle.pd_keep.specs.Rerun.{StandsAlike, Stands, Costs, IsNextSpan, ComesTo, BeginsWith, AreStanding, IsOld, IsSoFar, AreOver, AreThose, IsDone}
+use Rattle.pd_keep.specs.Rerun.{StandsAlike, Stands, Costs, IsNextSpan, ComesTo, BeginsWith}
+use Rattle.pd_keep.specs.Rerun.{AreStanding, IsOld, IsSoFar, AreOver, AreThose, IsDone}
 use Rattle.pd_keep.proofs.Parted.{in_span, moves_push}
 
 -- What moves cost.
@@ -197,7 +198,8 @@ over_those spans at to over = λ k ge lt. (
   λ h.
       let kept : List KeptData = kept_of_spans spans in
       let is : get_or (map move_of kept) h.0 (move_of k) ≡ move_of k = list_map.get_or-map move_of kept h.0 k ∙ ap move_of h.2 in
-      let time : (get_or (map move_of kept) h.0 (move_of k)).due.time < at = over h.0 (move_of k) (omega (arith, length-map kept move_of, h.1)) in
+      let time : (get_or (map move_of kept) h.0 (move_of k)).due.time < at =
+      over h.0 (move_of k) (omega (arith, length-map kept move_of, h.1)) in
       let same = ap (λ (m : Move). m.due.time) is in
       absurd (omega arith),
   λ h. absurd (let e = h.1 in omega arith),
@@ -257,7 +259,9 @@ is_kept_of n old old_spans k s (inr kept) e = kept
 pub past_all : (spans : List RunData) (k : ℕ) → slice_get spans k ≡ None → length spans ≤ k
 past_all spans k e =
     ⊎_elim
-    (λ (inside : k < length spans). absurd (let h : None ≡ Some _ = sym e ∙ slice_get-get_or spans k (record { to = 0; records = []; moves = [] }) inside in cc))
+    (λ (inside : k < length spans).
+    let there = slice_get-get_or spans k (record { to = 0; records = []; moves = [] }) inside in
+    absurd (let h : None ≡ Some _ = sym e ∙ there in cc))
     (λ (past : length spans ≤ k). past) (cases_lt k (length spans))
 
 -- a run that comes to the beginning of an old run's span

@@ -1,5 +1,6 @@
 -- A move among spans.
-use Rattle.std.proofs.Common.{◌≡◌, ◌≢◌, ⊎_elim, ℕ, zero, suc, ◌+◌, ◌-◌, ◌<◌, ◌≤◌, List, [], ◌∷◌, ◌++◌, length, map, take, drop, Some, slice_get}
+use Rattle.std.proofs.Common.{◌≡◌, ◌≢◌, ⊎_elim, ℕ, zero, suc, ◌+◌, ◌-◌, ◌<◌, ◌≤◌}
+use Rattle.std.proofs.Common.{List, [], ◌∷◌, ◌++◌, length, map, take, drop, Some, slice_get}
 use Rattle.std.proofs.Common.{refl, ap, sym, ◌∙◌, arith, option_map}
 use Rattle.std.proofs.lemmas.List.{append-nil, length-append, drop_all, take-map, map-append, length_push, take_at, take-append-le}
 use Rattle.std.proofs.lemmas.Bool.{cases_eq}
@@ -39,7 +40,8 @@ move_in_span spans i place s is e =
     sym (ap (λ (l : List KeptData). slice_get l i) split ∙ get_left (x ++ s.moves) z i (omega arith) ∙ middle))
     (λ (last : length spans ≤ place + 1).
     let none : z ≡ [] = ap kept_of_spans (drop_all (suc place) spans (omega arith)) in
-    sym (ap (λ (l : List KeptData). slice_get l i) (split ∙ ap (λ (l : List KeptData). (x ++ s.moves) ++ l) none ∙ append-nil (x ++ s.moves))
+    sym (ap (λ (l : List KeptData). slice_get l i)
+    (split ∙ ap (λ (l : List KeptData). (x ++ s.moves) ++ l) none ∙ append-nil (x ++ s.moves))
     ∙ middle))
     is.to
 

@@ -1,5 +1,6 @@
 -- The next move that leaves a note.
-use Rattle.std.proofs.Common.{◌≡◌, ⊎_elim, ℕ, ◌+◌, ◌-◌, ◌<◌, ◌≤◌, List, [], ◌∷◌, ◌++◌, length, map, All, take, drop, Option, None, Some, IfSome, slice_get, option_map}
+use Rattle.std.proofs.Common.{◌≡◌, ⊎_elim, ℕ, ◌+◌, ◌-◌, ◌<◌, ◌≤◌, List, [], ◌∷◌, ◌++◌}
+use Rattle.std.proofs.Common.{length, map, All, take, drop, Option, None, Some, IfSome, slice_get, option_map}
 use Rattle.std.proofs.Common.{refl, ap, sym, ◌∙◌, subst, arith, suc}
 use Rattle.std.specs.Prelude.{min}
 use Rattle.std.proofs.Math.Nat.{min-le_left, min-le_right, min-eq_left, min-eq_right}

@@ -71,7 +71,8 @@ pub end_push : (from : ℕ) (spans : List RunData) (s : RunData) → end_of from
 end_push from [] s = refl
 end_push from (t ∷ ts) s = end_push t.to ts s
 
-pub end_next : (from : ℕ) (spans : List RunData) (k : ℕ) (s : RunData) → slice_get spans k ≡ Some s → end_of from (take (suc k) spans) ≡ s.to
+pub end_next : (from : ℕ) (spans : List RunData) (k : ℕ) (s : RunData) → slice_get spans k ≡ Some s
+    → end_of from (take (suc k) spans) ≡ s.to
 end_next from [] k s e = absurd (let h : None ≡ Some s = e in cc)
 end_next from (t ∷ ts) zero s e = ap (λ (x : RunData). x.to) (same_Some t s e)
 end_next from (t ∷ ts) (suc k) s e = end_next t.to ts k s e
@@ -218,7 +219,9 @@ contains_middle : (x y z : List KeptData) (from to : ℕ) → All (λ m. m.due.t
 contains_middle x y z from to early late = λ k ge lt. (
   λ h. ⊎_elim
       (λ (front : Contains (x ++ y) k).
-      ⊎_elim (λ (first : Contains x k). absurd (let e : k.due.time < from = in_map x k (λ m. m.due.time < from) first early in omega arith)) (λ (mid : Contains y k). mid)
+      ⊎_elim
+      (λ (first : Contains x k). absurd (let e : k.due.time < from = in_map x k (λ m. m.due.time < from) first early in omega arith))
+      (λ (mid : Contains y k). mid)
       (Contains-append_cases x y k front))
       (λ (last : Contains z k). absurd (let e : to ≤ k.due.time = in_map z k (λ m. to ≤ m.due.time) last late in omega arith))
       (Contains-append_cases (x ++ y) z k h),

@@ -1,5 +1,6 @@
 -- Records that are kept, and the places at which the ports stand among them.
-use Rattle.std.proofs.Common.{◌≡◌, ◌≢◌, ⊎_elim, ℕ, ◌+◌, ◌<◌, List, [], ◌∷◌, ◌++◌, length, map, All, refl, ap, sym, ◌∙◌, arith, suc, subst, ◌≤◌}
+use Rattle.std.proofs.Common.{◌≡◌, ◌≢◌, ⊎_elim, ℕ, ◌+◌, ◌<◌, List, [], ◌∷◌, ◌++◌, length}
+use Rattle.std.proofs.Common.{map, All, refl, ap, sym, ◌∙◌, arith, suc, subst, ◌≤◌}
 use Rattle.std.proofs.Common.{◌-◌, Option, Some, None, option_map, slice_get, get_or, slice_index, slice_index_or, slice_set}
 use Rattle.std.proofs.Math.ListN.{get_or-append}
 use Rattle.std.proofs.Math.Seq.{get_or-append_seam}

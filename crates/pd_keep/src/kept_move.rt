@@ -1,6 +1,7 @@
 //! Moves that are kept, each with the places of its port's records.
 
-ghost use Rattle.std.specs.Prelude.{◌≡◌, ◌↔◌, ◌<◌, ◌≤◌, ◌++◌, ◌∷◌, ℕ, [], List, IsTrue, IfOk, OnOk, All, length, map, slice_get, slice_index_or};
+ghost use Rattle.std.specs.Prelude.{◌≡◌, ◌↔◌, ◌<◌, ◌≤◌, ◌++◌, ◌∷◌, ℕ, [], List, IsTrue, IfOk, OnOk, All, length, map};
+ghost use Rattle.std.specs.Prelude.{slice_get, slice_index_or};
 ghost use Rattle.std.specs.Prelude.{option_map, take};
 ghost use Rattle.pd_run.specs.Notes.{IsNextWith};
 ghost use Rattle.pd_run.specs.Start.{no_port};
@@ -13,16 +14,16 @@ use pd_run::{Marks, Note};
 use std::alloc::{AllocError, Global};
 use std::marker::Model;
 
-/// A move of a run: its port, numbered from 1; the place of the port's record before it; what fell due; the answer to what the
+/// What is kept of a move: its port, numbered from 1; the place of the port's record before it; what fell due; the answer to what the
 /// port asked; the place of the record after it; and what the move left to be read.
 #[derive(Drop)]
 pub struct KeptMove {
-    pub port: usize,
-    pub before: usize,
-    pub due: Due,
-    pub answer: Option<Answer>,
-    pub after: usize,
-    pub entry: Entry,
+    port: usize,
+    before: usize,
+    due: Due,
+    answer: Option<Answer>,
+    after: usize,
+    entry: Entry,
 }
 
 /// Moves of a run up to a time, and the ports as they were before and after them: each port stands once for all moves that it is
@@ -66,11 +67,13 @@ impl KeptMoves {
         self.to
     }
 
-    /// Says up to which time these are the moves of a run.
-    pub fn end_at(&mut self, to: u64)
-        ensures { self.new ≡ record self.old { to = to } }
+    /// The same, as the moves of a run up to a time.
+    pub fn ended(self, to: u64) -> KeptMoves
+        ensures { result ≡ record self { to = to } }
     {
-        self.to = to;
+        let mut ended = self;
+        ended.to = to;
+        ended
     }
 
     /// The number of moves.
@@ -185,18 +188,43 @@ impl KeptMoves {
         Ok(place)
     }
 
-    /// Keeps one more move, of which both records are kept.
+    /// Keeps one more move, by the places of both records.
     ///
     /// # Errors
     /// There is no memory.
-    pub fn push(&mut self, kept: KeptMove) -> Result<(), AllocError>
-        requires placed { IsPlaced self.old.records kept }
-        requires port { kept.port < 256 }
-        ensures { OnOk result (self.new ≡ record self.old { moves = self.old.moves ++ kept_in self.old.records kept ∷ [] }) }
+    pub fn push(
+        &mut self,
+        port: usize,
+        before: usize,
+        due: Due,
+        answer: Option<Answer>,
+        after: usize,
+        entry: Entry,
+    ) -> Result<(), AllocError>
+        requires port { port < 256 }
+        requires before { before < length self.old.records }
+        requires after { after < length self.old.records }
+        ensures { OnOk result (self.new ≡ record self.old {
+          moves = self.old.moves ++ record {
+            port = port;
+            before = slice_index_or self.old.records before no_port;
+            due = due;
+            answer = answer;
+            after = slice_index_or self.old.records after no_port;
+            entry = entry;
+          } ∷ [];
+        }) }
     {
-        let marks = Marks::of(kept.port, &kept.entry);
+        let marks = Marks::of(port, &entry);
         self.marks.reserve(1)?;
-        self.moves.push(kept)?;
+        self.moves.push(KeptMove {
+            port,
+            before,
+            due,
+            answer,
+            after,
+            entry,
+        })?;
         self.marks.push_reserved(marks);
         Ok(())
     }

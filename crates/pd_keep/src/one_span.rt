@@ -15,7 +15,7 @@ ghost use Rattle.pd_keep.specs.Charge.{Charges};
 ghost use Rattle.pd_keep.specs.Places.{AreAt};
 ghost use Rattle.pd_keep.specs.Rerun.{AreThose, Costs, IsNextSpan};
 
-use crate::kept_move::{KeptMove, KeptMoves, copy_answer};
+use crate::kept_move::{KeptMoves, copy_answer};
 use pd_objects::Answer;
 use pd_port::{Due, Entry, Meter, Port};
 use pd_run::{Live, Plan};
@@ -62,25 +62,16 @@ pub fn run_span<const N: usize>(
     let mut from = 0;
     while let Some((port, due)) = next_before(live, plan, to) {
         if let Some(end) = end_before(&span, due.time) {
-            span.end_at(end);
-            return Ok(span);
+            return Ok(span.ended(end));
         }
         let answer = live.reply(plan, port, &due);
         from = skip(old, from, due.time);
         let entry = make(old, from, plan, live, port, &due, &answer, meter);
         let after = span.add(live.port(port).copy())?;
-        span.push(KeptMove {
-            port,
-            before: places[port - 1],
-            due,
-            answer,
-            after,
-            entry,
-        })?;
+        span.push(port, places[port - 1], due, answer, after, entry)?;
         places[port - 1] = after;
     }
-    span.end_at(to);
-    Ok(span)
+    Ok(span.ended(to))
 }
 
 // Where a span ends before a time, if its moves are enough.

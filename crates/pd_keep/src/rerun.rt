@@ -1,6 +1,7 @@
 //! A run beside an older one: spans that the older one has too are shared, and in the others the moves that it has are copied.
 
-ghost use Rattle.std.specs.Prelude.{◌≡◌, ◌⊎◌, ℕ, ◌+◌, ◌*◌, ◌-◌, ◌<◌, ◌≤◌, ◌++◌, ◌∷◌, ◌↔◌, [], List, IfOk, OnOk, IsTrue, map, length, All, Bool};
+ghost use Rattle.std.specs.Prelude.{◌≡◌, ◌⊎◌, ℕ, ◌+◌, ◌*◌, ◌-◌, ◌<◌, ◌≤◌, ◌++◌, ◌∷◌};
+ghost use Rattle.std.specs.Prelude.{◌↔◌, [], List, IfOk, OnOk, IsTrue, map, length, All, Bool};
 ghost use Rattle.pd_scenario.specs.Plan.{Plan as PlanData, IsPlan};
 ghost use Rattle.pd_run.specs.Live.{StandsAfter, port_at};
 ghost use Rattle.pd_run.specs.Run.{Move};

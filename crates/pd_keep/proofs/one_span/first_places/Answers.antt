@@ -22,7 +22,8 @@ loop-port-preserved g c =
     let at = at_push records live n places x i.count x_is i.at in
     record {
       records = ap length added ∙ length_push records x ∙ ap (λ k. k + 1) i.records;
-      in_turn = λ p lt. ap (λ (l : List ℕ). slice_index l p) placed ∙ in_turn_push places n (length records) p i.count i.records i.in_turn lt;
+      in_turn = λ p lt. ap (λ (l : List ℕ). slice_index l p) placed
+          ∙ in_turn_push places n (length records) p i.count i.records i.in_turn lt;
       count = ap length placed ∙ length_push places (length records) ∙ ap (λ k. k + 1) i.count;
       at = subst (λ (l : List ℕ). AreAt c.add.new.self.records live (n + 1) l) (sym placed)
           (subst (λ (rs : List PortData). AreAt rs live (n + 1) (places ++ length records ∷ [])) (sym added) at);

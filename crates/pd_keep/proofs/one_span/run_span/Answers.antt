@@ -81,7 +81,8 @@ push-requires g c =
     let there = i.at p known in
     let few = c.in-Some.ensures.is_plan.few_ports in
     record {
-      placed = record { before = omega (arith, there.0); after = omega (arith, c.in_ok-after.ensures.place) };
+      before = omega (arith, there.0);
+      after = omega (arith, c.in_ok-after.ensures.place);
       port = omega (arith, known, few);
     }
 
@@ -232,7 +233,7 @@ returns-in-Some-end_before-clause-span g c = λ past from lt s up.
     let later : All (IsLater from) moves = i.later past from s up in
     let some : 0 < length moves = (let count = length-map c.loop-port.span.moves move_of in omega (arith, count, w.1)) in
     let rising : from < end = between_some moves from end some later w.2 in
-    rw c.end_at.ensures (record {
+    rw c.ended.ensures (record {
       rising = rising;
       begun = i.begun past s;
       own = i.own;
@@ -243,13 +244,13 @@ returns-in-Some-end_before-clause-span g c = λ past from lt s up.
     })
 
 pub returns-in-Some-end_before-clause-cost : goal.returns-in-Some-end_before-clause-cost
-returns-in-Some-end_before-clause-cost g c = rw c.end_at.ensures c.loop-port.invariant.cost
+returns-in-Some-end_before-clause-cost g c = rw c.ended.ensures c.loop-port.invariant.cost
 
 pub returns-clause-span : goal.returns-clause-span
 returns-clause-span g c = λ past from lt s up.
     let i = c.loop-port.invariant in
     let moves : List Move = map move_of c.loop-port.span.moves in
-    rw c.end_at-2.ensures (record {
+    rw c.ended-2.ensures (record {
       rising = lt;
       begun = i.begun past s;
       own = i.own;
@@ -259,7 +260,7 @@ returns-clause-span g c = λ past from lt s up.
     })
 
 pub returns-clause-stands : goal.returns-clause-stands
-returns-clause-stands g c = rw c.end_at-2.ensures c.loop-port.invariant.stands
+returns-clause-stands g c = rw c.ended-2.ensures c.loop-port.invariant.stands
 
 pub returns-clause-cost : goal.returns-clause-cost
-returns-clause-cost g c = rw c.end_at-2.ensures c.loop-port.invariant.cost
+returns-clause-cost g c = rw c.ended-2.ensures c.loop-port.invariant.cost

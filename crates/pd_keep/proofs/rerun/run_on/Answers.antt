@@ -58,8 +58,8 @@ loop-at-preserved g c =
       rises = omega (arith, i.rises, c.run_span.ensures.rises);
       cost = λ old all first own those h.
           let more : Costs old (map move_of all) plan (map move_of s.moves) c.loop-at.meter c.run_span.new.meter =
-          c.in_ok-span.ensures.cost old all moves at own (those_later all c.args.old.now.moves c.args.from at c.args.to i.later those) i.stands
-          i.so_far.up in
+          c.in_ok-span.ensures.cost old all moves at own
+          (those_later all c.args.old.now.moves c.args.from at c.args.to i.later those) i.stands i.so_far.up in
           subst (λ (l : List Move). Costs old (map move_of all) plan l first c.run_span.new.meter) (sym (moves_push spans s))
           (costs-append old (map move_of all) plan moves (map move_of s.moves) first c.loop-at.meter c.run_span.new.meter
           (i.cost old all first own those h) more);
