@@ -26,7 +26,7 @@ const ENOUGH: usize = 64;
 
 /// A span that has enough moves ends at a multiple of this time, in microseconds, so that there aren't ever more spans than
 /// these.
-const STRIDE: u64 = 131_072;
+pub const STRIDE: u64 = 131_072;
 
 /// The moves of a run up to a time, or to an earlier one where these are enough for a span, beside an older run's. The meter
 /// rises by those that the older one doesn't have.

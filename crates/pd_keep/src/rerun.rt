@@ -13,7 +13,7 @@ ghost use Rattle.pd_keep.specs.Rerun.{IsOld, IsSoFar, Stands, Costs, ComesTo, Ar
 ghost use Rattle.pd_keep.specs.Spans.{IsKept, kept_of_spans, moves_of};
 
 use crate::kept_move::KeptMoves;
-use crate::one_span::run_span;
+use crate::one_span::{STRIDE, run_span};
 use crate::spans::Spans;
 use pd_port::Meter;
 use pd_run::{Beside, Live, Plan};
@@ -224,6 +224,8 @@ fn finish<const N: usize>(
         return Ok(());
     }
     let nothing = KeptMoves::new(alloc);
-    run_on(alloc, &nothing, plan, from, end + 1, live, spans, meter)?;
+    // Beyond the end, so that a later end leaves no boundary of its own.
+    let to = (end / STRIDE + 1) * STRIDE;
+    run_on(alloc, &nothing, plan, from, to, live, spans, meter)?;
     Ok(())
 }

@@ -1,4 +1,4 @@
-use Rattle.std.proofs.Common.{◌≡◌, ◌+◌, [], List, All, ap, sym, subst, arith}
+use Rattle.std.proofs.Common.{◌/◌, ◌*◌, ◌≡◌, ◌+◌, [], List, All, ap, sym, subst, arith}
 use Rattle.pd_run.proofs.Cut.{All-nil}
 use Rattle.pd_keep.specs.Kept.{KeptData, IsMade, AreInTime}
 use Rattle.pd_keep.specs.Places.{RunData}
@@ -21,14 +21,15 @@ returns-then-end-from-clause-kept g c = kept_whole g.row.N c.args.plan.now c.arg
 
 pub returns-clause-kept : goal.returns-clause-kept
 returns-clause-kept g c =
-    let so_far : IsSoFar g.row.N c.args.plan.now c.run_on.new.spans (c.args.plan.now.end + 1) =
-    subst (λ e. IsSoFar g.row.N c.args.plan.now c.run_on.new.spans (e + 1)) c.end-end.ensures.end c.in_ok-run_on.ensures.so_far in
-    kept_whole g.row.N c.args.plan.now c.run_on.new.spans (c.args.plan.now.end + 1) so_far (omega arith)
+    let so_far : IsSoFar g.row.N c.args.plan.now c.run_on.new.spans ((c.args.plan.now.end / 131072 + 1) * 131072) =
+    subst (λ e. IsSoFar g.row.N c.args.plan.now c.run_on.new.spans ((e / 131072 + 1) * 131072)) c.end-end.ensures.end
+    c.in_ok-run_on.ensures.so_far in
+    kept_whole g.row.N c.args.plan.now c.run_on.new.spans ((c.args.plan.now.end / 131072 + 1) * 131072) so_far (omega arith)
 
 pub returns-clause-cost : goal.returns-clause-cost
 returns-clause-cost g c = λ old old_spans first over own so_far.
     let none : c.new-nothing.result.moves ≡ [] = ap (λ (r : RunData). r.moves) c.new-nothing.ensures in
-    let those : AreThose (kept_of_spans old_spans) c.args.from (c.end-end.result + 1) c.new-nothing.result.moves =
-    subst (λ (l : List KeptData). AreThose (kept_of_spans old_spans) c.args.from (c.end-end.result + 1) l) (sym none)
-    (over_those old_spans c.args.from (c.end-end.result + 1) (over (omega arith))) in
+    let those : AreThose (kept_of_spans old_spans) c.args.from ((c.end-end.result / 131072 + 1) * 131072) c.new-nothing.result.moves =
+    subst (λ (l : List KeptData). AreThose (kept_of_spans old_spans) c.args.from ((c.end-end.result / 131072 + 1) * 131072) l) (sym none)
+    (over_those old_spans c.args.from ((c.end-end.result / 131072 + 1) * 131072) (over (omega arith))) in
     c.in_ok-run_on.ensures.cost old (kept_of_spans old_spans) first own those so_far
