@@ -20,7 +20,7 @@ use Rattle.pd_keep.specs.declared.rerun.Standing.{Standing}
 use Rattle.pd_keep.specs.declared.rerun.Standing.TheVariants as standing
 use Rattle.pd_keep.specs.Fresh.{IsRepeated, AreFresh}
 use Rattle.pd_keep.specs.Kept.{KeptData, move_of, IsOwn}
-use Rattle.pd_keep.specs.Places.{RunData}
+use Rattle.pd_keep.specs.Kept.{RunData}
 use Rattle.pd_keep.specs.Spans.{kept_of_spans, moves_of, end_of, begins_at, BeginsAfter, IsKept}
 use Rattle.pd_keep.specs.Rerun.{StandsAlike, Stands, Costs, IsNextSpan, ComesTo, BeginsWith}
 use Rattle.pd_keep.specs.Rerun.{AreStanding, IsOld, IsSoFar, AreOver, AreThose, IsDone}
@@ -65,7 +65,7 @@ alike_from : (n : ℕ) (a : Plan) (moves : List Move) (b : Plan) (others : List 
 alike_from n a moves b others s live is_a is_b begun begins stands =
     let counts : count a ≡ count b = is_a.settings_count ∙ sym is_b.settings_count in
     let at : (p : ℕ) → p < count a → port_after a moves p ≡ port_after b others p =
-    λ p lt. sym (begun p (omega (arith, is_a.settings_count))).1 ∙ (begins p (omega (arith, is_a.settings_count))).1
+    λ p lt. sym (begun.ports p (omega (arith, is_a.settings_count))) ∙ (begins p (omega (arith, is_a.settings_count))).1
     ∙ stands.ports_are p (omega arith) in
     record {
       settings = same_settings a b counts (λ p lt. ap (λ (x : PortData). x.settings) (at p lt));
@@ -75,12 +75,14 @@ alike_from n a moves b others s live is_a is_b begun begins stands =
 -- and where they stand alike a span begins with the ports of both
 pub begins_both : (n : ℕ) (a : Plan) (moves : List Move) (b : Plan) (others : List Move) (s : RunData) → IsPlan n a
     → AreAlike a moves b others → BeginsAfter n a moves s → BeginsAfter n b others s
-begins_both n a moves b others s is alike begun = λ p lt.
-    let k : p < count a = omega (arith, is.settings_count) in
-    let h = begun p lt in
-    let set = ap (λ (l : List SettingsData). get_or l p no_settings) alike.settings in
-    let rec = alike.records p k in
-    (h.0, h.1 ∙ (λ i. record { settings = set i; port_record = rec i }))
+begins_both n a moves b others s is alike begun = record {
+  count = begun.count;
+  ports = λ p lt.
+      let k : p < count a = omega (arith, is.settings_count) in
+      let set = ap (λ (l : List SettingsData). get_or l p no_settings) alike.settings in
+      let rec = alike.records p k in
+      begun.ports p lt ∙ (λ i. record { settings = set i; port_record = rec i });
+}
 
 -- the ports of a run that comes to a span of the old run's stand alike, where it is seen that they do
 pub comes_alike : (n : ℕ) (old : Plan) (old_spans : List RunData) (span : RunData) (plan : Plan) (spans : List RunData) (at : ℕ)
@@ -161,20 +163,13 @@ shares n old old_spans span plan spans at agree st c alike same =
 -- the ports at the beginning of a span are where the run stands, where they stand alike
 pub resumes : (n : ℕ) (old : Plan) (old_spans : List RunData) (span : RunData) (plan : Plan) (spans : List RunData) (at : ℕ)
     (agree : Bool) → ComesTo n old old_spans span plan spans at agree standing.Alike
-    → (n ≤ length span.records) × (length (take n span.records) ≡ n) × AreAfter plan (moves_of spans) (take n span.records)
+    → (length span.first ≡ n) × AreAfter plan (moves_of spans) span.first
 resumes n old old_spans span plan spans at agree c =
     let w = in_span n old old_spans c.place span c.kept c.there in
     let begun : BeginsAfter n old (before at (moves_of old_spans)) span =
     subst (λ t. BeginsAfter n old (before t (moves_of old_spans)) span) (sym c.at_is) w.begun in
     let both = begins_both n old (before at (moves_of old_spans)) plan (moves_of spans) span c.kept.is_plan c.stands.alike begun in
-    let some = c.far.is_plan.some_port in
-    let last = (both (n - 1) (omega arith)).0 in (
-      omega (arith, last),
-      length-take-le n span.records (omega (arith, last)),
-      λ p lt.
-          let inside : p < n = omega (arith, c.far.is_plan.settings_count) in
-          get_or-take n span.records p no_port inside ∙ (both p inside).1,
-    )
+    (both.count, λ p lt. both.ports p (omega (arith, c.far.is_plan.settings_count)))
 
 -- Where the old run has ended.
 
@@ -260,7 +255,7 @@ pub past_all : (spans : List RunData) (k : ℕ) → slice_get spans k ≡ None �
 past_all spans k e =
     ⊎_elim
     (λ (inside : k < length spans).
-    let there = slice_get-get_or spans k (record { to = 0; records = []; moves = [] }) inside in
+    let there = slice_get-get_or spans k (record { to = 0; first = []; moves = [] }) inside in
     absurd (let h : None ≡ Some _ = sym e ∙ there in cc))
     (λ (past : length spans ≤ k). past) (cases_lt k (length spans))
 

@@ -8,7 +8,7 @@ use Rattle.std.proofs.lemmas.Option.{slice_get-map, slice_get_within}
 use Rattle.pd_keep.specs.declared.spans.Span.{Span}
 use Rattle.pd_keep.specs.Firsts.{AreCounted, IsPlaceOf, span_of}
 use Rattle.pd_keep.specs.Kept.{KeptData}
-use Rattle.pd_keep.specs.Places.{RunData}
+use Rattle.pd_keep.specs.Kept.{RunData}
 use Rattle.pd_keep.specs.Spans.{kept_of_spans}
 use Rattle.pd_keep.proofs.Parted.{kept_next, kept_split, kept_push, get_push_last, get_push_other}
 

@@ -9,3 +9,4 @@ pub mod Paid
 pub mod Noted
 pub mod Parted
 pub mod Places
+pub mod Shows

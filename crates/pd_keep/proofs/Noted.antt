@@ -9,15 +9,13 @@ use Rattle.std.proofs.lemmas.List.{length-append, length-map}
 use Rattle.std.proofs.lemmas.Option.{slice_get-map, slice_get_past, same_Some}
 use Rattle.pd_port.specs.declared.entry.Entry.{Entry}
 use Rattle.pd_scenario.specs.Plan.{Plan}
-use Rattle.pd_port.specs.Port.{PortData}
 use Rattle.pd_run.specs.Notes.{Leaves, NoneLeaves, IsNextWith, Have, marks_of}
 use Rattle.pd_run.specs.Run.{shown}
 use Rattle.pd_run.specs.declared.note.Marks.{Marks}
 use Rattle.pd_run.specs.declared.note.Note.{Note}
 use Rattle.pd_run.specs.declared.note.Note.TheVariants.{Contract, Fault, Packet}
-use Rattle.pd_keep.specs.declared.kept_move.KeptMove.{KeptMove}
 use Rattle.pd_keep.specs.Kept.{KeptData, move_of, IsOwn}
-use Rattle.pd_keep.specs.Places.{RunData, shown_of, kept_in, marks_kept}
+use Rattle.pd_keep.specs.Kept.{RunData, shown_of, marks_kept}
 use Rattle.pd_keep.specs.Spans.{kept_of_spans}
 use Rattle.pd_keep.proofs.Entries.{get_right, get_left}
 use Rattle.pd_keep.proofs.Parted.{kept_split, kept_next}
@@ -137,35 +135,32 @@ leaves_have Fault move h = lt-ltb 0 (length move.1.faults.items) h
 leaves_have (Packet port) move h = (h.1, h.0)
 
 -- the marks at a place are those of the move there
-marks_there : (records : List PortData) (moves : List KeptMove) (at : ℕ) (m : Marks) → slice_get (map marks_kept moves) at ≡ Some m
-    → (x : KeptMove) × (marks_kept x ≡ m) × (slice_get (map shown_of (map (kept_in records) moves)) at ≡ Some (x.port, x.entry))
-marks_there records moves at m e = go (slice_get moves at) refl where
-  go : (o : Option KeptMove) → slice_get moves at ≡ o
-      → (x : KeptMove) × (marks_kept x ≡ m) × (slice_get (map shown_of (map (kept_in records) moves)) at ≡ Some (x.port, x.entry))
+marks_there : (moves : List KeptData) (at : ℕ) (m : Marks) → slice_get (map marks_kept moves) at ≡ Some m
+    → (k : KeptData) × (marks_kept k ≡ m) × (slice_get (map shown_of moves) at ≡ Some (shown_of k))
+marks_there moves at m e = go (slice_get moves at) refl where
+  go : (o : Option KeptData) → slice_get moves at ≡ o
+      → (k : KeptData) × (marks_kept k ≡ m) × (slice_get (map shown_of moves) at ≡ Some (shown_of k))
   go None h =
       absurd (let none : None ≡ Some m = sym (ap (λ o. option_map marks_kept o) h) ∙ sym (slice_get-map marks_kept moves at) ∙ e in cc)
-  go (Some x) h = (
-    x,
+  go (Some k) h = (
+    k,
     same_Some _ _ (sym (ap (λ o. option_map marks_kept o) h) ∙ sym (slice_get-map marks_kept moves at) ∙ e),
-    slice_get-map shown_of (map (kept_in records) moves) at
-        ∙ ap (option_map shown_of) (slice_get-map (kept_in records) moves at ∙ ap (λ o. option_map (kept_in records) o) h),
+    slice_get-map shown_of moves at ∙ ap (option_map shown_of) h,
   )
 
-pub marked : (note : Note) (records : List PortData) (moves : List KeptMove) (at : ℕ) (m : Marks)
-    → slice_get (map marks_kept moves) at ≡ Some m → Have m note
-    → IfSome (slice_get (map shown_of (map (kept_in records) moves)) at) (Leaves note)
-marked note records moves at m e h =
-    let w = marks_there records moves at m e in
+pub marked : (note : Note) (moves : List KeptData) (at : ℕ) (m : Marks) → slice_get (map marks_kept moves) at ≡ Some m → Have m note
+    → IfSome (slice_get (map shown_of moves) at) (Leaves note)
+marked note moves at m e h =
+    let w = marks_there moves at m e in
     subst (λ (o : Option (ℕ × Entry)). IfSome o (Leaves note)) (sym w.2)
-    (have_leaves note (w.0.port, w.0.entry) (subst (λ (k : Marks). Have k note) (sym w.1) h))
+    (have_leaves note (shown_of w.0) (subst (λ (k : Marks). Have k note) (sym w.1) h))
 
-pub unmarked : (note : Note) (records : List PortData) (moves : List KeptMove) (at : ℕ) (m : Marks)
-    → slice_get (map marks_kept moves) at ≡ Some m → (Have m note → ⊥)
-    → IfSome (slice_get (map shown_of (map (kept_in records) moves)) at) (λ move. ¬ Leaves note move)
-unmarked note records moves at m e h =
-    let w = marks_there records moves at m e in
+pub unmarked : (note : Note) (moves : List KeptData) (at : ℕ) (m : Marks) → slice_get (map marks_kept moves) at ≡ Some m
+    → (Have m note → ⊥) → IfSome (slice_get (map shown_of moves) at) (λ move. ¬ Leaves note move)
+unmarked note moves at m e h =
+    let w = marks_there moves at m e in
     subst (λ (o : Option (ℕ × Entry)). IfSome o (λ (move : ℕ × Entry). ¬ Leaves note move)) (sym w.2)
-    (λ leaves. h (subst (λ (k : Marks). Have k note) w.1 (leaves_have note (w.0.port, w.0.entry) leaves)))
+    (λ leaves. h (subst (λ (k : Marks). Have k note) w.1 (leaves_have note (shown_of w.0) leaves)))
 
 -- one more without the note
 pub none_more : (note : Note) (moves : List (ℕ × Entry)) (from at : ℕ) → NoneLeaves note moves from at

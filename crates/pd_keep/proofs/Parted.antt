@@ -14,7 +14,7 @@ use Rattle.pd_run.specs.UpTo.{before, IsUpTo}
 use Rattle.pd_run.proofs.Cut.{All-append, All-front, All-back, EachAfter-front, EachAfter-back, before-all, before-none, before-append}
 use Rattle.pd_run.proofs.Cut.{cut_from, ends_up_to, run_is_safe}
 use Rattle.pd_keep.specs.Kept.{KeptData, move_of, IsOwn, IsMade, AreInTime}
-use Rattle.pd_keep.specs.Places.{RunData}
+use Rattle.pd_keep.specs.Kept.{RunData}
 use Rattle.pd_keep.specs.Spans.{kept_of_spans, moves_of, end_of, begins_at, BeginsAfter, IsKept}
 use Rattle.pd_keep.specs.Rerun.{IsSoFar, IsNextSpan, AreThose}
 use Rattle.pd_keep.proofs.InTime.{times}

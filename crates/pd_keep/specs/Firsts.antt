@@ -1,7 +1,7 @@
 -- Spans, each with the number of moves before it.
 use Rattle.std.specs.Prelude.{◌≡◌, ℕ, ◌≤◌, ◌<◌, ◌+◌, ◌⊎◌, List, map, take, length, slice_get, Some}
 use Rattle.pd_keep.specs.declared.spans.Span.{Span}
-use Rattle.pd_keep.specs.Places.{RunData}
+use Rattle.pd_keep.specs.Kept.{RunData}
 use Rattle.pd_keep.specs.Spans.{kept_of_spans}
 
 -- what is kept of a span

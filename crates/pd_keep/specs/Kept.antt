@@ -1,9 +1,11 @@
 -- Moves that are kept.
-use Rattle.std.specs.Prelude.{◌≡◌, ℕ, ◌-◌, ◌<◌, ◌≤◌, List, length, Option, slice_index_or}
+use Rattle.std.specs.Prelude.{◌≡◌, ℕ, ◌-◌, ◌<◌, ◌≤◌, List, length, Option, None, Some, slice_index_or}
 use Rattle.pd_objects.specs.declared.query.Answer.{Answer}
 use Rattle.pd_port.specs.declared.due.Due.{Due}
 use Rattle.pd_port.specs.Port.{PortData, record_after, entry_of}
 use Rattle.pd_scenario.specs.Plan.{Plan, settings_of}
+use Rattle.pd_run.specs.declared.note.Marks.{Marks}
+use Rattle.pd_run.specs.Notes.{marks_of}
 use Rattle.pd_run.specs.Run.{Move}
 use Rattle.pd_port.specs.declared.entry.Entry.{Entry}
 
@@ -49,3 +51,28 @@ AreInTime old = (i j : ℕ) (e : KeptData) → i ≤ j → j < length old → (s
 -- the first n of them are before this time
 abbrev pub AreBefore : List KeptData → ℕ → ℕ → Type 0
 AreBefore old n time = (k : ℕ) (e : KeptData) → k < n → (slice_index_or old k e).due.time < time
+
+-- a port stands as the move at a place has left it, where such a place is known
+abbrev pub IsLeft : List KeptData → Option ℕ → PortData → Type 0
+IsLeft moves None x = Unit {0}
+IsLeft moves (Some i) x = (i < length moves) × ((k : KeptData) → (slice_index_or moves i k).after ≡ x)
+
+-- so stood the port of each move before it
+abbrev pub AreLinked : List KeptData → List (Option ℕ) → Type 0
+AreLinked moves links =
+    (length links ≡ length moves)
+    × ((i : ℕ) (k : KeptData) → i < length moves → IsLeft moves (slice_index_or links i None) (slice_index_or moves i k).before)
+
+-- moves up to a time, and the ports as they are before them
+pub record RunData : Type 0 where
+  pub to : ℕ
+  pub first : List PortData
+  pub moves : List KeptData
+
+-- what a move shows
+abbrev pub shown_of : KeptData → ℕ × Entry
+shown_of k = (k.port, k.entry)
+
+-- the marks of a move's entry
+abbrev pub marks_kept : KeptData → Marks
+marks_kept k = marks_of (shown_of k)

@@ -11,7 +11,7 @@ use Rattle.pd_keep.specs.declared.rerun.Standing.{Standing}
 use Rattle.pd_keep.specs.declared.rerun.Standing.TheVariants as standing
 use Rattle.pd_keep.specs.Fresh.{AreFresh}
 use Rattle.pd_keep.specs.Kept.{KeptData, move_of, IsOwn}
-use Rattle.pd_keep.specs.Places.{RunData}
+use Rattle.pd_keep.specs.Kept.{RunData}
 use Rattle.pd_keep.specs.Spans.{kept_of_spans, moves_of, end_of, begins_at, BeginsAfter, AreSpans, IsKept}
 
 -- what a run is made beside: no run, or what is kept of a plan's
@@ -74,7 +74,7 @@ IsDone n plan at (standing.Apart live) = Unit {0}
 
 -- a span begins with these ports
 abbrev pub BeginsWith : ℕ → RunData → LiveData → Type 0
-BeginsWith n span live = (p : ℕ) → p < n → (p < length span.records) × (slice_index_or span.records p no_port ≡ port_at live p)
+BeginsWith n span live = (p : ℕ) → p < n → (p < length span.first) × (slice_index_or span.first p no_port ≡ port_at live p)
 
 -- they stand so already, or the span begins with them
 abbrev pub AreStanding : (n : ℕ) → Standing n → RunData → Type 0

@@ -8,7 +8,7 @@ use Rattle.pd_run.specs.Shown.{SafeRun}
 use Rattle.pd_run.specs.Start.{no_port}
 use Rattle.pd_run.specs.UpTo.{before}
 use Rattle.pd_keep.specs.Kept.{KeptData, move_of, IsOwn}
-use Rattle.pd_keep.specs.Places.{RunData}
+use Rattle.pd_keep.specs.Kept.{RunData}
 
 -- what is kept of all moves
 abbrev pub kept_of_spans : List RunData → List KeptData
@@ -27,10 +27,10 @@ end_of from (s ∷ spans) = end_of s.to spans
 abbrev pub begins_at : List RunData → ℕ → ℕ
 begins_at spans k = end_of 0 (take k spans)
 
--- at the beginning of a span n ports stand among its records as these moves have left them
-abbrev pub BeginsAfter : ℕ → Plan → List Move → RunData → Type 0
-BeginsAfter n plan moves span =
-    (p : ℕ) → p < n → (p < length span.records) × (slice_index_or span.records p no_port ≡ port_after plan moves p)
+-- a span begins with n ports as these moves have left them
+pub record BeginsAfter (n : ℕ) (plan : Plan) (moves : List Move) (span : RunData) : Type 0 where
+  pub count : length span.first ≡ n
+  pub ports : (p : ℕ) → p < n → slice_index_or span.first p no_port ≡ port_after plan moves p
 
 -- Moves are kept in spans that follow one another: before each span stand the moves before its time, and it begins with the
 -- ports as these have left them.

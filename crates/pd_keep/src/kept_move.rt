@@ -1,62 +1,127 @@
-//! Moves that are kept, each with the places of its port's records.
+//! Moves that are kept, which runs share.
 
-ghost use Rattle.std.specs.Prelude.{◌≡◌, ◌↔◌, ◌<◌, ◌≤◌, ◌++◌, ◌∷◌, ℕ, [], List, IsTrue, IfOk, OnOk, All, length, map};
-ghost use Rattle.std.specs.Prelude.{slice_get, slice_index_or};
-ghost use Rattle.std.specs.Prelude.{option_map, take};
+ghost use Rattle.std.specs.Prelude.{◌≡◌, ◌↔◌, ◌<◌, ◌≤◌, ◌++◌, ◌∷◌, ℕ, [], List, All, IsTrue, IfOk, OnOk, length, map};
+ghost use Rattle.std.specs.Prelude.{option_map, slice_get, slice_index_or};
 ghost use Rattle.pd_run.specs.Notes.{IsNextWith};
+ghost use Rattle.pd_port.specs.Port.{PortData};
 ghost use Rattle.pd_run.specs.Start.{no_port};
-ghost use Rattle.pd_keep.specs.Kept.{KeptData, kept_of, IsMade};
-ghost use Rattle.pd_keep.specs.Places.{RunData, kept_in, shown_of, IsPlaced};
+ghost use Rattle.pd_keep.specs.Kept.{KeptData, IsMade, IsLeft, kept_of, shown_of};
 
 use pd_objects::Answer;
 use pd_port::{Due, Entry, Port};
-use pd_run::{Marks, Note};
+use pd_run::{Marks, Note, SharedPort};
 use std::alloc::{AllocError, Global};
 use std::marker::Model;
+use std::rc::Rc;
 
-/// What is kept of a move: its port, numbered from 1; the place of the port's record before it; what fell due; the answer to what the
-/// port asked; the place of the record after it; and what the move left to be read.
+/// What is kept of a move: its port, numbered from 1; the port before it; what fell due; the answer to what the port asked; the
+/// port after it; and what the move left to be read.
 #[derive(Drop)]
 pub struct KeptMove {
-    port: usize,
-    before: usize,
-    due: Due,
-    answer: Option<Answer>,
-    after: usize,
-    entry: Entry,
+    pub port: usize,
+    pub before: SharedPort,
+    pub due: Due,
+    pub answer: Option<Answer>,
+    pub after: SharedPort,
+    pub entry: Entry,
 }
 
-/// Moves of a run up to a time, and the ports as they were before and after them: each port stands once for all moves that it is
-/// between. Beside the moves stand the marks of their entries, so that whoever looks for a note reads these alone.
+impl Model for KeptMove {
+    ghost use Rattle.pd_keep.specs.Kept.{KeptData};
+
+    ghost Value = { KeptData };
+
+    ghost view = { λ m. record {
+      port = m.port;
+      before = m.before;
+      due = m.due;
+      answer = m.answer;
+      after = m.after;
+      entry = m.entry;
+    } };
+}
+
+/// What is kept of a move, which runs share.
+#[derive(Drop)]
+pub struct SharedMove {
+    kept: Rc<KeptMove>,
+}
+
+impl Model for SharedMove {
+    ghost use Rattle.pd_keep.specs.Kept.{KeptData};
+
+    ghost Value = { KeptData };
+
+    ghost view = { λ m. m.kept.value };
+}
+
+impl SharedMove {
+    /// What is kept of a move that no run has yet.
+    ///
+    /// # Errors
+    /// There is no memory.
+    pub fn new(alloc: Global, kept: KeptMove) -> Result<SharedMove, AllocError>
+        ensures { IfOk result (λ shared. shared ≡ kept) }
+    {
+        Ok(SharedMove {
+            kept: Rc::new(alloc, kept)?,
+        })
+    }
+
+    /// The same for one more run.
+    ///
+    /// # Errors
+    /// More runs have it than can be counted.
+    pub fn share(&self) -> Result<SharedMove, AllocError>
+        ensures { IfOk result (λ shared. shared ≡ self.now) }
+    {
+        Ok(SharedMove {
+            kept: self.kept.clone()?,
+        })
+    }
+
+    /// What is kept of the move.
+    pub fn kept(&self) -> &KeptMove
+        ensures { result.now ≡ self.now }
+    {
+        &self.kept
+    }
+}
+
+/// Moves of a run up to a time, and the ports as they are before them. Beside the moves stand the marks of their entries, so that
+/// whoever looks for a note reads these alone, and after which other move each move's port stood, where that is known, so that
+/// ports that come from one move to the next needn't be compared.
 #[derive(Drop)]
 pub struct KeptMoves {
     to: u64,
-    records: Vec<Port>,
-    moves: Vec<KeptMove>,
+    first: Vec<SharedPort>,
+    moves: Vec<SharedMove>,
     marks: Vec<Marks>,
+    links: Vec<Option<usize>>,
 }
 
 impl Model for KeptMoves {
-    ghost use Rattle.std.specs.Prelude.{◌≡◌, All, map};
-    ghost use Rattle.pd_keep.specs.Places.{RunData, kept_in, marks_kept, IsPlaced};
+    ghost use Rattle.std.specs.Prelude.{◌≡◌, map};
+    ghost use Rattle.pd_keep.specs.Kept.{RunData, AreLinked, marks_kept};
 
     ghost Value = { RunData };
 
-    ghost view = { λ r. record { to = r.to; records = r.records.items; moves = map (kept_in r.records.items) r.moves.items } };
+    ghost view = { λ r. record { to = r.to; first = r.first.items; moves = r.moves.items } };
 
-    ghost invariant = { λ r. All (IsPlaced r.records.items) r.moves.items × (r.marks.items ≡ map marks_kept r.moves.items) };
+    ghost invariant = { λ r. (r.marks.items ≡ map marks_kept r.moves.items) × AreLinked r.moves.items r.links.items };
 }
 
 impl KeptMoves {
-    /// No moves.
-    pub fn new(alloc: Global) -> KeptMoves
-        ensures { result ≡ record { to = 0; records = []; moves = [] } }
+    /// No moves yet, and the ports as they are.
+    pub fn new(alloc: Global, first: Vec<SharedPort>) -> KeptMoves
+        ensures { result ≡ record { to = 0; first = first.items; moves = [] } }
     {
         KeptMoves {
             to: 0,
-            records: Vec::new(alloc),
+            first,
             moves: Vec::new(alloc),
             marks: Vec::new(alloc),
+            links: Vec::new(alloc),
         }
     }
 
@@ -87,7 +152,7 @@ impl KeptMoves {
     pub fn entry(&self, i: usize) -> Option<(usize, &Entry)>
         ensures { option_map (λ r. (r.0, r.1.now)) result ≡ option_map shown_of (slice_get self.now.moves i) }
     {
-        let kept = self.moves.get(i)?;
+        let kept = self.moves.get(i)?.kept();
         Some((kept.port, &kept.entry))
     }
 
@@ -105,27 +170,26 @@ impl KeptMoves {
         at
     }
 
-    /// Whether a port is the one that is kept at a place.
-    pub fn has_at(&self, place: usize, port: &Port) -> bool
-        ensures { IsTrue result ↔ (place < length self.now.records) × (slice_index_or self.now.records place no_port ≡ port.now) }
+    /// Whether a port stands at a place before the moves.
+    pub fn begins_with(&self, place: usize, port: &Port) -> bool
+        ensures { IsTrue result ↔ (place < length self.now.first) × (slice_index_or self.now.first place no_port ≡ port.now) }
     {
-        match self.records.get(place) {
-            Some(record) => same_port(record, port),
+        match self.first.get(place) {
+            Some(first) => same_port(first.port(), port),
             None => false,
         }
     }
 
-    /// Copies of the first ports that are kept.
+    /// The ports as they are before the moves, for one more owner.
     ///
     /// # Errors
     /// There is no memory.
-    pub fn first_ports(&self, alloc: Global, count: usize) -> Result<Vec<Port>, AllocError>
-        requires { count ≤ length self.now.records }
-        ensures { IfOk result (λ ports. ports.items ≡ take count self.now.records) }
+    pub fn first_ports(&self, alloc: Global) -> Result<Vec<SharedPort>, AllocError>
+        ensures { IfOk result (λ ports. ports.items ≡ self.now.first) }
     {
         let mut ports = Vec::new(alloc);
-        for place in 0..count {
-            ports.push(self.records[place].copy())?;
+        for port in &self.first {
+            ports.push(port.share()?)?;
         }
         Ok(ports)
     }
@@ -135,29 +199,38 @@ impl KeptMoves {
         requires { i < length self.now.moves }
         ensures { (k : KeptData) → result ≡ (slice_index_or self.now.moves i k).due.time }
     {
-        self.moves[i].due.time
+        self.moves[i].kept().due.time
     }
 
-    /// The port after a move.
-    pub fn after(&self, i: usize) -> &Port
+    /// A move, for one more run.
+    ///
+    /// # Errors
+    /// More runs have it than can be counted.
+    pub fn share(&self, i: usize) -> Result<SharedMove, AllocError>
         requires { i < length self.now.moves }
-        ensures { (k : KeptData) → result.now ≡ (slice_index_or self.now.moves i k).after }
+        ensures { IfOk result (λ shared. (k : KeptData) → shared ≡ slice_index_or self.now.moves i k) }
     {
-        &self.records[self.moves[i].after]
+        self.moves[i].share()
     }
 
-    /// What a move left to be read.
-    pub fn left(&self, i: usize) -> &Entry
+    // Whether a move is known to be the next one of its port after another.
+    fn follows(&self, i: usize, left: Option<usize>) -> bool
         requires { i < length self.now.moves }
-        ensures { (k : KeptData) → result.now ≡ (slice_index_or self.now.moves i k).entry }
+        ensures { IsTrue result → (x : PortData) (k : KeptData) → IsLeft self.now.moves left x
+            → (slice_index_or self.now.moves i k).before ≡ x }
     {
-        &self.moves[i].entry
+        match (self.links[i], left) {
+            (Some(link), Some(left)) => link == left,
+            _ => false,
+        }
     }
 
-    /// Whether a move is the one of such a port for such a due, with such an answer.
+    /// Whether a move is the one of such a port for such a due, with such an answer. It was made of its own; the port stands as
+    /// the move at a place left it, where one is given.
     pub fn repeats(
         &self,
         i: usize,
+        left: Option<usize>,
         port: usize,
         before: &Port,
         due: &Due,
@@ -165,67 +238,32 @@ impl KeptMoves {
     ) -> bool
         requires inside { i < length self.now.moves }
         requires made { All IsMade self.now.moves }
+        requires left { IsLeft self.now.moves left before.now }
         ensures { IsTrue result ↔ (slice_index_or self.now.moves i (kept_of port before.now due.now answer.now)
             ≡ kept_of port before.now due.now answer.now) }
     {
-        let kept = &self.moves[i];
+        let kept = self.moves[i].kept();
         kept.port == port
             && kept.due.same(due)
             && same_answer(&kept.answer, answer)
-            && same_port(&self.records[kept.before], before)
+            && (self.follows(i, left) || same_port(kept.before.port(), before))
     }
 
-    /// Keeps a port's record, and answers its place.
+    /// Keeps one more move, whose port stood as the move at a place left it, where one is given.
     ///
     /// # Errors
     /// There is no memory.
-    pub fn add(&mut self, port: Port) -> Result<usize, AllocError>
-        ensures place { IfOk result (λ place. place ≡ length self.old.records) }
-        ensures added { OnOk result (self.new ≡ record self.old { records = self.old.records ++ port ∷ [] }) }
+    pub fn push(&mut self, kept: SharedMove, left: Option<usize>) -> Result<(), AllocError>
+        requires port { kept.port < 256 }
+        requires left { IsLeft self.old.moves left kept.before }
+        ensures { OnOk result (self.new ≡ record self.old { moves = self.old.moves ++ kept ∷ [] }) }
     {
-        let place = self.records.len();
-        self.records.push(port)?;
-        Ok(place)
-    }
-
-    /// Keeps one more move, by the places of both records.
-    ///
-    /// # Errors
-    /// There is no memory.
-    pub fn push(
-        &mut self,
-        port: usize,
-        before: usize,
-        due: Due,
-        answer: Option<Answer>,
-        after: usize,
-        entry: Entry,
-    ) -> Result<(), AllocError>
-        requires port { port < 256 }
-        requires before { before < length self.old.records }
-        requires after { after < length self.old.records }
-        ensures { OnOk result (self.new ≡ record self.old {
-          moves = self.old.moves ++ record {
-            port = port;
-            before = slice_index_or self.old.records before no_port;
-            due = due;
-            answer = answer;
-            after = slice_index_or self.old.records after no_port;
-            entry = entry;
-          } ∷ [];
-        }) }
-    {
-        let marks = Marks::of(port, &entry);
+        let marks = Marks::of(kept.kept().port, &kept.kept().entry);
         self.marks.reserve(1)?;
-        self.moves.push(KeptMove {
-            port,
-            before,
-            due,
-            answer,
-            after,
-            entry,
-        })?;
+        self.links.reserve(1)?;
+        self.moves.push(kept)?;
         self.marks.push_reserved(marks);
+        self.links.push_reserved(left);
         Ok(())
     }
 }

@@ -2,22 +2,21 @@
 
 ghost use Rattle.std.specs.Prelude.{◌≡◌, ◌⊎◌, ℕ, ◌+◌, ◌-◌, ◌<◌, ◌≤◌, ◌++◌, ◌∷◌, [], List, IfOk, OnOk, IfSome, IfNone, map, length};
 ghost use Rattle.std.specs.Prelude.{Contains};
-ghost use Rattle.std.specs.Prelude.{All, slice_index, slice_index_or};
+ghost use Rattle.std.specs.Prelude.{All, slice_index, slice_index_or, slice_set};
 ghost use Rattle.pd_port.specs.Meter.{raised};
 ghost use Rattle.pd_scenario.specs.Plan.{Plan as PlanData, IsPlan, force};
-ghost use Rattle.pd_run.specs.Live.{StandsAfter, IsNext, next_move, port_at, reply_at};
+ghost use Rattle.pd_run.specs.Live.{StandsAfter, IsNext, next_move, port_at, moved_port, reply_at};
 ghost use Rattle.pd_run.specs.Run.{Move, NoneLater};
 ghost use Rattle.pd_run.specs.Start.{no_port};
 ghost use Rattle.pd_run.specs.StepsLeft.{steps_left};
 ghost use Rattle.pd_run.specs.UpTo.{IsUpTo};
-ghost use Rattle.pd_keep.specs.Kept.{KeptData, kept_of, move_of, IsMade, IsOwn, AreInTime, AreBefore};
+ghost use Rattle.pd_keep.specs.Kept.{KeptData, kept_of, move_of, IsMade, IsOwn, IsLeft, AreInTime, AreBefore};
 ghost use Rattle.pd_keep.specs.Charge.{Charges};
-ghost use Rattle.pd_keep.specs.Places.{AreAt};
 ghost use Rattle.pd_keep.specs.Rerun.{AreThose, Costs, IsNextSpan};
 
-use crate::kept_move::{KeptMoves, copy_answer};
+use crate::kept_move::{KeptMove, KeptMoves, SharedMove, copy_answer};
 use pd_objects::Answer;
-use pd_port::{Due, Entry, Meter, Port};
+use pd_port::{Due, Meter, Port};
 use pd_run::{Live, Plan};
 use std::alloc::{AllocError, Global};
 
@@ -27,6 +26,18 @@ const ENOUGH: usize = 64;
 /// A span that has enough moves ends at a multiple of this time, in microseconds, so that there aren't ever more spans than
 /// these.
 pub const STRIDE: u64 = 131_072;
+
+/// After which move of the older run and of the new one a port stands, where that is known.
+#[derive(Clone, Copy)]
+struct Place {
+    old: Option<usize>,
+    new: Option<usize>,
+}
+
+const NOWHERE: Place = Place {
+    old: None,
+    new: None,
+};
 
 /// The moves of a run up to a time, or to an earlier one where these are enough for a span, beside an older run's. The meter
 /// rises by those that the older one doesn't have.
@@ -57,8 +68,8 @@ pub fn run_span<const N: usize>(
 {
     let _end = plan.end();
     let _count = meter.count();
-    let mut span = KeptMoves::new(alloc);
-    let mut places = first_places(alloc, live, &mut span)?;
+    let mut span = KeptMoves::new(alloc, live.ports(alloc)?);
+    let mut places = [NOWHERE; 8];
     let mut from = 0;
     while let Some((port, due)) = next_before(live, plan, to) {
         if let Some(end) = end_before(&span, due.time) {
@@ -66,10 +77,13 @@ pub fn run_span<const N: usize>(
         }
         let answer = live.reply(plan, port, &due);
         from = skip(old, from, due.time);
-        let entry = make(old, from, plan, live, port, &due, &answer, meter);
-        let after = span.add(live.port(port).copy())?;
-        span.push(port, places[port - 1], due, answer, after, entry)?;
-        places[port - 1] = after;
+        let place = places[port - 1];
+        let (kept, found) = make(alloc, old, from, place.old, plan, live, port, due, answer, meter)?;
+        span.push(kept, place.new)?;
+        places[port - 1] = Place {
+            old: found,
+            new: Some(span.len() - 1),
+        };
     }
     Ok(span.ended(to))
 }
@@ -107,61 +121,55 @@ fn next_before<const N: usize>(live: &Live<N>, plan: &Plan<N>, to: u64) -> Optio
     }
 }
 
-// Keeps each port's record first, and answers their places.
-fn first_places<const N: usize>(
-    alloc: Global,
-    live: &Live<N>,
-    run: &mut KeptMoves,
-) -> Result<Vec<usize>, AllocError>
-    requires none { length run.old.records ≡ 0 }
-    ensures count { IfOk result (λ places. length places.items ≡ N) }
-    ensures in_turn { IfOk result (λ places. (p : ℕ) → p < N → slice_index places.items p ≡ p) }
-    ensures places { IfOk result (λ places. AreAt run.new.records live.now N places.items) }
-    ensures moves { OnOk result (run.new.moves ≡ run.old.moves) }
-{
-    let mut places = Vec::new(alloc);
-    for port in 0..N {
-        let place = run.add(live.port(port + 1).copy())?;
-        places.push(place)?;
-    }
-    Ok(places)
-}
-
-// A port's move for a due: copied where the old run has it, else a step.
+// A port's move for a due: shared where the old run has it, with its place there, else a step.
 fn make<const N: usize>(
+    alloc: Global,
     old: &KeptMoves,
     from: usize,
+    left: Option<usize>,
     plan: &Plan<N>,
     live: &mut Live<N>,
     port: usize,
-    due: &Due,
-    answer: &Option<Answer>,
+    due: Due,
+    answer: Option<Answer>,
     meter: &mut Meter,
-) -> Entry
+) -> Result<(SharedMove, Option<usize>), AllocError>
     requires made { All IsMade old.now.moves }
     requires in_time { AreInTime old.now.moves }
-    requires before { AreBefore old.now.moves from due.now.time }
+    requires before { AreBefore old.now.moves from due.time }
+    requires left { IsLeft old.now.moves left (port_at live.old (port - 1)) }
     requires plan { IsPlan N plan.now }
     requires stands { (past : List Move) × StandsAfter plan.now past live.old }
-    requires next { IsNext plan.now live.old port due.now }
-    requires budget { live.old.account.budget ≡ force plan.now due.now.time }
-    requires answer { answer.now ≡ reply_at live.old (port - 1) due.now }
-    ensures entry { (past : List Move) → StandsAfter plan.now past live.old
-        → result ≡ (next_move plan.now past (port - 1) due.now).entry }
-    ensures stands { (past : List Move) → StandsAfter plan.now past live.old
-        → StandsAfter plan.now (past ++ next_move plan.now past (port - 1) due.now ∷ []) live.new }
-    ensures less { steps_left plan.now live.new < steps_left plan.now live.old }
-    ensures charges { Charges old.now.moves (kept_of port (port_at live.old (port - 1)) due.now answer.now) meter.old meter.new }
+    requires next { IsNext plan.now live.old port due }
+    requires budget { live.old.account.budget ≡ force plan.now due.time }
+    requires answer { answer ≡ reply_at live.old (port - 1) due }
+    ensures kept { IfOk result (λ r. r.0 ≡ kept_of port (port_at live.old (port - 1)) due answer) }
+    ensures found { IfOk result (λ r. IsLeft old.now.moves r.1 (moved_port live.old (port - 1) due)) }
+    ensures ports { OnOk result (live.new.ports ≡ slice_set live.old.ports (port - 1) (moved_port live.old (port - 1) due)) }
+    ensures stands { OnOk result ((past : List Move) → StandsAfter plan.now past live.old
+        → StandsAfter plan.now (past ++ next_move plan.now past (port - 1) due ∷ []) live.new) }
+    ensures less { OnOk result (steps_left plan.now live.new < steps_left plan.now live.old) }
+    ensures charges { OnOk result (Charges old.now.moves (kept_of port (port_at live.old (port - 1)) due answer) meter.old meter.new) }
     ensures rises { meter.old ≤ meter.new }
 {
     let _count = meter.count();
-    match find(old, from, port, live.port(port), due, answer) {
-        Some(i) => {
-            live.settle(plan, port, due, old.after(i).copy());
-            old.left(i).copy()
-        }
-        None => live.step(plan, port, due, copy_answer(answer), meter),
+    if let Some(i) = find(old, from, left, port, live.port(port), &due, &answer) {
+        let kept = old.share(i)?;
+        live.settle(plan, port, &due, kept.kept().after.share()?);
+        return Ok((kept, Some(i)));
     }
+    let before = live.share(port)?;
+    let entry = live.step(alloc, plan, port, &due, copy_answer(&answer), meter)?;
+    let after = live.share(port)?;
+    let kept = KeptMove {
+        port,
+        before,
+        due,
+        answer,
+        after,
+        entry,
+    };
+    Ok((SharedMove::new(alloc, kept)?, None))
 }
 
 // The first place from `from` on whose move isn't before this time.
@@ -182,6 +190,7 @@ fn skip(old: &KeptMoves, from: usize, time: u64) -> usize
 fn find(
     old: &KeptMoves,
     from: usize,
+    left: Option<usize>,
     port: usize,
     before: &Port,
     due: &Due,
@@ -190,6 +199,7 @@ fn find(
     requires made { All IsMade old.now.moves }
     requires in_time { AreInTime old.now.moves }
     requires before { AreBefore old.now.moves from due.now.time }
+    requires left { IsLeft old.now.moves left before.now }
     ensures found { IfSome result (λ i. i < length old.now.moves
         × slice_index_or old.now.moves i (kept_of port before.now due.now answer.now) ≡ kept_of port before.now due.now answer.now) }
     ensures none { IfNone result (Contains old.now.moves (kept_of port before.now due.now answer.now) → ⊥) }
@@ -198,7 +208,7 @@ fn find(
         if old.time(i) > due.time {
             return None;
         }
-        if old.repeats(i, port, before, due, answer) {
+        if old.repeats(i, left, port, before, due, answer) {
             return Some(i);
         }
     }

@@ -8,7 +8,7 @@ ghost use Rattle.pd_run.specs.Run.{Move};
 ghost use Rattle.pd_run.specs.Start.{no_port};
 ghost use Rattle.pd_run.specs.UpTo.{AgreeIn, IsUpTo};
 ghost use Rattle.pd_keep.specs.Kept.{KeptData, move_of, IsMade, IsOwn, AreInTime};
-ghost use Rattle.pd_keep.specs.Places.{RunData};
+ghost use Rattle.pd_keep.specs.Kept.{RunData};
 ghost use Rattle.pd_keep.specs.Rerun.{IsOld, IsSoFar, Stands, Costs, ComesTo, AreStanding, AreThose, IsDone, BeginsWith, AreOver};
 ghost use Rattle.pd_keep.specs.Spans.{IsKept, kept_of_spans, moves_of};
 
@@ -138,7 +138,7 @@ fn standing_live<const N: usize>(
         → ComesTo N old_plan old_spans old.now plan.now spans at agree standing.entry → StandsAfter plan.now (moves_of spans) live) }
 {
     match standing {
-        Standing::Alike => Live::resume(alloc, plan, old.first_ports(alloc, N)?, at),
+        Standing::Alike => Live::resume(alloc, plan, old.first_ports(alloc)?, at),
         Standing::Apart(live) => Ok(live),
     }
 }
@@ -158,7 +158,7 @@ fn begins_with<const N: usize>(span: &KeptMoves, live: &Live<N>) -> bool
     ensures { IsTrue result ↔ BeginsWith N span.now live.now }
 {
     for port in 0..N {
-        if !span.has_at(port, live.port(port + 1)) {
+        if !span.begins_with(port, live.port(port + 1)) {
             return false;
         }
     }
@@ -223,7 +223,7 @@ fn finish<const N: usize>(
     if end < from {
         return Ok(());
     }
-    let nothing = KeptMoves::new(alloc);
+    let nothing = KeptMoves::new(alloc, Vec::new(alloc));
     // Beyond the end, so that a later end leaves no boundary of its own.
     let to = (end / STRIDE + 1) * STRIDE;
     run_on(alloc, &nothing, plan, from, to, live, spans, meter)?;

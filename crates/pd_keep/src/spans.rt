@@ -3,7 +3,7 @@
 ghost use Rattle.std.specs.Prelude.{◌≡◌, ◌+◌, ◌++◌, ◌∷◌, [], ℕ, OnOk, IfSome, length, map, option_map, slice_get};
 ghost use Rattle.pd_run.specs.Notes.{IsNextWith};
 ghost use Rattle.pd_keep.specs.Firsts.{IsPlaceOf};
-ghost use Rattle.pd_keep.specs.Places.{shown_of};
+ghost use Rattle.pd_keep.specs.Kept.{shown_of};
 ghost use Rattle.pd_keep.specs.Spans.{kept_of_spans};
 
 use crate::kept_move::KeptMoves;
@@ -29,7 +29,7 @@ pub struct Spans {
 
 impl Model for Spans {
     ghost use Rattle.std.specs.Prelude.{◌≡◌, length, map, List};
-    ghost use Rattle.pd_keep.specs.Places.{RunData};
+    ghost use Rattle.pd_keep.specs.Kept.{RunData};
     ghost use Rattle.pd_keep.specs.Spans.{kept_of_spans};
     ghost use Rattle.pd_keep.specs.Firsts.{AreCounted, span_of};
 

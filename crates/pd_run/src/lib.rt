@@ -9,6 +9,7 @@ mod note;
 mod plain;
 mod plan;
 mod runner;
+mod shared_port;
 
 pub use beside::Beside;
 pub use live::Live;
@@ -16,3 +17,4 @@ pub use note::{Marks, Note};
 pub use plain::Plain;
 pub use plan::Plan;
 pub use runner::Runner;
+pub use shared_port::SharedPort;

@@ -1,9 +1,10 @@
 //! Ports that move.
 
 ghost use Rattle.std.specs.Prelude.{◌≡◌, ℕ, ◌+◌, ◌-◌, ◌<◌, ◌≤◌, ◌∷◌, ◌++◌, ◌↔◌, List, [], None, true, length, max};
-ghost use Rattle.std.specs.Prelude.{IfOk, IfSome, IfNone, MatchOption, IsTrue, ⊤, option_map, slice_get, slice_index, slice_index_or};
+ghost use Rattle.std.specs.Prelude.{IfOk, OnOk, IfSome, IfNone, MatchOption, IsTrue, ⊤, option_map, slice_get, slice_index, slice_index_or, slice_set};
 ghost use Rattle.pd_port.specs.Meter.{raised};
 ghost use Rattle.pd_port.specs.Port.{is_event, due, hold};
+ghost use Rattle.pd_port.specs.declared.due.Due.{Due as DueData};
 ghost use Rattle.pd_ledger.specs.Offer.{answer_of};
 ghost use Rattle.pd_scenario.specs.Plan.{IsPlan, count, force, script_of};
 ghost use Rattle.pd_run.specs.Run.{Move, NoneLater, taken_after};
@@ -14,7 +15,7 @@ ghost use Rattle.pd_run.specs.Start.{no_port};
 ghost use Rattle.pd_run.specs.StepsLeft.{steps_left};
 ghost use Rattle.pd_run.specs.UpTo.{IsUpTo, AreAfter, had_by};
 
-use crate::Plan;
+use crate::{Plan, SharedPort};
 use crate::had::had_by;
 use pd_ledger::Ledger;
 use pd_objects::{Answer, Query};
@@ -26,7 +27,7 @@ use std::marker::Model;
 /// numbered from 1.
 #[derive(Drop)]
 pub struct Live<const N: usize> {
-    ports: Vec<Port>,
+    ports: Vec<SharedPort>,
     taken: Vec<usize>,
     // A port's due changes only when the port moves, so it is asked then and kept.
     dues: Vec<Option<Due>>,
@@ -68,7 +69,7 @@ impl<const N: usize> Live<N> {
     pub fn resume(
         alloc: Global,
         plan: &Plan<N>,
-        ports: Vec<Port>,
+        ports: Vec<SharedPort>,
         at: u64,
     ) -> Result<Live<N>, AllocError>
         requires count { length ports.items ≡ N }
@@ -100,7 +101,33 @@ impl<const N: usize> Live<N> {
         ensures is_plan { IsPlan N plan.now }
     {
         let (port, due) = self.first(plan)?;
-        Some((port + 1, due))
+        Some((port + 1, *due))
+    }
+
+    /// All ports as they stand, for one more owner.
+    ///
+    /// # Errors
+    /// There is no memory, as where a port has more owners than can be counted.
+    pub fn ports(&self, alloc: Global) -> Result<Vec<SharedPort>, AllocError>
+        ensures { IfOk result (λ ports. ports.items ≡ self.now.ports) }
+    {
+        let mut ports = Vec::new(alloc);
+        for port in &self.ports {
+            ports.push(port.share()?)?;
+        }
+        Ok(ports)
+    }
+
+    /// A port as it stands, for one more owner.
+    ///
+    /// # Errors
+    /// It has more owners than can be counted.
+    pub fn share(&self, port: usize) -> Result<SharedPort, AllocError>
+        requires first { 1 ≤ port }
+        requires last { port ≤ N }
+        ensures { IfOk result (λ shared. shared ≡ port_at self.now (port - 1)) }
+    {
+        self.ports[port - 1].share()
     }
 
     /// A port as it stands.
@@ -109,7 +136,7 @@ impl<const N: usize> Live<N> {
         requires last { port ≤ N }
         ensures { result.now ≡ port_at self.now (port - 1) }
     {
-        &self.ports[port - 1]
+        self.ports[port - 1].port()
     }
 
     /// The answer to what a port asks at a due. From now on the shared budget is that of the due's time.
@@ -131,33 +158,39 @@ impl<const N: usize> Live<N> {
     }
 
     /// The step of the port that moves next for what falls due, with the answer to what it asked. The meter rises by one.
+    ///
+    /// # Errors
+    /// There is no memory. The ports stand as they stood; the meter may have risen.
     pub fn step(
         &mut self,
+        alloc: Global,
         plan: &Plan<N>,
         port: usize,
         due: &Due,
         answer: Option<Answer>,
         meter: &mut Meter,
-    ) -> Entry
+    ) -> Result<Entry, AllocError>
         requires plan { IsPlan N plan.now }
         requires stands { (past : List Move) × StandsAfter plan.now past self.old }
         requires next { IsNext plan.now self.old port due.now }
         requires budget { self.old.account.budget ≡ force plan.now due.now.time }
         requires answer { answer ≡ reply_at self.old (port - 1) due.now }
-        ensures entry { (past : List Move) → StandsAfter plan.now past self.old
-            → result ≡ (next_move plan.now past (port - 1) due.now).entry }
-        ensures stands { (past : List Move) → StandsAfter plan.now past self.old
-            → StandsAfter plan.now (past ++ next_move plan.now past (port - 1) due.now ∷ []) self.new }
-        ensures less { steps_left plan.now self.new < steps_left plan.now self.old }
-        ensures meter { meter.new ≡ raised meter.old 1 }
+        ensures entry { IfOk result (λ entry. (past : List Move) → StandsAfter plan.now past self.old
+            → entry ≡ (next_move plan.now past (port - 1) due.now).entry) }
+        ensures stands { OnOk result ((past : List Move) → StandsAfter plan.now past self.old
+            → StandsAfter plan.now (past ++ next_move plan.now past (port - 1) due.now ∷ []) self.new) }
+        ensures less { OnOk result (steps_left plan.now self.new < steps_left plan.now self.old) }
+        ensures ports { OnOk result (self.new.ports ≡ slice_set self.old.ports (port - 1) (moved_port self.old (port - 1) due.now)) }
+        ensures meter { OnOk result (meter.new ≡ raised meter.old 1) }
+        ensures rises { meter.old ≤ meter.new }
     {
-        let entry = self.ports[port - 1].step(due, answer, meter);
+        let entry = self.ports[port - 1].step(alloc, due, answer, meter)?;
         self.renew(plan, port, due);
-        entry
+        Ok(entry)
     }
 
     /// Puts the port that moves next to where its move for what falls due has left it.
-    pub fn settle(&mut self, plan: &Plan<N>, port: usize, due: &Due, after: Port)
+    pub fn settle(&mut self, plan: &Plan<N>, port: usize, due: &Due, after: SharedPort)
         requires plan { IsPlan N plan.now }
         requires stands { (past : List Move) × StandsAfter plan.now past self.old }
         requires next { IsNext plan.now self.old port due.now }
@@ -166,6 +199,7 @@ impl<const N: usize> Live<N> {
         ensures stands { (past : List Move) → StandsAfter plan.now past self.old
             → StandsAfter plan.now (past ++ next_move plan.now past (port - 1) due.now ∷ []) self.new }
         ensures less { steps_left plan.now self.new < steps_left plan.now self.old }
+        ensures ports { self.new.ports ≡ slice_set self.old.ports (port - 1) after }
     {
         self.ports[port - 1] = after;
         self.renew(plan, port, due);
@@ -179,6 +213,7 @@ impl<const N: usize> Live<N> {
             → StandsAfter plan.now (past ++ next_move plan.now past (port - 1) due.now ∷ []) self.new }
         ensures less { (past : List Move) (before : LiveData) → HasMoved plan.now past before port due.now self.old
             → steps_left plan.now self.new < steps_left plan.now before }
+        ensures ports { self.new.ports ≡ self.old.ports }
     {
         let hold = self.port(port).hold();
         let taken = taken_after(self.had(port), due);
@@ -198,12 +233,12 @@ impl<const N: usize> Live<N> {
     }
 
     // Like `next`, with the ports numbered from 0.
-    fn first(&self, plan: &Plan<N>) -> Option<(usize, Due)>
-        ensures first { IsSoFar plan.now self.now N result }
+    fn first(&self, plan: &Plan<N>) -> Option<(usize, &Due)>
+        ensures first { IsSoFar plan.now self.now N (option_map (λ r. (r.0, r.1.now)) result) }
         ensures is_plan { IsPlan N plan.now }
     {
         let _end = plan.end();
-        let mut first: Option<(usize, Due)> = None;
+        let mut first: Option<(usize, &Due)> = None;
         for port in 0..N {
             first = self.with_port(plan, port, first);
         }
@@ -211,15 +246,15 @@ impl<const N: usize> Live<N> {
     }
 
     // The first due with one more port.
-    fn with_port(
-        &self,
+    fn with_port<'a>(
+        &'a self,
         plan: &Plan<N>,
         port: usize,
-        first: Option<(usize, Due)>,
-    ) -> Option<(usize, Due)>
+        first: Option<(usize, &'a Due)>,
+    ) -> Option<(usize, &'a Due)>
         requires known { port < N }
-        requires so_far { IsSoFar plan.now self.now port first }
-        ensures { IsSoFar plan.now self.now (port + 1) result }
+        requires so_far { IsSoFar plan.now self.now port (option_map (λ r. (r.0, r.1.now)) first) }
+        ensures { IsSoFar plan.now self.now (port + 1) (option_map (λ r. (r.0, r.1.now)) result) }
     {
         let end = plan.end();
         let Some(due) = self.due(port) else {
@@ -228,22 +263,26 @@ impl<const N: usize> Live<N> {
         if due.time > end {
             return first;
         }
-        if is_before(&due, &first) {
+        if is_before(due, &first) {
             return Some((port, due));
         }
         first
     }
 
-    fn due(&self, port: usize) -> Option<Due>
+    fn due(&self, port: usize) -> Option<&Due>
         requires { port < N }
-        ensures { result ≡ due_at self.now port }
+        ensures { option_map (λ d. d.now) result ≡ due_at self.now port }
     {
-        self.dues[port]
+        self.dues[port].as_ref()
     }
 }
 
 // What each port holds, in microwatts; no less than its floor.
-fn holds_of(alloc: Global, ports: &[Port], floors: &[u64]) -> Result<Vec<u64>, AllocError>
+fn holds_of(
+    alloc: Global,
+    ports: &[SharedPort],
+    floors: &[u64],
+) -> Result<Vec<u64>, AllocError>
     requires { length floors.now ≡ length ports.now }
     ensures count { IfOk result (λ holds. length holds.items ≡ length ports.now) }
     ensures holds { IfOk result (λ holds. (p : ℕ) → p < length ports.now
@@ -277,7 +316,7 @@ fn taken_by<const N: usize>(
 fn next_dues<const N: usize>(
     alloc: Global,
     plan: &Plan<N>,
-    ports: &[Port],
+    ports: &[SharedPort],
     taken: &[usize],
 ) -> Result<Vec<Option<Due>>, AllocError>
     requires ports { length ports.now ≡ N }
@@ -323,8 +362,8 @@ fn is_event(what: &What) -> bool
     matches!(what, What::Event(_))
 }
 
-fn is_before(due: &Due, first: &Option<(usize, Due)>) -> bool
-    ensures { IsTrue result ↔ MatchOption first.now ⊤ (λ r. due.now.time < r.1.time) }
+fn is_before(due: &Due, first: &Option<(usize, &Due)>) -> bool
+    ensures { IsTrue result ↔ MatchOption {T = ℕ × DueData} (option_map (λ r. (r.0, r.1.now)) first.now) ⊤ (λ r. due.now.time < r.1.time) }
 {
     match first {
         None => true,

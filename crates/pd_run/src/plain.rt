@@ -102,7 +102,7 @@ fn run<const N: usize>(
     let mut entries = Vec::new(alloc);
     while let Some((port, due)) = live.next(plan) {
         let answer = live.reply(plan, port, &due);
-        let entry = live.step(plan, port, &due, answer, meter);
+        let entry = live.step(alloc, plan, port, &due, answer, meter)?;
         entries.push((port, entry))?;
     }
     Ok(entries)

@@ -6,6 +6,7 @@ ghost use Rattle.pd_scenario.specs.Plan.{IsPlan, settings_of, script_of, floors_
 ghost use Rattle.pd_scenario.specs.Plans.{plan_of};
 ghost use Rattle.pd_run.specs.Start.{start_of};
 
+use crate::SharedPort;
 use pd_port::Port;
 use pd_scenario::{BudgetChange, Scenario, last_change_by};
 use pd_setup::{Event, Settings};
@@ -144,10 +145,14 @@ impl<const N: usize> Plan<N> {
     }
 
     /// Each port at the start.
-    pub(crate) fn ports(&self, alloc: Global) -> Result<Vec<Port>, AllocError>
+    pub(crate) fn ports(&self, alloc: Global) -> Result<Vec<SharedPort>, AllocError>
         ensures { IfOk result (λ v. v.items ≡ map start_of self.now.settings) }
     {
-        self.settings.iter().map(|s| Port::new(s)).collect(alloc)
+        let mut ports = Vec::new(alloc);
+        for settings in &self.settings {
+            ports.push(SharedPort::new(alloc, Port::new(settings))?)?;
+        }
+        Ok(ports)
     }
 }
 

@@ -5,7 +5,7 @@ use Rattle.pd_run.specs.Live.{StandsAfter}
 use Rattle.pd_run.specs.StepsLeft.{steps_left}
 use Rattle.pd_run.specs.UpTo.{IsUpTo}
 use Rattle.pd_keep.specs.Kept.{KeptData, move_of, IsOwn, AreBefore}
-use Rattle.pd_keep.specs.Places.{AreAt}
+use Rattle.pd_keep.specs.Places.{ArePlaced}
 use Rattle.pd_keep.specs.Rerun.{AreThose, Costs}
 use Rattle.pd_keep.specs.Spans.{BeginsAfter}
 use Rattle.pd_keep.proofs.one_span.run_span.Given as goal
@@ -17,11 +17,11 @@ invariant-loop-port g l = record {
   passed : (t p : ℕ) → NoneLater t p (map move_of l.span.moves) → AreBefore l.old.moves l.from t;
   own : All (IsOwn l.plan) l.span.moves;
   begun : (past : List Move) → StandsAfter l.plan past l.fn.live → BeginsAfter g.row.N l.plan past l.span;
+  placed : ArePlaced g.row.N l.old.moves l.span.moves l.places l.live;
+  many : length l.places ≡ 8;
   earlier : All (λ m. m.due.time < l.to) (map move_of l.span.moves);
   later : (past : List Move) (from : ℕ) → StandsAfter l.plan past l.fn.live → IsUpTo l.plan past from
       → All (λ m. from ≤ m.due.time) (map move_of l.span.moves);
-  count : length l.places.items ≡ g.row.N;
-  at : AreAt l.span.records l.live g.row.N l.places.items;
   rises : l.fn.meter ≤ l.meter;
   cost : (old_plan : Plan) (all : List KeptData) (past : List Move) (from : ℕ) → All (IsOwn old_plan) all
       → AreThose all from l.to l.old.moves → StandsAfter l.plan past l.fn.live → IsUpTo l.plan past from

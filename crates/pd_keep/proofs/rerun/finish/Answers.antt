@@ -1,7 +1,7 @@
 use Rattle.std.proofs.Common.{◌/◌, ◌*◌, ◌≡◌, ◌+◌, [], List, All, ap, sym, subst, arith}
 use Rattle.pd_run.proofs.Cut.{All-nil}
 use Rattle.pd_keep.specs.Kept.{KeptData, IsMade, AreInTime}
-use Rattle.pd_keep.specs.Places.{RunData}
+use Rattle.pd_keep.specs.Kept.{RunData}
 use Rattle.pd_keep.specs.Rerun.{IsSoFar, AreThose}
 use Rattle.pd_keep.specs.Spans.{kept_of_spans}
 use Rattle.pd_keep.proofs.Beside.{over_those}

@@ -2,7 +2,7 @@ use Rattle.std.proofs.Common.{◌≡◌, ◌<◌, ◌++◌, ◌∷◌, [], List,
 use Rattle.pd_run.specs.Live.{StandsAfter}
 use Rattle.pd_run.specs.Run.{Move}
 use Rattle.pd_keep.specs.Kept.{KeptData, move_of}
-use Rattle.pd_keep.specs.Places.{RunData}
+use Rattle.pd_keep.specs.Kept.{RunData}
 use Rattle.pd_keep.specs.Rerun.{ComesTo, IsSoFar, StandsAlike, AreStanding, AreThose, Costs}
 use Rattle.pd_keep.specs.Spans.{kept_of_spans, moves_of}
 use Rattle.pd_keep.proofs.Beside.{IsShared, comes_alike, shares, next_costs}

@@ -1,6 +1,6 @@
 use Rattle.std.proofs.Common.{◌<◌, ℕ, List, sym, subst}
 use Rattle.pd_keep.specs.declared.rerun.Standing.{Standing}
-use Rattle.pd_keep.specs.Places.{RunData}
+use Rattle.pd_keep.specs.Kept.{RunData}
 use Rattle.pd_keep.specs.Rerun.{Costs, IsDone}
 use Rattle.pd_keep.specs.Spans.{IsKept, moves_of}
 use Rattle.pd_keep.proofs.Beside.{own_old}

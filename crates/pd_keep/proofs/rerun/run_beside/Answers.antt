@@ -2,7 +2,7 @@ use Rattle.std.proofs.Common.{◌≡◌, ◌+◌, List, None, Some, suc, slice_g
 use Rattle.std.proofs.lemmas.List.{take_all}
 use Rattle.std.proofs.lemmas.Option.{slice_get_within}
 use Rattle.pd_run.specs.UpTo.{AgreeIn}
-use Rattle.pd_keep.specs.Places.{RunData}
+use Rattle.pd_keep.specs.Kept.{RunData}
 use Rattle.pd_keep.specs.Rerun.{ComesTo}
 use Rattle.pd_keep.specs.Spans.{moves_of, end_of, begins_at}
 use Rattle.pd_keep.proofs.Beside.{so_far_none, done_alike, over_from, past_all, comes_to}

@@ -2,7 +2,7 @@ use Rattle.std.proofs.Common.{◌≡◌, ⊎_elim, inr, ◌++◌, ◌∷◌, ◌
 use Rattle.pd_run.specs.Run.{Move}
 use Rattle.pd_run.specs.Live.{StandsAfter}
 use Rattle.pd_keep.specs.Kept.{move_of}
-use Rattle.pd_keep.specs.Places.{RunData}
+use Rattle.pd_keep.specs.Kept.{RunData}
 use Rattle.pd_keep.specs.Rerun.{IsSoFar, IsNextSpan, Costs}
 use Rattle.pd_keep.specs.Spans.{moves_of}
 use Rattle.pd_keep.proofs.Beside.{costs-append, those_later}

@@ -6,8 +6,8 @@ use Rattle.pd_run.specs.Live.{LiveData, next_move}
 use Rattle.pd_run.specs.StepsLeft.{steps_left}
 use Rattle.pd_run.proofs.plain.run.Goals as goal
 
-pub step-entry-requires : goal.step-entry-requires
-step-entry-requires g c =
+pub step-requires : goal.step-requires
+step-requires g c =
     let i = c.loop-port.invariant in
     let stands = c.reply-answer.ensures.stands i.moves i.stands in
     let next = c.reply-answer.ensures.next c.in-Some.ensures.next in
@@ -26,7 +26,7 @@ pub loop-port-smaller : goal.loop-port-smaller
 loop-port-smaller g c =
     let same : steps_left c.args.plan.now c.reply-answer.new.self ≡ steps_left c.args.plan.now c.loop-port.live =
     ap (steps_left c.args.plan.now) c.reply-answer.ensures.budget in
-    omega (arith, c.step-entry.ensures.less)
+    omega (arith, c.in_ok-entry.ensures.less)
 
 pub loop-port-preserved : goal.loop-port-preserved
 loop-port-preserved g c =
@@ -38,15 +38,15 @@ loop-port-preserved g c =
     let stands = c.reply-answer.ensures.stands i.moves i.stands in
     let m : Move = next_move plan i.moves p d in
     let one_more = length_push i.moves m in
-    let entry : c.step-entry.result ≡ m.entry = c.step-entry.ensures.entry i.moves stands in
+    let entry : c.in_ok-entry.entry ≡ m.entry = c.in_ok-entry.ensures.entry i.moves stands in
     let port : c.in-Some.port ≡ p + 1 = omega (arith, next.from_one) in
     record {
       moves = i.moves ++ m ∷ [];
-      stands = c.step-entry.ensures.stands i.moves stands;
-      entries = c.in_ok-push.ensures.items ∙ ap (λ es. es ++ (c.in-Some.port, c.step-entry.result) ∷ []) i.entries
+      stands = c.in_ok-entry.ensures.stands i.moves stands;
+      entries = c.in_ok-push.ensures.items ∙ ap (λ es. es ++ (c.in-Some.port, c.in_ok-entry.entry) ∷ []) i.entries
           ∙ ap (λ (e : Entry). map shown i.moves ++ (c.in-Some.port, e) ∷ []) entry
           ∙ ap (λ k. map shown i.moves ++ (k, m.entry) ∷ []) port ∙ sym (map-append shown i.moves (m ∷ []));
-      cost = omega (arith, c.step-entry.ensures.meter, i.cost);
+      cost = omega (arith, c.in_ok-entry.ensures.meter, i.cost);
     }
 
 pub returns-clause-run : goal.returns-clause-run

@@ -4,7 +4,7 @@ use Rattle.pd_keep.specs.declared.kept.KeptRun.{KeptRun}
 use Rattle.pd_keep.specs.Fresh.{Running}
 use Rattle.pd_keep.specs.Running.{running, Keeps}
 use Rattle.pd_keep.specs.Spans.{IsKept, kept_of_spans}
-use Rattle.pd_keep.proofs.Places.{shown_as_moves}
+use Rattle.pd_keep.proofs.Shows.{shown_as_moves}
 use Rattle.pd_keep.proofs.kept.KeptRunner.entry.Goals as goal
 
 pub returns-clause-entry : goal.returns-clause-entry

@@ -4,7 +4,7 @@ use Rattle.pd_run.specs.Notes.{IsNextWith}
 use Rattle.pd_run.specs.Run.{shown}
 use Rattle.pd_keep.specs.declared.kept.KeptRun.{KeptRun}
 use Rattle.pd_keep.specs.Fresh.{Running}
-use Rattle.pd_keep.specs.Places.{shown_of}
+use Rattle.pd_keep.specs.Kept.{shown_of}
 use Rattle.pd_keep.specs.Running.{running, Keeps}
 use Rattle.pd_keep.specs.Spans.{IsKept, kept_of_spans}
 use Rattle.pd_keep.proofs.Noted.{shown_all}

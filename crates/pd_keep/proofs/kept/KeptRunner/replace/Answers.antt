@@ -7,7 +7,7 @@ use Rattle.pd_run.specs.Shown.{SafeRun}
 use Rattle.pd_keep.specs.declared.kept.KeptRun.{KeptRun}
 use Rattle.pd_keep.specs.Cost.{CostsFreshMoves}
 use Rattle.pd_keep.specs.Fresh.{Running, IsCharged}
-use Rattle.pd_keep.specs.Places.{RunData}
+use Rattle.pd_keep.specs.Kept.{RunData}
 use Rattle.pd_keep.specs.Rerun.{Costs}
 use Rattle.pd_keep.specs.Running.{running}
 use Rattle.pd_keep.specs.Spans.{IsKept, moves_of}

@@ -3,13 +3,11 @@ use Rattle.std.specs.Prelude.{min}
 use Rattle.std.proofs.lemmas.Bool.{ltb-false}
 use Rattle.std.proofs.lemmas.List.{length-map}
 use Rattle.std.proofs.lemmas.Option.{slice_get-get_or}
-use Rattle.pd_port.specs.Port.{PortData}
 use Rattle.pd_port.specs.declared.entry.Entry.{Entry}
 use Rattle.pd_run.specs.Notes.{Leaves, NoneLeaves, IsNextWith}
 use Rattle.pd_run.specs.declared.note.Marks.{Marks}
-use Rattle.pd_keep.specs.declared.kept_move.KeptMove.{KeptMove}
 use Rattle.pd_keep.specs.Kept.{KeptData}
-use Rattle.pd_keep.specs.Places.{RunData, shown_of, kept_in, marks_kept}
+use Rattle.pd_keep.specs.Kept.{RunData, shown_of, marks_kept}
 use Rattle.pd_keep.proofs.Noted.{marked, unmarked, none_more, none_left}
 use Rattle.pd_keep.proofs.kept_move.KeptMoves.next_with.Goals as goal
 
@@ -18,13 +16,12 @@ returns-then-have c =
     let i = c.loop-marks.invariant in
     let at = c.loop-marks.at in
     let note = c.args.note in
-    let moves : List KeptMove = c.self.inside.moves.items in
-    let records : List PortData = c.self.inside.records.items in
+    let moves : List KeptData = c.self.inside.moves.items in
     let kept : List KeptData = c.args.self.now.moves in
-    let kept_is : map (kept_in records) moves ≡ kept = ap (λ (r : RunData). r.moves) c.self.view_is in
+    let kept_is : moves ≡ kept = ap (λ (r : RunData). r.moves) c.self.view_is in
     let m : Marks = c.in-Some.marks.now in
     let list : List Marks = c.deref.result.now in
-    let list_is : list ≡ map marks_kept moves = c.deref.ensures.value ∙ c.self.invariant.1 in
+    let list_is : list ≡ map marks_kept moves = c.deref.ensures.value ∙ c.self.invariant.0 in
     let there : slice_get (map marks_kept moves) at ≡ Some m =
     ap (λ (l : List Marks). slice_get l at) (sym list_is) ∙ slice_get-get_or list at m c.in-Some.ensures.lookup.3.0
     ∙ ap Some (sym c.in-Some.ensures.lookup.1) in
@@ -35,7 +32,7 @@ returns-then-have c =
       not_before = subst (λ n. min c.args.from n ≤ at) (sym count) i.past;
       none_between = i.none;
       leaves = subst (λ (l : List KeptData). IfSome (slice_get (map shown_of l) at) (Leaves note)) kept_is
-          (marked note records moves at m there (c.have.ensures.0 c.if-have.true));
+          (marked note moves at m there (c.have.ensures.0 c.if-have.true));
     }
 
 pub loop-marks-preserved : goal.loop-marks-preserved
@@ -43,26 +40,24 @@ loop-marks-preserved c =
     let i = c.loop-marks.invariant in
     let at = c.loop-marks.at in
     let note = c.args.note in
-    let moves : List KeptMove = c.self.inside.moves.items in
-    let records : List PortData = c.self.inside.records.items in
+    let moves : List KeptData = c.self.inside.moves.items in
     let kept : List KeptData = c.args.self.now.moves in
-    let kept_is : map (kept_in records) moves ≡ kept = ap (λ (r : RunData). r.moves) c.self.view_is in
+    let kept_is : moves ≡ kept = ap (λ (r : RunData). r.moves) c.self.view_is in
     let m : Marks = c.in-Some.marks.now in
     let list : List Marks = c.deref.result.now in
-    let list_is : list ≡ map marks_kept moves = c.deref.ensures.value ∙ c.self.invariant.1 in
+    let list_is : list ≡ map marks_kept moves = c.deref.ensures.value ∙ c.self.invariant.0 in
     let there : slice_get (map marks_kept moves) at ≡ Some m =
     ap (λ (l : List Marks). slice_get l at) (sym list_is) ∙ slice_get-get_or list at m c.in-Some.ensures.lookup.3.0
     ∙ ap Some (sym c.in-Some.ensures.lookup.1) in
-    let none = unmarked note records moves at m there
+    let none = unmarked note moves at m there
     (λ h. absurd (let t : c.have.result ≡ true = c.have.ensures.1 h in let f : c.have.result ≡ false = c.if-have.false in cc)) in
     let marks_count = ap length list_is in
     let moves_count = length-map moves marks_kept in
-    let kept_count = length-map moves (kept_in records) in
     let same_count = ap length kept_is in
     let lt = c.in-Some.ensures.lookup.3.0 in
     let past = i.past in
     record {
-      inside = omega (arith, marks_count, moves_count, kept_count, same_count, lt);
+      inside = omega (arith, marks_count, moves_count, same_count, lt);
       past = omega (arith, past);
       none = none_more note (map shown_of kept) c.args.from at i.none
           (subst (λ (l : List KeptData). IfSome (slice_get (map shown_of l) at) (λ (move : ℕ × Entry). ¬ Leaves note move)) kept_is none);
@@ -73,20 +68,18 @@ returns c =
     let i = c.loop-marks.invariant in
     let at = c.loop-marks.at in
     let note = c.args.note in
-    let moves : List KeptMove = c.self.inside.moves.items in
-    let records : List PortData = c.self.inside.records.items in
+    let moves : List KeptData = c.self.inside.moves.items in
     let kept : List KeptData = c.args.self.now.moves in
-    let kept_is : map (kept_in records) moves ≡ kept = ap (λ (r : RunData). r.moves) c.self.view_is in
+    let kept_is : moves ≡ kept = ap (λ (r : RunData). r.moves) c.self.view_is in
     let all : List (ℕ × Entry) = map shown_of kept in
     let list : List Marks = c.deref.result.now in
-    let list_is : list ≡ map marks_kept moves = c.deref.ensures.value ∙ c.self.invariant.1 in
+    let list_is : list ≡ map marks_kept moves = c.deref.ensures.value ∙ c.self.invariant.0 in
     let past : length list ≤ at = ltb-false at (length list) (sym c.in_default.ensures.lookup.0) in
     let marks_count = ap length list_is in
     let moves_count = length-map moves marks_kept in
-    let kept_count = length-map moves (kept_in records) in
     let same_count = ap length kept_is in
     let count = length-map kept shown_of in
     let inside = i.inside in
-    let same : at ≡ length all = omega (arith, marks_count, moves_count, kept_count, same_count, past, count, inside) in
+    let same : at ≡ length all = omega (arith, marks_count, moves_count, same_count, past, count, inside) in
     subst (λ k. IsNextWith note all c.args.from k) (sym same)
     (none_left note all c.args.from (subst (λ k. NoneLeaves note all c.args.from k) same i.none))

@@ -1,7 +1,7 @@
 use Rattle.std.proofs.Common.{◌-◌, ◌≤◌, length, map}
 use Rattle.std.specs.Prelude.{min}
 use Rattle.pd_run.specs.Notes.{NoneLeaves}
-use Rattle.pd_keep.specs.Places.{shown_of}
+use Rattle.pd_keep.specs.Kept.{shown_of}
 use Rattle.pd_keep.proofs.kept_move.KeptMoves.next_with.Given as goal
 
 abbrev pub invariant-loop-marks : goal.invariant-loop-marks

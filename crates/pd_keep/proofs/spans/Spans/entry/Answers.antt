@@ -2,7 +2,7 @@ use Rattle.std.proofs.Common.{◌≡◌, ◌-◌, List, Some, length, take, slic
 use Rattle.std.proofs.lemmas.Option.{slice_get-get_or}
 use Rattle.pd_keep.specs.declared.spans.Span.{Span}
 use Rattle.pd_keep.specs.Firsts.{span_of}
-use Rattle.pd_keep.specs.Places.{RunData, shown_of}
+use Rattle.pd_keep.specs.Kept.{RunData, shown_of}
 use Rattle.pd_keep.specs.Spans.{kept_of_spans}
 use Rattle.pd_keep.proofs.Entries.{first_is, move_in_span, span_there}
 use Rattle.pd_keep.proofs.spans.Spans.entry.Goals as goal

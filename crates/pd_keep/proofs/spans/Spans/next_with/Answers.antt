@@ -6,7 +6,7 @@ use Rattle.pd_port.specs.declared.entry.Entry.{Entry}
 use Rattle.pd_run.specs.Notes.{NoneLeaves, IsNextWith}
 use Rattle.pd_keep.specs.declared.spans.Span.{Span}
 use Rattle.pd_keep.specs.Firsts.{span_of}
-use Rattle.pd_keep.specs.Places.{RunData, shown_of}
+use Rattle.pd_keep.specs.Kept.{RunData, shown_of}
 use Rattle.pd_keep.specs.Spans.{kept_of_spans}
 use Rattle.pd_keep.proofs.Entries.{first_is, span_there}
 use Rattle.pd_keep.proofs.Noted.{found_in, none_in, none_left}

@@ -1,6 +1,6 @@
 use Rattle.std.proofs.Common.{◌-◌, length, map, take}
 use Rattle.pd_run.specs.Notes.{NoneLeaves}
-use Rattle.pd_keep.specs.Places.{shown_of}
+use Rattle.pd_keep.specs.Kept.{shown_of}
 use Rattle.pd_keep.specs.Spans.{kept_of_spans}
 use Rattle.pd_keep.proofs.spans.Spans.next_with.Given as goal
 

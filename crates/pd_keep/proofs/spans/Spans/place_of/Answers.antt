@@ -3,7 +3,7 @@ use Rattle.std.proofs.lemmas.List.{length-map}
 use Rattle.std.proofs.lemmas.Option.{slice_get-get_or}
 use Rattle.pd_keep.specs.declared.spans.Span.{Span}
 use Rattle.pd_keep.specs.Firsts.{span_of}
-use Rattle.pd_keep.specs.Places.{RunData}
+use Rattle.pd_keep.specs.Kept.{RunData}
 use Rattle.pd_keep.specs.Spans.{kept_of_spans}
 use Rattle.pd_keep.proofs.Entries.{first_is}
 use Rattle.pd_keep.proofs.spans.Spans.place_of.Goals as goal

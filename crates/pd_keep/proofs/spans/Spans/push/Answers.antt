@@ -1,7 +1,7 @@
 use Rattle.std.proofs.Common.{◌≡◌, ◌++◌, ◌∷◌, [], List, length, map, ap, sym, ◌∙◌, subst, arith}
 use Rattle.pd_keep.specs.declared.spans.Span.{Span}
 use Rattle.pd_keep.specs.Firsts.{AreCounted, span_of}
-use Rattle.pd_keep.specs.Places.{RunData}
+use Rattle.pd_keep.specs.Kept.{RunData}
 use Rattle.pd_keep.specs.Spans.{kept_of_spans}
 use Rattle.pd_keep.proofs.Entries.{counted_push, count_push}
 use Rattle.pd_keep.proofs.spans.Spans.push.Goals as goal

@@ -1,4 +1,4 @@
-use Rattle.std.proofs.Common.{◌≡◌, ℕ, arith, subst}
+use Rattle.std.proofs.Common.{option_map, ◌≡◌, ℕ, arith, subst}
 use Rattle.pd_run.specs.Live.{IsSoFar}
 use Rattle.pd_run.proofs.live.Live.first.Goals as goal
 
@@ -7,4 +7,4 @@ returns-clause-first g c =
     let upper = c.loop-port.auto.port-end in
     let lower = c.loop-port-test.false in
     let all : c.loop-port.port ≡ g.row.N = omega arith in
-    subst (λ (n : ℕ). IsSoFar c.args.plan.now c.args.self.now n c.loop-port.first) all c.loop-port.invariant
+    subst (λ (n : ℕ). IsSoFar c.args.plan.now c.args.self.now n (option_map (λ r. (r.0, r.1.now)) c.loop-port.first)) all c.loop-port.invariant

@@ -7,7 +7,7 @@ use Rattle.pd_run.proofs.live.Live.next.Goals as goal
 
 pub returns-clause-next : goal.returns-clause-next
 returns-clause-next g c =
-    first_is_next c.args.plan.now c.args.self.now g.row.N c.in_ok-port.port c.in_ok-port.due
+    first_is_next c.args.plan.now c.args.self.now g.row.N c.in_ok-port.port c.in_ok-port.due.now
     c.in_ok-port.ensures.is_plan.settings_count c.in_ok-port.ensures.first
 
 pub returns-in_err-port-clause-next : goal.returns-in_err-port-clause-next
@@ -21,8 +21,8 @@ returns-in_err-port-clause-next g c =
 pub returns-clause-in_order : goal.returns-clause-in_order
 returns-clause-in_order g c = λ past stands.
     let plan = c.args.plan.now in
-    let next = first_is_next plan c.args.self.now g.row.N c.in_ok-port.port c.in_ok-port.due c.in_ok-port.ensures.is_plan.settings_count
+    let next = first_is_next plan c.args.self.now g.row.N c.in_ok-port.port c.in_ok-port.due.now c.in_ok-port.ensures.is_plan.settings_count
     c.in_ok-port.ensures.first in
     let p = c.in_ok-port.port + 1 - 1 in
-    stands.runs.ahead p c.in_ok-port.due next.first.known (sym (stands.dues_are p next.first.known)
+    stands.runs.ahead p c.in_ok-port.due.now next.first.known (sym (stands.dues_are p next.first.known)
     ∙ next.first.is_due)

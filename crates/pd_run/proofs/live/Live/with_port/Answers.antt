@@ -1,27 +1,27 @@
-use Rattle.std.proofs.Common.{◌<◌, ◌≤◌, sym, ◌∙◌}
+use Rattle.std.proofs.Common.{option_map, ap, ◌<◌, ◌≤◌, sym, ◌∙◌}
 use Rattle.pd_run.proofs.First.{takes, keeps, passes_late, passes_no_sooner, passes_each, passes_none}
 use Rattle.pd_run.proofs.live.Live.with_port.Goals as goal
 
 pub returns-in_default : goal.returns-in_default
 returns-in_default g c =
-    keeps c.args.plan.now c.args.self.now c.args.port c.args.first c.requires.so_far
-    (passes_none c.args.plan.now c.args.self.now c.args.port c.args.first (sym c.due.ensures ∙ c.in_default.is))
+    keeps c.args.plan.now c.args.self.now c.args.port (option_map (λ r. (r.0, r.1.now)) c.args.first) c.requires.so_far
+    (passes_none c.args.plan.now c.args.self.now c.args.port (option_map (λ r. (r.0, r.1.now)) c.args.first) (sym c.due.ensures ∙ ap (option_map (λ d. d.now)) c.in_default.is))
 
 pub returns-then-due-end : goal.returns-then-due-end
 returns-then-due-end g c =
-    let late : c.args.plan.now.end < c.in-Some.due.time = rw (sym c.end-end.ensures.end) c.if-due-end.true in
-    keeps c.args.plan.now c.args.self.now c.args.port c.args.first c.requires.so_far
-    (passes_each c.args.plan.now c.args.self.now c.args.port c.args.first c.in-Some.due (sym c.due.ensures ∙ c.in-Some.is)
-    (passes_late c.args.plan.now c.args.self.now c.args.port c.in-Some.due c.args.first c.requires.so_far late))
+    let late : c.args.plan.now.end < c.in-Some.due.now.time = rw (sym c.end-end.ensures.end) c.if-due-end.true in
+    keeps c.args.plan.now c.args.self.now c.args.port (option_map (λ r. (r.0, r.1.now)) c.args.first) c.requires.so_far
+    (passes_each c.args.plan.now c.args.self.now c.args.port (option_map (λ r. (r.0, r.1.now)) c.args.first) c.in-Some.due.now (sym c.due.ensures ∙ ap (option_map (λ d. d.now)) c.in-Some.is)
+    (passes_late c.args.plan.now c.args.self.now c.args.port c.in-Some.due.now (option_map (λ r. (r.0, r.1.now)) c.args.first) c.requires.so_far late))
 
 pub returns-then-is_before : goal.returns-then-is_before
 returns-then-is_before g c =
-    let soon : c.in-Some.due.time ≤ c.args.plan.now.end = rw (sym c.end-end.ensures.end) c.if-due-end.false in
-    takes c.args.plan.now c.args.self.now c.args.port c.in-Some.due c.args.first c.requires.so_far (sym c.due.ensures ∙ c.in-Some.is) soon
+    let soon : c.in-Some.due.now.time ≤ c.args.plan.now.end = rw (sym c.end-end.ensures.end) c.if-due-end.false in
+    takes c.args.plan.now c.args.self.now c.args.port c.in-Some.due.now (option_map (λ r. (r.0, r.1.now)) c.args.first) c.requires.so_far (sym c.due.ensures ∙ ap (option_map (λ d. d.now)) c.in-Some.is) soon
     (c.is_before.ensures.0 c.if-is_before.true)
 
 pub returns : goal.returns
 returns g c =
-    keeps c.args.plan.now c.args.self.now c.args.port c.args.first c.requires.so_far
-    (passes_each c.args.plan.now c.args.self.now c.args.port c.args.first c.in-Some.due (sym c.due.ensures ∙ c.in-Some.is)
-    (passes_no_sooner c.args.plan.now c.in-Some.due c.args.first c.is_before.result c.is_before.ensures.1 c.if-is_before.false))
+    keeps c.args.plan.now c.args.self.now c.args.port (option_map (λ r. (r.0, r.1.now)) c.args.first) c.requires.so_far
+    (passes_each c.args.plan.now c.args.self.now c.args.port (option_map (λ r. (r.0, r.1.now)) c.args.first) c.in-Some.due.now (sym c.due.ensures ∙ ap (option_map (λ d. d.now)) c.in-Some.is)
+    (passes_no_sooner c.args.plan.now c.in-Some.due.now (option_map (λ r. (r.0, r.1.now)) c.args.first) c.is_before.result c.is_before.ensures.1 c.if-is_before.false))

@@ -1,0 +1,165 @@
+//! A port that runs share.
+
+ghost use Rattle.std.specs.Prelude.{◌≡◌, ◌≤◌, IfOk, OnOk};
+ghost use Rattle.std.specs.Option.{option_copied};
+ghost use Rattle.pd_port.specs.Meter.{raised};
+ghost use Rattle.pd_port.specs.Port.{due as the_due, ask, record_after, entry_of, hold};
+
+use pd_objects::{Answer, Query};
+use pd_port::{Due, Entry, Event, Meter, Port};
+use std::alloc::{AllocError, Global};
+use std::marker::Model;
+use std::rc::Rc;
+
+/// A port, and what falls due on it but for events, which is worked out once for each of its steps.
+#[derive(Drop)]
+struct TimedPort {
+    port: Port,
+    own: Option<Due>,
+}
+
+impl Model for TimedPort {
+    ghost use Rattle.std.specs.Prelude.{◌≡◌, None};
+    ghost use Rattle.pd_port.specs.Port.{PortData, due};
+
+    ghost Value = { PortData };
+
+    ghost view = { λ p. p.port };
+
+    ghost invariant = { λ p. p.own ≡ due p.port.port_record None };
+}
+
+impl TimedPort {
+    fn new(port: Port) -> TimedPort
+        ensures { result ≡ port }
+    {
+        let own = port.due(None);
+        TimedPort { port, own }
+    }
+
+    // What falls due next, where this is the next event.
+    #[tactic(auto, unfolding(pd_port::specs::Port::due, pd_port::specs::Port::is_before))]
+    fn due(&self, next: Option<&Event>) -> Option<Due>
+        ensures { result ≡ the_due self.now.port_record (option_copied next.entry) }
+    {
+        let Some(event) = next else {
+            return self.own;
+        };
+        if let Some(own) = &self.own {
+            if own.time < event.at() {
+                return Some(*own);
+            }
+        }
+        self.port.due(Some(event))
+    }
+
+    fn step(&mut self, due: &Due, answer: Option<Answer>, meter: &mut Meter) -> Entry
+        requires { due.now.time ≤ 120000000 }
+        ensures after { self.new ≡ record self.old {
+          port_record = record_after self.old.settings self.old.port_record due.now answer;
+        } }
+        ensures entry { result ≡ entry_of self.old.settings self.old.port_record due.now answer }
+        ensures meter { meter.new ≡ raised meter.old 1 }
+    {
+        let entry = self.port.step(due, answer, meter);
+        self.own = self.port.due(None);
+        entry
+    }
+}
+
+/// A port as it stands, which runs and what is kept of them may share. It is copied where one of them steps it.
+#[derive(Drop)]
+pub struct SharedPort {
+    port: Rc<TimedPort>,
+}
+
+impl Model for SharedPort {
+    ghost use Rattle.pd_port.specs.Port.{PortData};
+
+    ghost Value = { PortData };
+
+    ghost view = { λ p. p.port.value };
+}
+
+impl SharedPort {
+    /// A port that nobody else has yet.
+    ///
+    /// # Errors
+    /// There is no memory.
+    pub fn new(alloc: Global, port: Port) -> Result<SharedPort, AllocError>
+        ensures { IfOk result (λ shared. shared ≡ port) }
+    {
+        Ok(SharedPort {
+            port: Rc::new(alloc, TimedPort::new(port))?,
+        })
+    }
+
+    /// The same port for one more owner.
+    ///
+    /// # Errors
+    /// It has more owners than can be counted.
+    pub fn share(&self) -> Result<SharedPort, AllocError>
+        ensures { IfOk result (λ shared. shared ≡ self.now) }
+    {
+        Ok(SharedPort {
+            port: self.port.clone()?,
+        })
+    }
+
+    /// The port as it stands.
+    pub fn port(&self) -> &Port
+        ensures { result.now ≡ self.now }
+    {
+        &self.port.port
+    }
+
+    /// What the port asks of the shared budget before the step for this due.
+    pub fn ask(&self, due: &Due) -> Option<Query>
+        ensures { result ≡ ask self.now.settings self.now.port_record due.now }
+    {
+        self.port.port.ask(due)
+    }
+
+    /// What the port holds of the shared budget, in microwatts.
+    pub fn hold(&self) -> u64
+        ensures { result ≡ hold self.now.settings self.now.port_record }
+    {
+        self.port.port.hold()
+    }
+
+    /// What falls due next on the port, whose next event is given.
+    pub fn due(&self, next: Option<&Event>) -> Option<Due>
+        ensures { result ≡ the_due self.now.port_record (option_copied next.entry) }
+    {
+        self.port.due(next)
+    }
+
+    /// The step for this due, with the answer to what the port asked. The meter rises by one. Other owners keep the port as it was.
+    ///
+    /// # Errors
+    /// There is no memory for a copy. The port stands as it stood.
+    pub fn step(
+        &mut self,
+        alloc: Global,
+        due: &Due,
+        answer: Option<Answer>,
+        meter: &mut Meter,
+    ) -> Result<Entry, AllocError>
+        requires { due.now.time ≤ 120000000 }
+        ensures after { OnOk result (self.new ≡ record self.old {
+          port_record = record_after self.old.settings self.old.port_record due.now answer;
+        }) }
+        ensures entry { IfOk result (λ entry. entry ≡ entry_of self.old.settings self.old.port_record due.now answer) }
+        ensures meter { OnOk result (meter.new ≡ raised meter.old 1) }
+        ensures rises { meter.old ≤ meter.new }
+    {
+        let _count = meter.count();
+        if let Some(port) = Rc::get_mut(&mut self.port) {
+            return Ok(port.step(due, answer, meter));
+        }
+        let mut port = self.port.port.copy();
+        let entry = port.step(due, answer, meter);
+        self.port = Rc::new(alloc, TimedPort::new(port))?;
+        Ok(entry)
+    }
+}
