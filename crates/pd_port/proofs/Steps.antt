@@ -65,6 +65,15 @@ led p settings w v u d given view faults start set first second =
     a ∙ ap (λ (r : PortParts). portstep r d given) (sym b) in
     subst (λ (q : PortData). u ≡ portstep (whole q.settings q.port_record) d given) view c
 
+-- the same of a step that owns the port's parts
+pub led_from : (p : PortData) (settings : SettingsData) (r s : PortParts) (w v u : PortStep) (d : Due) (given : Option Answer) →
+    SeenAs p settings (begun r None) → r.source.settings ≡ source_settings settings → s ≡ r → w ≡ begun s None →
+    v ≡ happens d.what d.time (record w { answer = given }) → u ≡ line_starts d.time v → LedTo p d given u
+led_from p settings r s w v u d given view set same is first second =
+    let w_is : w ≡ begun r None = is ∙ ap (λ (x : PortParts). begun x None) same in
+    led p settings (begun r None) v u d given view refl refl set
+    (first ∙ ap (λ (x : PortStep). happens d.what d.time (record x { answer = given })) w_is) second
+
 -- what a port is after it
 pub after_is : (p : PortData) (settings : SettingsData) (w u : PortStep) (d : Due) (given : Option Answer) → SeenAs p settings w →
     LedTo p d given u → SeenAs (port_data p.settings (record_after p.settings p.port_record d given)) settings u

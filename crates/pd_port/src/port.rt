@@ -3,7 +3,7 @@
 ghost use Rattle.std.specs.Prelude.{◌≡◌, ℕ, ◌+◌, ◌<◌, ◌≤◌, length, IsTrue, ◌↔◌};
 ghost use Rattle.std.specs.Option.{option_copied};
 ghost use Rattle.pd_line.specs.Record.{without_settings};
-ghost use Rattle.pd_port.specs.Port.{due as the_due, happens, source_settings};
+ghost use Rattle.pd_port.specs.Port.{due as the_due, detached, happens, source_settings};
 
 use crate::asks::{is_budget, source_told};
 use crate::dues::{due_of_event, due_of_line, due_of_timer, earlier_of};
@@ -22,20 +22,19 @@ use std::mem;
 #[derive(Drop)]
 pub struct Port {
     settings: Settings,
-    under_way: PortStep,
+    parts: PortParts,
 }
 
 impl Model for Port {
-    ghost use Rattle.std.specs.Prelude.{◌≡◌, [], None};
+    ghost use Rattle.std.specs.Prelude.{◌≡◌};
     ghost use Rattle.pd_line.specs.Record.{without_settings};
     ghost use Rattle.pd_port.specs.Port.{PortData, source_settings};
 
     ghost Value = { PortData };
 
-    ghost view = { λ p. record { settings = p.settings; port_record = without_settings p.under_way.port } };
+    ghost view = { λ p. record { settings = p.settings; port_record = without_settings p.parts } };
 
-    ghost invariant = { λ p. (p.under_way.faults.items ≡ []) × (p.under_way.start ≡ None)
-        × (p.under_way.port.source.settings ≡ source_settings p.settings) };
+    ghost invariant = { λ p. p.parts.source.settings ≡ source_settings p.settings };
 }
 
 /// The earliest of the next event, the line's end and each engine's first timer.
@@ -65,6 +64,19 @@ fn happens(step: &mut PortStep, settings: &Settings, what: &What, t: u64)
     }
 }
 
+// The parts of a port to which nothing is attached.
+#[tactic(auto, unfolding(crate::specs::Port::detached))]
+fn parts_at_rest(settings: &Settings) -> PortParts
+    ensures record { without_settings result ≡ detached settings.now }
+    ensures settings { result.source.settings ≡ source_settings settings.now }
+{
+    PortParts::new(
+        settings.supplies(),
+        settings.identity_tries(),
+        settings.unconstrained(),
+    )
+}
+
 impl Port {
     ghost use Rattle.pd_port.specs.Meter.{raised};
     ghost use Rattle.pd_port.specs.Port.{detached, due as the_due, ask, record_after, entry_of, hold};
@@ -76,11 +88,7 @@ impl Port {
     {
         Port {
             settings: settings.copy(),
-            under_way: PortStep::at_rest(PortParts::new(
-                settings.supplies(),
-                settings.identity_tries(),
-                settings.unconstrained(),
-            )),
+            parts: parts_at_rest(settings),
         }
     }
 
@@ -95,7 +103,7 @@ impl Port {
     pub fn due(&self, next: Option<&Event>) -> Option<Due>
         ensures { result ≡ the_due self.now.port_record (option_copied next.entry) }
     {
-        due_of(&self.under_way.port, next)
+        due_of(&self.parts, next)
     }
 
     /// What the port asks of the shared budget before the step for this due.
@@ -106,8 +114,8 @@ impl Port {
         if is_budget(&due.what) {
             return Some(Query::Keep { power: self.hold() });
         }
-        let stimulus = source_told(&self.under_way.port, &due.what)?;
-        self.under_way.port.source.ask(&stimulus)
+        let stimulus = source_told(&self.parts, &due.what)?;
+        self.parts.source.ask(&stimulus)
     }
 
     /// The step for this due, with the answer to what the port asked. The meter rises by one.
@@ -121,18 +129,20 @@ impl Port {
         let query = self.ask(due);
         let before = self.contract();
         meter.rise();
-        self.under_way.answer = answer;
-        happens(&mut self.under_way, &self.settings, &due.what, due.time);
-        self.under_way.line_starts(due.time);
-        self.under_way.answer = None;
-        let after = self.under_way.port.source.contract();
+        // The step owns the parts while it is under way.
+        let parts = mem::replace(&mut self.parts, parts_at_rest(&self.settings));
+        let mut step = PortStep::at_rest(parts);
+        step.answer = answer;
+        happens(&mut step, &self.settings, &due.what, due.time);
+        step.line_starts(due.time);
+        self.parts = step.port;
         Entry {
             at: due.time,
             due: *due,
             query,
-            faults: mem::replace(&mut self.under_way.faults, ArrayVec::new()),
-            contract: change_of(before, after),
-            start: self.under_way.start.take(),
+            faults: step.faults,
+            contract: change_of(before, self.contract()),
+            start: step.start,
         }
     }
 
@@ -141,8 +151,7 @@ impl Port {
     pub fn hold(&self) -> u64
         ensures { result ≡ hold self.now.settings self.now.port_record }
     {
-        self.under_way
-            .port
+        self.parts
             .source
             .hold(u64::from(self.settings.floor_mw()) * 1_000)
     }
@@ -151,14 +160,14 @@ impl Port {
     pub fn contract(&self) -> Option<Contract>
         ensures { result ≡ self.now.port_record.source.contract }
     {
-        self.under_way.port.source.contract()
+        self.parts.source.contract()
     }
 
     /// Whether both ports' records are the same, whatever the ports are set to.
     pub fn same(&self, other: &Port) -> bool
         ensures { IsTrue result ↔ (self.now.port_record ≡ other.now.port_record) }
     {
-        self.under_way.port.same(&other.under_way.port)
+        self.parts.same(&other.parts)
     }
 
     /// A port with the same settings and the same record.
@@ -167,7 +176,7 @@ impl Port {
     {
         Port {
             settings: self.settings.copy(),
-            under_way: PortStep::at_rest(self.under_way.port.copy()),
+            parts: self.parts.copy(),
         }
     }
 }
