@@ -14,13 +14,12 @@ use std::alloc::{AllocError, Global};
 use std::marker::Model;
 use std::rc::Rc;
 
-/// What is kept of a move: its port, numbered from 1; the port before it; what fell due; the answer to what the port asked; the
-/// port after it; and what the move left to be read.
+/// What is kept of a move: its port, numbered from 1; the port before it; the answer to what the port asked; the port after it; and
+/// what the move left to be read, with what fell due.
 #[derive(Drop)]
 pub struct KeptMove {
     pub port: usize,
     pub before: SharedPort,
-    pub due: Due,
     pub answer: Option<Answer>,
     pub after: SharedPort,
     pub entry: Entry,
@@ -34,7 +33,7 @@ impl Model for KeptMove {
     ghost view = { λ m. record {
       port = m.port;
       before = m.before;
-      due = m.due;
+      due = m.entry.due;
       answer = m.answer;
       after = m.after;
       entry = m.entry;
@@ -199,7 +198,7 @@ impl KeptMoves {
         requires { i < length self.now.moves }
         ensures { (k : KeptData) → result ≡ (slice_index_or self.now.moves i k).due.time }
     {
-        self.moves[i].kept().due.time
+        self.moves[i].kept().entry.due.time
     }
 
     /// A move, for one more run.
@@ -244,7 +243,7 @@ impl KeptMoves {
     {
         let kept = self.moves[i].kept();
         kept.port == port
-            && kept.due.same(due)
+            && kept.entry.due.same(due)
             && same_answer(&kept.answer, answer)
             && (self.follows(i, left) || same_port(kept.before.port(), before))
     }

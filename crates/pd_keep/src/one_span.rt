@@ -164,7 +164,6 @@ fn make<const N: usize>(
     let kept = KeptMove {
         port,
         before,
-        due,
         answer,
         after,
         entry,

@@ -6,27 +6,28 @@ ghost use Rattle.pd_port.specs.Meter.{raised};
 ghost use Rattle.pd_port.specs.Port.{due as the_due, ask, record_after, entry_of, hold};
 
 use pd_objects::{Answer, Query};
-use pd_port::{Due, Entry, Event, Meter, Port};
+use pd_port::{Due, Entry, Event, Meter, Port, What};
 use std::alloc::{AllocError, Global};
 use std::marker::Model;
 use std::rc::Rc;
 
-/// A port, and what falls due on it but for events, which is worked out once for each of its steps.
+/// A port, and what is worked out once after each of its steps: what falls due on it but for events, and what it holds.
 #[derive(Drop)]
 struct TimedPort {
     port: Port,
     own: Option<Due>,
+    hold: u64,
 }
 
 impl Model for TimedPort {
     ghost use Rattle.std.specs.Prelude.{◌≡◌, None};
-    ghost use Rattle.pd_port.specs.Port.{PortData, due};
+    ghost use Rattle.pd_port.specs.Port.{PortData, due, hold as held};
 
     ghost Value = { PortData };
 
     ghost view = { λ p. p.port };
 
-    ghost invariant = { λ p. p.own ≡ due p.port.port_record None };
+    ghost invariant = { λ p. (p.own ≡ due p.port.port_record None) × (p.hold ≡ held p.port.settings p.port.port_record) };
 }
 
 impl TimedPort {
@@ -34,7 +35,8 @@ impl TimedPort {
         ensures { result ≡ port }
     {
         let own = port.due(None);
-        TimedPort { port, own }
+        let hold = port.hold();
+        TimedPort { port, own, hold }
     }
 
     // What falls due next, where this is the next event.
@@ -45,12 +47,16 @@ impl TimedPort {
         let Some(event) = next else {
             return self.own;
         };
+        let time = event.at();
         if let Some(own) = &self.own {
-            if own.time < event.at() {
+            if own.time < time {
                 return Some(*own);
             }
         }
-        self.port.due(Some(event))
+        Some(Due {
+            time,
+            what: What::Event(*event),
+        })
     }
 
     fn step(&mut self, due: &Due, answer: Option<Answer>, meter: &mut Meter) -> Entry
@@ -63,6 +69,7 @@ impl TimedPort {
     {
         let entry = self.port.step(due, answer, meter);
         self.own = self.port.due(None);
+        self.hold = self.port.hold();
         entry
     }
 }
@@ -124,7 +131,7 @@ impl SharedPort {
     pub fn hold(&self) -> u64
         ensures { result ≡ hold self.now.settings self.now.port_record }
     {
-        self.port.port.hold()
+        self.port.hold
     }
 
     /// What falls due next on the port, whose next event is given.

@@ -1,5 +1,6 @@
 use Rattle.std.proofs.Common.{◌≡◌, ◌-◌, List, refl, arith, ap, sym, ◌∙◌, slice_index_or}
 use Rattle.std.proofs.lemmas.List.{get_or-set_same}
+use Rattle.pd_port.specs.Port as ports
 use Rattle.pd_port.specs.Port.{PortData}
 use Rattle.pd_run.specs.Run.{Move}
 use Rattle.pd_run.specs.Live.{LiveData, port_at, moved_port, next_move}
@@ -10,6 +11,7 @@ use Rattle.pd_keep.proofs.Made.{kept_is_next, kept_is_moved}
 use Rattle.pd_keep.proofs.one_span.make.Goals as goal
 
 pub returns-clause-kept : goal.returns-clause-kept
+unfolding ports.entry_of
 returns-clause-kept g c =
     let plan = c.args.plan.now in
     let live : LiveData = c.args.live.now in
@@ -34,4 +36,4 @@ returns-clause-kept g c =
     ∙ sym (kept_is_moved live p port x d a refl c.requires.answer) in
     let before : c.in_ok-before.before ≡ x = c.in_ok-before.ensures in
     let answer = c.copy_answer.ensures in
-    c.in_ok-new.ensures ∙ (λ i. record { port = port; before = before i; due = d; answer = a; after = after i; entry = entry i })
+    c.in_ok-new.ensures ∙ (λ i. record { port = port; before = before i; due = (entry i).due; answer = a; after = after i; entry = entry i })
