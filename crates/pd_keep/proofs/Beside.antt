@@ -3,7 +3,7 @@ use Rattle.std.proofs.Common.{◌≡◌, ⊎_elim, inl, inr, ℕ, zero, suc, ◌
 use Rattle.std.proofs.lemmas.Option.{slice_get_within, slice_get-get_or}
 use Rattle.std.proofs.lemmas.Bool.{cases_lt}
 use Rattle.std.proofs.Common.{length, map, take, get_or, All, Contains, Some, None, slice_get, refl, ap, sym, ◌∙◌, subst, arith}
-use Rattle.std.proofs.lemmas.List.{same_lists, get_or-take, length-take-le, get_or_default, length-map}
+use Rattle.std.proofs.lemmas.List.{same_lists, get_or_default, length-map}
 use Rattle.std.proofs.Math.ListN as list_map
 use Rattle.std.proofs.lemmas.List.Elements.{Contains-append_left, Contains-append_right}
 use Rattle.pd_setup.specs.Settings.{SettingsData}
@@ -11,7 +11,6 @@ use Rattle.pd_port.specs.Port.{PortData}
 use Rattle.pd_scenario.specs.Plan.{Plan, IsPlan, count, settings_of, no_settings}
 use Rattle.pd_run.specs.Live.{LiveData, StandsAfter, port_after}
 use Rattle.pd_run.specs.Run.{Move, Run}
-use Rattle.pd_run.specs.Start.{no_port}
 use Rattle.pd_run.specs.UpTo.{before, IsUpTo, AgreeIn, AreAlike, AreAfter}
 use Rattle.pd_run.proofs.Alike.{go_alike, between}
 use Rattle.pd_run.proofs.Cut.{All-nil, IsEarlier, run_up_to, starts_up_to, timely_all}

@@ -1,5 +1,5 @@
 -- After which moves ports stand.
-use Rattle.std.proofs.Common.{◌≡◌, ◌≢◌, ⊎_elim, ℕ, ◌+◌, ◌<◌, ◌≤◌, List, [], ◌∷◌, ◌++◌, length, Option, Some, None}
+use Rattle.std.proofs.Common.{◌≡◌, ◌≢◌, ⊎_elim, ℕ, ◌<◌, ◌≤◌, List, [], ◌∷◌, ◌++◌, length, Option, Some, None}
 use Rattle.std.proofs.Common.{ap, sym, ◌∙◌, arith, subst, slice_index_or, slice_set, replicate}
 use Rattle.std.proofs.Math.ListN.{get_or-append}
 use Rattle.std.proofs.Math.Seq.{get_or-append_seam}
@@ -18,8 +18,7 @@ left_more : (moves : List KeptData) (k : KeptData) (place : Option ℕ) (x : Por
 left_more moves k None x h = tt
 left_more moves k (Some i) x h =
     let more = length_push moves k in
-    let inside = h.0 in
-    (
+    let inside = h.0 in (
       omega (arith, more, inside),
       λ d. ap (λ (m : KeptData). m.after) (get_or-append moves (k ∷ []) d i inside) ∙ h.1 d,
     )
@@ -28,8 +27,7 @@ left_more moves k (Some i) x h =
 left_last : (moves : List KeptData) (k : KeptData) (n : ℕ) (x : PortData) → n ≡ length moves → k.after ≡ x
     → IsLeft (moves ++ k ∷ []) (Some n) x
 left_last moves k n x count after =
-    let more = length_push moves k in
-    (
+    let more = length_push moves k in (
       omega (arith, more, count),
       λ d. ap (λ i. (slice_index_or (moves ++ k ∷ []) i d).after) count
           ∙ ap (λ (m : KeptData). m.after) (get_or-append_seam moves k [] d) ∙ after,
@@ -49,8 +47,7 @@ pub linked_more : (moves : List KeptData) (links : List (Option ℕ)) (k : KeptD
 linked_more moves links k link h last =
     let count = h.0 in
     let moves_more = length_push moves k in
-    let links_more = length_push links link in
-    (
+    let links_more = length_push links link in (
       omega (arith, count, moves_more, links_more),
       λ i d lt.
           ⊎_elim
@@ -83,8 +80,7 @@ follows_is moves links i place x d h inside link left =
 -- at first nothing is known
 pub placed_first : (n : ℕ) (old new : List KeptData) (live : LiveData) → n ≤ 8 → ArePlaced n old new (replicate 8 nowhere) live
 placed_first n old new live few = λ p lt.
-    let is = get_or-replicate 8 p nowhere nowhere (omega arith) in
-    (
+    let is = get_or-replicate 8 p nowhere nowhere (omega arith) in (
       subst (λ (w : Place). IsLeft old w.old (port_at live p)) (sym is) tt,
       subst (λ (w : Place). IsLeft new w.new (port_at live p)) (sym is) tt,
     )
@@ -103,18 +99,17 @@ placed_more n old new places live after p k z found last enough count known last
     ap (λ i. slice_index_or (slice_set places p w) i nowhere) same ∙ get_or-set_same places p w nowhere (omega arith) in
     let port : port_at after q ≡ z =
     ap (λ (l : List PortData). slice_index_or l q no_port) ports ∙ ap (λ i. slice_index_or (slice_set live.ports p z) i no_port) same
-    ∙ get_or-set_same live.ports p z no_port (omega (arith, count)) in
-    (
+    ∙ get_or-set_same live.ports p z no_port (omega (arith, count)) in (
       subst (λ (v : Place). IsLeft old v.old (port_at after q)) (sym place) (subst (λ (x : PortData). IsLeft old found x) (sym port) left),
-      subst (λ (v : Place). IsLeft more v.new (port_at after q)) (sym place) (left_last new k last (port_at after q) last_is (k_is ∙ sym port)),
+      subst (λ (v : Place). IsLeft more v.new (port_at after q)) (sym place)
+          (left_last new k last (port_at after q) last_is (k_is ∙ sym port)),
     ))
     (λ (other : q ≢ p).
     let place : slice_index_or (slice_set places p w) q nowhere ≡ slice_index_or places q nowhere =
     get_or-set_other places p q w nowhere other in
     let port : port_at after q ≡ port_at live q =
     ap (λ (l : List PortData). slice_index_or l q no_port) ports ∙ get_or-set_other live.ports p q z no_port other in
-    let old_place = h q lt in
-    (
+    let old_place = h q lt in (
       subst (λ (v : Place). IsLeft old v.old (port_at after q)) (sym place)
           (subst (λ (x : PortData). IsLeft old (slice_index_or places q nowhere).old x) (sym port) old_place.0),
       subst (λ (v : Place). IsLeft more v.new (port_at after q)) (sym place)

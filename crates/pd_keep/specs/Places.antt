@@ -12,4 +12,4 @@ nowhere = record { old = None; new = None }
 abbrev pub ArePlaced : ℕ → List KeptData → List KeptData → List Place → LiveData → Type 0
 ArePlaced n old new places live =
     (p : ℕ) → p < n
-        → IsLeft old (slice_index_or places p nowhere).old (port_at live p) × IsLeft new (slice_index_or places p nowhere).new (port_at live p)
+    → IsLeft old (slice_index_or places p nowhere).old (port_at live p) × IsLeft new (slice_index_or places p nowhere).new (port_at live p)

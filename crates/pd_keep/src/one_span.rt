@@ -77,15 +77,25 @@ pub fn run_span<const N: usize>(
         }
         let answer = live.reply(plan, port, &due);
         from = skip(old, from, due.time);
-        let place = places[port - 1];
-        let (kept, found) = make(alloc, old, from, place.old, plan, live, port, due, answer, meter)?;
-        span.push(kept, place.new)?;
-        places[port - 1] = Place {
-            old: found,
-            new: Some(span.len() - 1),
-        };
+        let at = places[port - 1];
+        let (kept, found) = make(
+            alloc, old, from, at.old, plan, live, port, due, answer, meter,
+        )?;
+        span.push(kept, at.new)?;
+        places[port - 1] = place_of_last(&span, found);
     }
     Ok(span.ended(to))
+}
+
+// The place of the port whose move is the last of a span, and is found at a place of the old one.
+fn place_of_last(span: &KeptMoves, found: Option<usize>) -> Place
+    requires { 1 ≤ length span.now.moves }
+    ensures { result ≡ record { old = found; new = Some (length span.now.moves - 1) } }
+{
+    Place {
+        old: found,
+        new: Some(span.len() - 1),
+    }
 }
 
 // Where a span ends before a time, if its moves are enough.
@@ -158,6 +168,32 @@ fn make<const N: usize>(
         live.settle(plan, port, &due, kept.kept().after.share()?);
         return Ok((kept, Some(i)));
     }
+    Ok((step(alloc, plan, live, port, due, answer, meter)?, None))
+}
+
+// A port's move for a due that the old run doesn't have.
+fn step<const N: usize>(
+    alloc: Global,
+    plan: &Plan<N>,
+    live: &mut Live<N>,
+    port: usize,
+    due: Due,
+    answer: Option<Answer>,
+    meter: &mut Meter,
+) -> Result<SharedMove, AllocError>
+    requires plan { IsPlan N plan.now }
+    requires stands { (past : List Move) × StandsAfter plan.now past live.old }
+    requires next { IsNext plan.now live.old port due }
+    requires budget { live.old.account.budget ≡ force plan.now due.time }
+    requires answer { answer ≡ reply_at live.old (port - 1) due }
+    ensures kept { IfOk result (λ kept. kept ≡ kept_of port (port_at live.old (port - 1)) due answer) }
+    ensures ports { OnOk result (live.new.ports ≡ slice_set live.old.ports (port - 1) (moved_port live.old (port - 1) due)) }
+    ensures stands { OnOk result ((past : List Move) → StandsAfter plan.now past live.old
+        → StandsAfter plan.now (past ++ next_move plan.now past (port - 1) due ∷ []) live.new) }
+    ensures less { OnOk result (steps_left plan.now live.new < steps_left plan.now live.old) }
+    ensures meter { OnOk result (meter.new ≡ raised meter.old 1) }
+    ensures rises { meter.old ≤ meter.new }
+{
     let before = live.share(port)?;
     let entry = live.step(alloc, plan, port, &due, copy_answer(&answer), meter)?;
     let after = live.share(port)?;
@@ -168,7 +204,7 @@ fn make<const N: usize>(
         after,
         entry,
     };
-    Ok((SharedMove::new(alloc, kept)?, None))
+    SharedMove::new(alloc, kept)
 }
 
 // The first place from `from` on whose move isn't before this time.

@@ -1,7 +1,8 @@
 //! Ports that move.
 
 ghost use Rattle.std.specs.Prelude.{◌≡◌, ℕ, ◌+◌, ◌-◌, ◌<◌, ◌≤◌, ◌∷◌, ◌++◌, ◌↔◌, List, [], None, true, length, max};
-ghost use Rattle.std.specs.Prelude.{IfOk, OnOk, IfSome, IfNone, MatchOption, IsTrue, ⊤, option_map, slice_get, slice_index, slice_index_or, slice_set};
+ghost use Rattle.std.specs.Prelude.{IfOk, OnOk, IfSome, IfNone, MatchOption, IsTrue, ⊤};
+ghost use Rattle.std.specs.Prelude.{option_map, slice_get, slice_index, slice_index_or, slice_set};
 ghost use Rattle.pd_port.specs.Meter.{raised};
 ghost use Rattle.pd_port.specs.Port.{is_event, due, hold};
 ghost use Rattle.pd_port.specs.declared.due.Due.{Due as DueData};
@@ -15,8 +16,8 @@ ghost use Rattle.pd_run.specs.Start.{no_port};
 ghost use Rattle.pd_run.specs.StepsLeft.{steps_left};
 ghost use Rattle.pd_run.specs.UpTo.{IsUpTo, AreAfter, had_by};
 
-use crate::{Plan, SharedPort};
 use crate::had::had_by;
+use crate::{Plan, SharedPort};
 use pd_ledger::Ledger;
 use pd_objects::{Answer, Query};
 use pd_port::{Due, Entry, Meter, Port, What};
@@ -278,11 +279,7 @@ impl<const N: usize> Live<N> {
 }
 
 // What each port holds, in microwatts; no less than its floor.
-fn holds_of(
-    alloc: Global,
-    ports: &[SharedPort],
-    floors: &[u64],
-) -> Result<Vec<u64>, AllocError>
+fn holds_of(alloc: Global, ports: &[SharedPort], floors: &[u64]) -> Result<Vec<u64>, AllocError>
     requires { length floors.now ≡ length ports.now }
     ensures count { IfOk result (λ holds. length holds.items ≡ length ports.now) }
     ensures holds { IfOk result (λ holds. (p : ℕ) → p < length ports.now

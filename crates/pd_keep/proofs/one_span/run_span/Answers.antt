@@ -1,20 +1,16 @@
-use Rattle.std.proofs.Common.{All, ◌≡◌, ◌≢◌, ◌<◌, ◌≤◌, ◌-◌, ◌++◌, ◌∷◌, [], List, ℕ, length, map, refl, arith, ap, sym, ◌∙◌, subst}
-use Rattle.std.proofs.Common.{slice_index, slice_index_or, slice_set, append_assoc}
-use Rattle.std.proofs.Math.Seq.{get_or-append_seam}
-use Rattle.std.proofs.lemmas.List.{append-nil, map-append, length_push, length-set, length-map, get_or_default}
+use Rattle.std.proofs.Common.{All, ◌≡◌, ◌<◌, ◌≤◌, ◌-◌, ◌++◌, ◌∷◌, [], List, ℕ, length, map, refl, arith, ap, sym, ◌∙◌, subst}
+use Rattle.std.proofs.Common.{slice_index_or, append_assoc}
+use Rattle.std.proofs.lemmas.List.{append-nil, map-append, length_push, length-set, length-map}
 use Rattle.std.proofs.lemmas.List.Elements.{All-push}
 use Rattle.pd_port.specs.Port.{PortData}
-use Rattle.pd_scenario.specs.Plan.{count, settings_of}
+use Rattle.pd_scenario.specs.Plan.{count}
 use Rattle.pd_run.specs.Order.{EachAfter}
-use Rattle.pd_run.specs.Run.{Move, Standing, IsInOrder}
-use Rattle.pd_run.specs.Live.{LiveData, StandsAfter, next_move, port_at, port_after, due_at, moved_port}
-use Rattle.pd_run.specs.Start.{no_port}
+use Rattle.pd_run.specs.Run.{Move, IsInOrder}
+use Rattle.pd_run.specs.Live.{LiveData, StandsAfter, port_at, port_after, due_at, moved_port}
 use Rattle.pd_run.specs.StepsLeft.{steps_left}
 use Rattle.pd_run.specs.UpTo.{IsUpTo}
 use Rattle.pd_run.proofs.Alike.{none_later-back}
 use Rattle.pd_run.proofs.Cut.{All-nil, All-append, EachAfter-back, IsEarlier, IsLater, next_up_to}
-use Rattle.pd_run.proofs.Moves.{standing-other}
-use Rattle.pd_run.proofs.Steps.{moved_known}
 use Rattle.pd_keep.specs.Kept.{KeptData, move_of, kept_of, IsOwn, IsLeft}
 use Rattle.pd_keep.specs.Places.{nowhere, ArePlaced}
 use Rattle.pd_keep.specs.Kept.{RunData}
@@ -97,7 +93,8 @@ loop-port-init g c =
       within = omega arith;
       passed = λ t p h k e lt. absurd (omega arith);
       own = All-nil (IsOwn c.args.plan.now);
-      begun = λ past s. begins_with_live g.row.N c.args.plan.now past c.args.live.now _ c.end-end.ensures.is_plan s (first ∙ c.in_ok-ports.ensures);
+      begun = λ past s. begins_with_live g.row.N c.args.plan.now past c.args.live.now _ c.end-end.ensures.is_plan s
+          (first ∙ c.in_ok-ports.ensures);
       placed = placed_first g.row.N c.args.old.now.moves [] c.args.live.now c.end-end.ensures.is_plan.few_ports;
       many = refl;
       earlier = All-nil (IsEarlier c.args.to);
@@ -138,7 +135,7 @@ loop-port-preserved g c =
     let pushed : c.push.new.self.moves ≡ kept ++ k ∷ [] =
     ap (λ (r : RunData). r.moves) c.in_ok-push.ensures ∙ ap (λ (z : KeptData). kept ++ z ∷ []) c.in_ok-kept.ensures.kept in
     let first = ap (λ (r : RunData). r.first) c.in_ok-push.ensures in
-    let long = ap length pushed ∙ length_push kept k in
+    let more = length_push kept k in
     let few = c.in-Some.ensures.is_plan.few_ports in
     let to_moves : map move_of c.push.new.self.moves ≡ moves ++ move_of k ∷ [] =
     ap (map move_of) pushed ∙ map-append move_of kept (k ∷ []) in
@@ -161,12 +158,13 @@ loop-port-preserved g c =
           (none_later-last t q moves (move_of k) h);
       own = rw pushed (All-push (IsOwn plan) kept k i.own own);
       begun = λ o s. begins_same g.row.N plan o c.loop-port.span c.push.new.self first (i.begun o s);
-      placed = rw pushed
-          (placed_more g.row.N c.args.old.now.moves kept c.loop-port.places live new p k (moved_port live p d) c.in_ok-kept.found _ (omega
-          (arith, i.many, c.in-Some.ensures.is_plan.few_ports)) (stands.ports_count ∙ c.in-Some.ensures.is_plan.settings_count) (omega
-          (arith, known, c.in-Some.ensures.is_plan.settings_count)) (omega (arith, long, c.len.ensures))
+      placed = rw c.place_of_last.ensures
+          (rw pushed
+          (placed_more g.row.N c.args.old.now.moves kept c.loop-port.places live new p k (moved_port live p d) c.in_ok-kept.found
+          (length (kept ++ k ∷ []) - 1) (omega (arith, i.many, few)) (stands.ports_count ∙ c.in-Some.ensures.is_plan.settings_count)
+          (omega (arith, known, c.in-Some.ensures.is_plan.settings_count)) (omega (arith, more))
           (kept_is_moved live p port x d a refl c.reply-answer.ensures.answer) c.in_ok-kept.ensures.ports c.in_ok-kept.ensures.found
-          (subst (ArePlaced g.row.N c.args.old.now.moves kept c.loop-port.places) (sym c.reply-answer.ensures.budget) i.placed));
+          (subst (ArePlaced g.row.N c.args.old.now.moves kept c.loop-port.places) (sym c.reply-answer.ensures.budget) i.placed)));
       many = length-set c.loop-port.places p _ ∙ i.many;
       earlier = All-push (IsEarlier c.args.to) moves (move_of k) i.earlier soon;
       later = λ o from s up. All-push (IsLater from) moves (move_of k) (i.later o from s up) (not_before o from s up);

@@ -7,4 +7,5 @@ returns-clause-first g c =
     let upper = c.loop-port.auto.port-end in
     let lower = c.loop-port-test.false in
     let all : c.loop-port.port ≡ g.row.N = omega arith in
-    subst (λ (n : ℕ). IsSoFar c.args.plan.now c.args.self.now n (option_map (λ r. (r.0, r.1.now)) c.loop-port.first)) all c.loop-port.invariant
+    subst
+    (λ (n : ℕ). IsSoFar c.args.plan.now c.args.self.now n (option_map (λ r. (r.0, r.1.now)) c.loop-port.first)) all c.loop-port.invariant

@@ -1,5 +1,6 @@
 use Rattle.std.proofs.Common.{◌≡◌, ◌-◌, List, refl, arith, ap, sym, ◌∙◌, slice_index_or}
 use Rattle.std.proofs.lemmas.List.{get_or-set_same}
+use Rattle.std.proofs.lemmas.Result.{IfOk-weaker}
 use Rattle.pd_port.specs.Port as ports
 use Rattle.pd_port.specs.Port.{PortData}
 use Rattle.pd_run.specs.Run.{Move}
@@ -8,7 +9,7 @@ use Rattle.pd_run.specs.Start.{no_port}
 use Rattle.pd_run.proofs.Steps.{reply_known}
 use Rattle.pd_keep.specs.Kept.{KeptData, kept_of}
 use Rattle.pd_keep.proofs.Made.{kept_is_next, kept_is_moved}
-use Rattle.pd_keep.proofs.one_span.make.Goals as goal
+use Rattle.pd_keep.proofs.one_span.step.Goals as goal
 
 pub returns-clause-kept : goal.returns-clause-kept
 unfolding ports.entry_of
@@ -35,5 +36,20 @@ returns-clause-kept g c =
     ∙ get_or-set_same live.ports p moved no_port (omega (arith, stands.ports_count, known))
     ∙ sym (kept_is_moved live p port x d a refl c.requires.answer) in
     let before : c.in_ok-before.before ≡ x = c.in_ok-before.ensures in
-    let answer = c.copy_answer.ensures in
-    c.in_ok-new.ensures ∙ (λ i. record { port = port; before = before i; due = (entry i).due; answer = a; after = after i; entry = entry i })
+    let m : KeptData = record {
+      port = port;
+      before = c.in_ok-before.before;
+      due = c.in_ok-entry.entry.due;
+      answer = a;
+      after = c.in_ok-after.after;
+      entry = c.in_ok-entry.entry;
+    } in
+    let same : m ≡ k = λ i. record {
+      port = port;
+      before = before i;
+      due = (entry i).due;
+      answer = a;
+      after = after i;
+      entry = entry i;
+    } in
+    IfOk-weaker c.new.result (λ z. z ≡ m) (λ z. z ≡ k) (λ z is. is ∙ same) c.new.ensures
