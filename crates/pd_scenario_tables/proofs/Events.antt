@@ -1,5 +1,5 @@
 -- What the sound table of an event says is within the limits of a scenario.
-use Rattle.std.proofs.Common.{◌≡◌, ℕ, ◌≤◌, true, false, ◌&&◌, List, [], ◌∷◌, refl, sym, lit<, Some, None}
+use Rattle.std.proofs.Common.{◌≡◌, ℕ, ◌≤◌, true, false, ◌&&◌, [], ◌∷◌, refl, sym, lit<, Some, None}
 use Rattle.std.specs.Prelude.{Option, is_none, Contains}
 use Rattle.std.proofs.lemmas.Bool.{false≢true, and_from, not-false}
 use Rattle.toml.specs.Data.{Data, Members}
@@ -13,7 +13,7 @@ use Rattle.pd_scenario_tables.specs.declared.schema.EventName.{EventName}
 use Rattle.pd_scenario_tables.specs.declared.schema.EventName.TheVariants as event
 use Rattle.pd_scenario_tables.specs.declared.schema.TableKind.TheVariants.{Event}
 use Rattle.pd_scenario_tables.specs.declared.schema.Key.TheVariants as key
-use Rattle.pd_scenario_tables.specs.declared.schema.Need.TheVariants.{Required, Nothing}
+use Rattle.pd_scenario_tables.specs.declared.schema.Need.TheVariants.{Required}
 use Rattle.pd_scenario_tables.specs.declared.schema.Form.TheVariants as form
 use Rattle.pd_scenario_tables.specs.Schema.{rule, any_event, on_port, kind_rules, unknown_rules, event_rules}
 use Rattle.pd_scenario_tables.specs.declared.schema.Rule.{Rule}

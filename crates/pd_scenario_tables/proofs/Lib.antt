@@ -2,3 +2,4 @@ pub mod Events
 pub mod Members
 pub mod Parts
 pub mod Sound
+pub mod Suited

@@ -1,3 +1,4 @@
+pub mod Clean
 pub mod Convert
 pub mod Numbers
 pub mod Ports

@@ -1,6 +1,7 @@
 //! The tables of a scenario file: which keys each kind has, what one table says, and the refusals of one table.
 #![tactic(auto)]
 
+mod clean;
 mod convert;
 mod fault;
 mod ports;
@@ -9,6 +10,7 @@ mod tables;
 mod values;
 mod words;
 
+pub use clean::{is_clean, is_clean_event};
 pub use convert::{cable_of, event_of, number_at, settings_of, sink_of};
 pub use fault::ScenarioFault;
 pub use ports::counted;

@@ -107,13 +107,13 @@ fn has_key(rules: &[Rule], key: &str) -> bool
     rules.iter().any(|rule| key == rule.key.text())
 }
 
-fn has_unknown_key(rules: &[Rule], table: &Table) -> bool
+pub fn has_unknown_key(rules: &[Rule], table: &Table) -> bool
     ensures { result ≡ has_unknown_key rules.now (table_view table.now) }
 {
     table.keys().any(|key| !has_key(rules, key.as_str()))
 }
 
-fn is_required(need: Need) -> bool
+pub fn is_required(need: Need) -> bool
     ensures { result ≡ is_required need }
 {
     match need {

@@ -112,7 +112,7 @@ pub fn are_tables(items: &[Value]) -> bool
     items.iter().all(|item| item.is_table())
 }
 
-fn has_type(form: Form, value: &Value) -> bool
+pub fn has_type(form: Form, value: &Value) -> bool
     ensures { result ≡ has_type form (view value.now) }
 {
     match form {
@@ -170,7 +170,7 @@ fn is_known(name: EventName) -> bool
     }
 }
 
-fn in_range(version: Version, ports: u64, form: Form, value: &Value) -> bool
+pub fn in_range(version: Version, ports: u64, form: Form, value: &Value) -> bool
     ensures { result ≡ in_range version ports form (view value.now) }
 {
     match form {
@@ -187,7 +187,7 @@ fn in_range(version: Version, ports: u64, form: Form, value: &Value) -> bool
     }
 }
 
-fn is_named(form: Form, value: &Value) -> bool
+pub fn is_named(form: Form, value: &Value) -> bool
     ensures { result ≡ is_named form (view value.now) }
 {
     match form {
