@@ -1,5 +1,5 @@
 -- The refusal that is answered is the least that applies, and what is accepted is valid.
-use Rattle.std.proofs.Common.{◌≡◌, ℕ, ◌<◌, ◌≤◌, ◌⊎◌, ◌↔◌, Bool, true, false, List, [], ◌∷◌, find, refl, sym, ap, ◌∙◌, inl, inr, arith, lit<}
+use Rattle.std.proofs.Common.{◌≡◌, ℕ, ◌≤◌, ◌⊎◌, ◌↔◌, false, List, refl, sym, ap, ◌∙◌, inl, inr}
 use Rattle.std.proofs.Common.{Some, None, Ok, Err}
 use Rattle.std.specs.Prelude.{Option, Result}
 use Rattle.std.proofs.lemmas.Bool.{false≢true}

@@ -2,5 +2,6 @@ pub mod Answered
 pub mod Decided
 pub mod Differing
 pub mod Found
+pub mod Nowhere
 pub mod Unique
 pub mod Valid

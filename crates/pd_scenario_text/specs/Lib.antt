@@ -1,5 +1,6 @@
 pub mod FileTables
 pub mod Document
+pub mod File
 pub mod Laws
 pub mod Names
 pub mod Reading

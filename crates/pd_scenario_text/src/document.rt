@@ -2,6 +2,7 @@
 
 ghost use Rattle.std.specs.Prelude.{◌≡◌, ◌≤◌, pos, find, IfOk};
 ghost use Rattle.toml.specs.View.{table_view};
+ghost use Rattle.pd_scenario_tables.specs.declared.fault.ScenarioFault.TheVariants.{Supplies};
 ghost use Rattle.pd_scenario_tables.specs.Values.{small};
 ghost use Rattle.pd_scenario_tables.specs.Tables.{value_at, whole_in};
 ghost use Rattle.pd_scenario_text.specs.FileTables.{tables_of, scenario_of};
@@ -9,13 +10,16 @@ ghost use Rattle.pd_scenario_text.specs.Refusals.{fails_somewhere, table_refusal
 ghost use Rattle.pd_scenario_text.specs.Reading.{answered, Answers};
 
 use crate::distinct::check_names;
-use crate::lists::{all_cables, all_events, all_settings, all_sinks, some_event_fails, some_fails};
+use crate::lists::{
+    all_cables, all_clean, all_clean_events, all_events, all_settings, all_sinks, some_event_fails,
+    some_fails,
+};
 use pd_scenario::{
     MOST_EVENTS, MOST_NAMES, NamedCable, NamedSink, Scenario, ScenarioEvent, are_funded,
     least_budget,
 };
 use pd_scenario_tables::{
-    Key, ScenarioFault, TableKind, Version, fails, number_at, tables_at, version_at,
+    Key, ScenarioFault, TableKind, Version, fails, is_clean, number_at, tables_at, version_at,
 };
 use pd_setup::Settings;
 use std::alloc::{AllocError, Global};
@@ -42,7 +46,7 @@ pub struct Document<'a> {
 }
 
 impl<'a> Document<'a> {
-    ghost use Rattle.pd_scenario_text.specs.Document.{seen};
+    ghost use Rattle.pd_scenario_text.specs.Document.{seen, are_clean};
 
     /// The tables of a file.
     ///
@@ -78,14 +82,43 @@ impl<'a> Document<'a> {
             || some_event_fails(fault, self.version, ports, &self.events)
     }
 
+    /// Whether no refusal of single tables applies, up to the names: one look at each table.
+    #[tactic(auto, unfolding(crate::specs::Document::are_clean))]
+    fn are_clean(&self, ports: u64) -> bool
+        ensures { result ≡ are_clean ports (seen self.now) }
+    {
+        is_clean(self.version, ports, TableKind::Top, self.top)
+            && all_clean(self.version, ports, TableKind::Port, &self.ports)
+            && all_clean(self.version, ports, TableKind::Cable, &self.cables)
+            && all_clean(self.version, ports, TableKind::Sink, &self.sinks)
+            && all_clean_events(self.version, ports, &self.events)
+    }
+
     /// The first refusal of single tables that applies, up to the names.
+    #[tactic(auto, using(crate::proofs::Nowhere::none_refused))]
     fn first_refusal(&self, ports: u64) -> Option<ScenarioFault>
         ensures { result ≡ find (λ fault. fails_somewhere fault ports (seen self.now)) table_refusals }
     {
+        if self.are_clean(ports) {
+            return None;
+        }
         TABLE_REFUSALS.iter().copied().find(
             |fault| -> bool
                 ensures { result ≡ fails_somewhere fault.now ports (seen self.entry.now) }
             { self.fails_somewhere(*fault, ports) },
+        )
+    }
+
+    /// Whether the supplies of some port are refused; no other table has supplies.
+    fn has_bad_supplies(&self, ports: u64) -> bool
+        ensures { result ≡ fails_somewhere Supplies ports (seen self.now) }
+    {
+        some_fails(
+            ScenarioFault::Supplies,
+            self.version,
+            ports,
+            TableKind::Port,
+            &self.ports,
         )
     }
 
@@ -116,7 +149,7 @@ impl<'a> Document<'a> {
         let Some(are_known) = checked else {
             return Err(ScenarioFault::Duplicate);
         };
-        if self.fails_somewhere(ScenarioFault::Supplies, ports) {
+        if self.has_bad_supplies(ports) {
             return Err(ScenarioFault::Supplies);
         }
         let settings = all_settings(alloc, &self.ports)?;

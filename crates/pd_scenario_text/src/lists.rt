@@ -1,15 +1,17 @@
 //! The tables of one kind: whether a refusal applies to one of them, and what they say.
 
 ghost use Rattle.std.specs.Prelude.{◌≡◌, map, IfOk, All};
-ghost use Rattle.std.specs.List.{list_any};
+ghost use Rattle.std.specs.List.{list_all, list_any};
 ghost use Rattle.toml.specs.View.{table_view};
 ghost use Rattle.pd_scenario_tables.specs.Seen.{views};
 ghost use Rattle.pd_scenario_tables.specs.Tables.{fails, event_fails, event_at, IsSound, IsSoundPort};
+ghost use Rattle.pd_scenario_tables.specs.Clean.{is_clean, is_clean_event};
 ghost use Rattle.pd_scenario_tables.specs.Convert.{settings_of, cable_of, sink_of, event_of};
 
 use pd_scenario::{NamedCable, NamedSink, ScenarioEvent};
 use pd_scenario_tables::{
-    ScenarioFault, TableKind, Version, cable_of, event_fails, event_of, fails, settings_of, sink_of,
+    ScenarioFault, TableKind, Version, cable_of, event_fails, event_of, fails, is_clean,
+    is_clean_event, settings_of, sink_of,
 };
 use pd_setup::Settings;
 use std::alloc::{AllocError, Global};
@@ -42,6 +44,24 @@ pub fn some_event_fails(
     tables
         .iter()
         .any(|table| event_fails(fault, version, ports, table))
+}
+
+/// Whether none of the refusals up to the names applies to a table of a kind.
+pub fn all_clean(version: Version, ports: u64, kind: TableKind, tables: &[&Table]) -> bool
+    ensures { result ≡ list_all (is_clean version ports kind) (views tables.now) }
+{
+    tables
+        .iter()
+        .all(|table| is_clean(version, ports, kind, table))
+}
+
+/// Whether none of the refusals up to the names applies to an event.
+pub fn all_clean_events(version: Version, ports: u64, tables: &[&Table]) -> bool
+    ensures { result ≡ list_all (is_clean_event version ports) (views tables.now) }
+{
+    tables
+        .iter()
+        .all(|table| is_clean_event(version, ports, table))
 }
 
 /// What the ports are set to.

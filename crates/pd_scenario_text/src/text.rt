@@ -1,11 +1,11 @@
-//! Scenario files.
+//! The texts of scenario files.
 
 ghost use Rattle.std.specs.Prelude.{◌≤◌};
 ghost use Rattle.pd_scenario_text.specs.Reading.{Reads, Counts};
 
-use crate::document::Document;
+use crate::file::ScenarioFile;
 use pd_scenario::Scenario;
-use pd_scenario_tables::{ScenarioFault, counted};
+use pd_scenario_tables::ScenarioFault;
 use std::alloc::Global;
 
 /// The scenario of a text, for N ports.
@@ -20,18 +20,7 @@ pub fn scenario_from_text<const N: usize>(
     requires to_eight { N ≤ 8 }
     ensures { Reads N text.now result }
 {
-    let table = match toml::table_from_slice(alloc, text) {
-        Ok(table) => table,
-        Err(error) => {
-            return Err(if error.is_memory() {
-                ScenarioFault::Memory
-            } else {
-                ScenarioFault::Toml
-            });
-        }
-    };
-    let document = Document::new(alloc, &table)?;
-    document.scenario(alloc)
+    ScenarioFile::parse(alloc, text)?.scenario(alloc)
 }
 
 /// How many ports a text has.
@@ -41,12 +30,5 @@ pub fn scenario_from_text<const N: usize>(
 pub fn port_count(alloc: Global, text: &[u8]) -> Result<usize, ScenarioFault>
     ensures { Counts text.now result }
 {
-    match toml::table_from_slice(alloc, text) {
-        Ok(table) => counted(&table),
-        Err(error) => Err(if error.is_memory() {
-            ScenarioFault::Memory
-        } else {
-            ScenarioFault::Toml
-        }),
-    }
+    ScenarioFile::parse(alloc, text)?.port_count()
 }

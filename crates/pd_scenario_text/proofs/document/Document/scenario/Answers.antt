@@ -40,8 +40,8 @@ returns-in_default-checked g c =
     (c.deref-4.ensures.value ∙ cs) (c.deref-5.ensures.value ∙ ss) (c.deref-6.ensures.value ∙ es) c.in_ok-checked.ensures in
     refused_duplicate g.row.N d k (no_check (scenario_of d) (check ∙ c.in_default-checked.is))
 
-pub returns-then-fails_somewhere : goal.returns-then-fails_somewhere
-returns-then-fails_somewhere g c =
+pub returns-then-has_bad_supplies : goal.returns-then-has_bad_supplies
+returns-then-has_bad_supplies g c =
     let d = seen c.args.self.now in
     let k = clean g.row.N d (sym c.first_refusal.ensures ∙ c.in_default.is) in
     let cs = c.in_ok-cables.ensures ∙ ap (λ ts. map cable_of (views ts)) c.deref.ensures.value in
@@ -50,7 +50,7 @@ returns-then-fails_somewhere g c =
     let check = same_check (scenario_of d) c.deref-4.result.now c.deref-5.result.now c.deref-6.result.now c.in_ok-checked.checked
     (c.deref-4.ensures.value ∙ cs) (c.deref-5.ensures.value ∙ ss) (c.deref-6.ensures.value ∙ es) c.in_ok-checked.ensures in
     let found = a_check (scenario_of d) c.in-Some-checked.are_known (check ∙ c.in-Some-checked.is) in
-    refused_supplies g.row.N d k found.single (sym c.fails_somewhere.ensures ∙ c.if-fails_somewhere.true)
+    refused_supplies g.row.N d k found.single (sym c.has_bad_supplies.ensures ∙ c.if-has_bad_supplies.true)
 
 pub all_settings-requires : goal.all_settings-requires
 all_settings-requires g c =
@@ -58,7 +58,7 @@ all_settings-requires g c =
     let k = clean g.row.N d (sym c.first_refusal.ensures ∙ c.in_default.is) in
     rw c.deref-7.ensures.value
     (tables_of_ports_sound d.version g.row.N c.args.self.now.ports.items
-    (sound_ports g.row.N d k (sym c.fails_somewhere.ensures ∙ c.if-fails_somewhere.false)))
+    (sound_ports g.row.N d k (sym c.has_bad_supplies.ensures ∙ c.if-has_bad_supplies.false)))
 
 pub returns-then-not-are_funded : goal.returns-then-not-are_funded
 returns-then-not-are_funded g c =
@@ -70,7 +70,7 @@ returns-then-not-are_funded g c =
     let check = same_check (scenario_of d) c.deref-4.result.now c.deref-5.result.now c.deref-6.result.now c.in_ok-checked.checked
     (c.deref-4.ensures.value ∙ cs) (c.deref-5.ensures.value ∙ ss) (c.deref-6.ensures.value ∙ es) c.in_ok-checked.ensures in
     let found = a_check (scenario_of d) c.in-Some-checked.are_known (check ∙ c.in-Some-checked.is) in
-    let supplied = sym c.fails_somewhere.ensures ∙ c.if-fails_somewhere.false in
+    let supplied = sym c.has_bad_supplies.ensures ∙ c.if-has_bad_supplies.false in
     let later : Later g.row.N d = record { tables = k; single = found.single; supplied = supplied } in
     let st = c.in_ok-settings.ensures ∙ ap (λ ts. map settings_of (views ts)) c.deref-7.ensures.value in
     let above = same_funded (scenario_of d) c.deref-9.result.now c.deref-8.result.now c.from.result c.least_budget-least_mw.result
@@ -88,7 +88,7 @@ returns-then-not-are_known g c =
     let check = same_check (scenario_of d) c.deref-4.result.now c.deref-5.result.now c.deref-6.result.now c.in_ok-checked.checked
     (c.deref-4.ensures.value ∙ cs) (c.deref-5.ensures.value ∙ ss) (c.deref-6.ensures.value ∙ es) c.in_ok-checked.ensures in
     let found = a_check (scenario_of d) c.in-Some-checked.are_known (check ∙ c.in-Some-checked.is) in
-    let supplied = sym c.fails_somewhere.ensures ∙ c.if-fails_somewhere.false in
+    let supplied = sym c.has_bad_supplies.ensures ∙ c.if-has_bad_supplies.false in
     let later : Later g.row.N d = record { tables = k; single = found.single; supplied = supplied } in
     let st = c.in_ok-settings.ensures ∙ ap (λ ts. map settings_of (views ts)) c.deref-7.ensures.value in
     let above = same_funded (scenario_of d) c.deref-9.result.now c.deref-8.result.now c.from.result c.least_budget-least_mw.result
@@ -106,7 +106,7 @@ returns-then-exceeds_limit g c =
     let check = same_check (scenario_of d) c.deref-4.result.now c.deref-5.result.now c.deref-6.result.now c.in_ok-checked.checked
     (c.deref-4.ensures.value ∙ cs) (c.deref-5.ensures.value ∙ ss) (c.deref-6.ensures.value ∙ es) c.in_ok-checked.ensures in
     let found = a_check (scenario_of d) c.in-Some-checked.are_known (check ∙ c.in-Some-checked.is) in
-    let supplied = sym c.fails_somewhere.ensures ∙ c.if-fails_somewhere.false in
+    let supplied = sym c.has_bad_supplies.ensures ∙ c.if-has_bad_supplies.false in
     let later : Later g.row.N d = record { tables = k; single = found.single; supplied = supplied } in
     let st = c.in_ok-settings.ensures ∙ ap (λ ts. map settings_of (views ts)) c.deref-7.ensures.value in
     let above = same_funded (scenario_of d) c.deref-9.result.now c.deref-8.result.now c.from.result c.least_budget-least_mw.result
@@ -133,7 +133,7 @@ new-requires g c =
     let check = same_check (scenario_of d) c.deref-4.result.now c.deref-5.result.now c.deref-6.result.now c.in_ok-checked.checked
     (c.deref-4.ensures.value ∙ cs) (c.deref-5.ensures.value ∙ ss) (c.deref-6.ensures.value ∙ es) c.in_ok-checked.ensures in
     let found = a_check (scenario_of d) c.in-Some-checked.are_known (check ∙ c.in-Some-checked.is) in
-    let supplied = sym c.fails_somewhere.ensures ∙ c.if-fails_somewhere.false in
+    let supplied = sym c.has_bad_supplies.ensures ∙ c.if-has_bad_supplies.false in
     let later : Later g.row.N d = record { tables = k; single = found.single; supplied = supplied } in
     let st = c.in_ok-settings.ensures ∙ ap (λ ts. map settings_of (views ts)) c.deref-7.ensures.value in
     let above = same_funded (scenario_of d) c.deref-9.result.now c.deref-8.result.now c.from.result c.least_budget-least_mw.result
@@ -166,7 +166,7 @@ returns g c =
     let check = same_check (scenario_of d) c.deref-4.result.now c.deref-5.result.now c.deref-6.result.now c.in_ok-checked.checked
     (c.deref-4.ensures.value ∙ cs) (c.deref-5.ensures.value ∙ ss) (c.deref-6.ensures.value ∙ es) c.in_ok-checked.ensures in
     let found = a_check (scenario_of d) c.in-Some-checked.are_known (check ∙ c.in-Some-checked.is) in
-    let supplied = sym c.fails_somewhere.ensures ∙ c.if-fails_somewhere.false in
+    let supplied = sym c.has_bad_supplies.ensures ∙ c.if-has_bad_supplies.false in
     let later : Later g.row.N d = record { tables = k; single = found.single; supplied = supplied } in
     let st = c.in_ok-settings.ensures ∙ ap (λ ts. map settings_of (views ts)) c.deref-7.ensures.value in
     let above = same_funded (scenario_of d) c.deref-9.result.now c.deref-8.result.now c.from.result c.least_budget-least_mw.result
