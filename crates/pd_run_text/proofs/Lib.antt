@@ -1,1 +1,3 @@
 pub mod Paid
+pub mod Read
+pub mod Told

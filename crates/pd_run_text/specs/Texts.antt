@@ -4,7 +4,9 @@ use Rattle.std.specs.Io.KnownBytes.{Appends}
 use Rattle.pd_scenario.specs.Scenarios.{ScenarioData}
 use Rattle.pd_scenario_tables.specs.declared.fault.ScenarioFault.{ScenarioFault}
 use Rattle.pd_scenario_tables.specs.Numbers.{number_of}
-use Rattle.pd_scenario_text.specs.Reading.{Counts, Reads}
+use Rattle.pd_scenario_text.specs.Reading.{IsTextOf, Counts, Reads}
+use Rattle.pd_scenario_text.specs.File.{members_of}
+use Rattle.pd_scenario_text.specs.declared.file.ScenarioFile.{ScenarioFile}
 use Rattle.pd_device.specs.Device.{one_more}
 use Rattle.pd_device.specs.declared.fault.BenchFault.TheVariants.{ReadFailed, WriteFailed}
 use Rattle.pd_bench.specs.declared.tally.Tally.{Tally}
@@ -13,6 +15,10 @@ use Rattle.pd_bench.specs.Session.{Session, SessionEnds}
 use Rattle.pd_bench.specs.Cost.{SessionCosts}
 use Rattle.pd_run_text.specs.declared.texts.RunFault.{RunFault}
 use Rattle.pd_run_text.specs.declared.texts.RunFault.TheVariants as faults
+
+-- it is so for each text of a file
+abbrev pub ForTexts : ScenarioFile → (List ℕ → Type 0) → Type 0
+ForTexts file P = (text : List ℕ) → IsTextOf text (members_of file) → P text
 
 -- the text is a scenario of so many ports
 pub record IsScenarioText (text : List ℕ) (n : ℕ) (s : ScenarioData) : Type 0 where

@@ -1,17 +1,18 @@
 //! Texts that may be scenarios.
 
-ghost use Rattle.std.specs.Prelude.{◌≤◌, Ok};
-ghost use Rattle.pd_scenario_text.specs.Reading.{Counts};
-ghost use Rattle.pd_run_text.specs.Texts.{ChecksText};
+ghost use Rattle.std.specs.Prelude.{◌≡◌, ◌≤◌, Ok};
+ghost use Rattle.pd_scenario_tables.specs.Ports.{counted};
+ghost use Rattle.pd_scenario_text.specs.File.{members_of};
+ghost use Rattle.pd_run_text.specs.Texts.{ForTexts, ChecksText};
 
-use pd_scenario_text::{ScenarioFault, port_count, scenario_from_text};
+use pd_scenario_text::{ScenarioFault, ScenarioFile};
 use std::alloc::Global;
 
-// Reads a text as a scenario of as many ports as it has.
+// Reads a file as a scenario of as many ports as it has.
 macro_rules! check_by {
-    ($alloc:ident, $text:ident; $($n:literal)*) => {
-        match port_count($alloc, $text)? {
-            $($n => check_as::<$n>($alloc, $text),)*
+    ($alloc:ident, $file:ident; $($n:literal)*) => {
+        match $file.port_count()? {
+            $($n => check_as::<$n>($alloc, $file),)*
             _ => Err(ScenarioFault::Limit),
         }
     };
@@ -24,16 +25,17 @@ macro_rules! check_by {
 pub fn check_text(alloc: Global, text: &[u8]) -> Result<(), ScenarioFault>
     ensures { ChecksText result text.now }
 {
-    check_by!(alloc, text; 1 2 3 4 5 6 7 8)
+    let file = ScenarioFile::parse(alloc, text)?;
+    check_by!(alloc, file; 1 2 3 4 5 6 7 8)
 }
 
-// Whether a text is a scenario of N ports.
-fn check_as<const N: usize>(alloc: Global, text: &[u8]) -> Result<(), ScenarioFault>
+// Whether a file is a scenario of N ports.
+fn check_as<const N: usize>(alloc: Global, file: ScenarioFile) -> Result<(), ScenarioFault>
     requires from_one { 1 ≤ N }
     requires to_eight { N ≤ 8 }
-    requires counts { Counts text.now (Ok N) }
-    ensures { ChecksText result text.now }
+    requires counts { counted (members_of file) ≡ Ok N }
+    ensures { ForTexts file (λ text. ChecksText result text) }
 {
-    let _scenario = scenario_from_text::<N>(alloc, text)?;
+    let _scenario = file.scenario::<N>(alloc)?;
     Ok(())
 }
