@@ -3,10 +3,13 @@
 //! `FOLDER/cases/SCENARIO` as `scenario.toml`, its edits there as `NAME.edits`, and its text as `NAME.txt`, so that cases
 //! share a scenario. The list `FOLDER/refused.txt` names files of `FOLDER/refused`, each after the number by which it is
 //! refused.
+//!
+//! `pd_cases plain SCENARIO EDITS` does what `pdbench run` does, but runs each edit from the start.
 #![tactic(auto)]
 
 mod answers;
 mod cases;
+mod plain;
 
 use answers::{is_refused, kept_answers, plain_answers};
 use cases::{Case, read_case, read_list, read_refused};
@@ -87,26 +90,36 @@ fn check_refused<R: Files + Print + Alloc<A = Global>>(
     Ok(())
 }
 
-/// Runs what the folder has that the command line names, and tells how much differs. The answer is the status.
-fn obey<R: Files + Print + Eprint + Env + Alloc<A = Global>>(rt: &R) -> io::Result<u8> {
-    let words: Result<Vec<String>, AllocError> = env::args(rt)?.collect(rt.alloc());
-    let words = words?;
-    let [_, folder] = words.as_slice() else {
-        eprintln!(rt; "usage: pd_cases FOLDER")?;
-        return Ok(2);
-    };
+/// Runs what a folder has, and tells how much differs. The answer is the status.
+fn run_folder<R: Files + Print + Alloc<A = Global>>(rt: &R, folder: &str) -> io::Result<u8> {
     let mut counts = Counts {
         cases: 0,
         refused: 0,
         differ: 0,
     };
-    run_cases(rt, folder.as_str(), &mut counts)?;
-    check_refused(rt, folder.as_str(), &mut counts)?;
+    run_cases(rt, folder, &mut counts)?;
+    check_refused(rt, folder, &mut counts)?;
     println!(rt;
         "{} cases, {} refused files, {} differ",
         counts.cases, counts.refused, counts.differ
     )?;
     Ok(if counts.differ == 0 { 0 } else { 1 })
+}
+
+/// Does what the command line says. The answer is the status.
+fn obey<R: Files + Print + Eprint + Env + Alloc<A = Global>>(rt: &R) -> io::Result<u8> {
+    let words: Result<Vec<String>, AllocError> = env::args(rt)?.collect(rt.alloc());
+    let words = words?;
+    match words.as_slice() {
+        [_, folder] => run_folder(rt, folder.as_str()),
+        [_, word, scenario, edits] if word.as_str() == "plain" => {
+            plain::run(rt, scenario.as_str(), edits.as_str())
+        }
+        _ => {
+            eprintln!(rt; "usage: pd_cases FOLDER | plain SCENARIO EDITS")?;
+            Ok(2)
+        }
+    }
 }
 
 fn main(rt: HostRuntime) -> ExitCode {
