@@ -1,5 +1,6 @@
 // Stands between a program and the C library (LD_PRELOAD), and makes single calls fail, by the environment:
 //     SHIM_GROWTH=K        the K-th call that asks for memory is refused
+//     SHIM_AGAIN=1         the call for memory after it is refused too
 //     SHIM_READ=K          the K-th read fails with the error SHIM_ERROR, a number of errno.h; or reads one byte, without that
 //     SHIM_WRITE=K         the same for the K-th write to standard output
 //     SHIM_EVERY=1         the same at each second read or write, from the K-th on
@@ -36,7 +37,9 @@ static int is_chosen(struct calls *calls, int every) {
 }
 
 static int is_refused(void) {
-    if (!is_chosen(&growths, 0))
+    int chosen = is_chosen(&growths, 0);
+    int again = growths.chosen > 0 && growths.made == growths.chosen + 1 && number("SHIM_AGAIN");
+    if (!chosen && !again)
         return 0;
     errno = ENOMEM;
     return 1;
