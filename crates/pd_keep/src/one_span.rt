@@ -77,11 +77,9 @@ pub fn run_span<const N: usize>(
         }
         let answer = live.reply(plan, port, &due);
         from = skip(old, from, due.time);
-        let at = places[port - 1];
-        let (kept, found) = make(
-            alloc, old, from, at.old, plan, live, port, due, answer, meter,
-        )?;
-        span.push(kept, at.new)?;
+        let left = places[port - 1].old;
+        let (kept, found) = make(alloc, old, from, left, plan, live, port, due, answer, meter)?;
+        span.push(kept, places[port - 1].new)?;
         places[port - 1] = place_of_last(&span, found);
     }
     Ok(span.ended(to))
