@@ -5,7 +5,7 @@ ghost use Rattle.std.specs.Prelude.{option_map, slice_get, slice_index_or};
 ghost use Rattle.pd_run.specs.Notes.{IsNextWith};
 ghost use Rattle.pd_port.specs.Port.{PortData};
 ghost use Rattle.pd_run.specs.Start.{no_port};
-ghost use Rattle.pd_keep.specs.Kept.{KeptData, IsMade, IsLeft, kept_of, shown_of};
+ghost use Rattle.pd_keep.specs.Kept.{KeptData, IsMade, IsLeft, kept_of, marks_kept, shown_of};
 
 use pd_objects::Answer;
 use pd_port::{Due, Entry, Port};
@@ -201,6 +201,14 @@ impl KeptMoves {
         self.moves[i].kept().entry.due.time
     }
 
+    /// The marks of a move.
+    pub fn marks(&self, i: usize) -> Marks
+        requires { i < length self.now.moves }
+        ensures { (k : KeptData) → result ≡ marks_kept (slice_index_or self.now.moves i k) }
+    {
+        self.marks[i]
+    }
+
     /// A move, for one more run.
     ///
     /// # Errors
@@ -248,16 +256,20 @@ impl KeptMoves {
             && (self.follows(i, left) || same_port(kept.before.port(), before))
     }
 
-    /// Keeps one more move, whose port stood as the move at a place left it, where one is given.
+    /// Keeps one more move with its marks. Its port stood as the move at a place left it, where one is given.
     ///
     /// # Errors
     /// There is no memory.
-    pub fn push(&mut self, kept: SharedMove, left: Option<usize>) -> Result<(), AllocError>
-        requires port { kept.port < 256 }
+    pub fn push(
+        &mut self,
+        kept: SharedMove,
+        marks: Marks,
+        left: Option<usize>,
+    ) -> Result<(), AllocError>
+        requires marks { marks ≡ marks_kept kept }
         requires left { IsLeft self.old.moves left kept.before }
         ensures { OnOk result (self.new ≡ record self.old { moves = self.old.moves ++ kept ∷ [] }) }
     {
-        let marks = Marks::of(kept.kept().port, &kept.kept().entry);
         self.marks.reserve(1)?;
         self.links.reserve(1)?;
         self.moves.push(kept)?;

@@ -10,14 +10,14 @@ ghost use Rattle.pd_run.specs.Run.{Move, NoneLater};
 ghost use Rattle.pd_run.specs.Start.{no_port};
 ghost use Rattle.pd_run.specs.StepsLeft.{steps_left};
 ghost use Rattle.pd_run.specs.UpTo.{IsUpTo};
-ghost use Rattle.pd_keep.specs.Kept.{KeptData, kept_of, move_of, IsMade, IsOwn, IsLeft, AreInTime, AreBefore};
+ghost use Rattle.pd_keep.specs.Kept.{KeptData, kept_of, move_of, marks_kept, IsMade, IsOwn, IsLeft, AreInTime, AreBefore};
 ghost use Rattle.pd_keep.specs.Charge.{Charges};
 ghost use Rattle.pd_keep.specs.Rerun.{AreThose, Costs, IsNextSpan};
 
 use crate::kept_move::{KeptMove, KeptMoves, SharedMove, copy_answer};
 use pd_objects::Answer;
 use pd_port::{Due, Meter, Port};
-use pd_run::{Live, Plan};
+use pd_run::{Live, Marks, Plan};
 use std::alloc::{AllocError, Global};
 
 /// So many moves are enough for a span.
@@ -78,9 +78,9 @@ pub fn run_span<const N: usize>(
         let answer = live.reply(plan, port, &due);
         from = skip(old, from, due.time);
         let left = places[port - 1].old;
-        let (kept, found) = make(alloc, old, from, left, plan, live, port, due, answer, meter)?;
-        span.push(kept, places[port - 1].new)?;
-        places[port - 1] = place_of_last(&span, found);
+        let (kept, marks, at) = make(alloc, old, from, left, plan, live, port, due, answer, meter)?;
+        span.push(kept, marks, places[port - 1].new)?;
+        places[port - 1] = place_of_last(&span, at);
     }
     Ok(span.ended(to))
 }
@@ -129,7 +129,7 @@ fn next_before<const N: usize>(live: &Live<N>, plan: &Plan<N>, to: u64) -> Optio
     }
 }
 
-// A port's move for a due: shared where the old run has it, with its place there, else a step.
+// A port's move for a due, with its marks: shared where the old run has it, with its place there, else a step.
 fn make<const N: usize>(
     alloc: Global,
     old: &KeptMoves,
@@ -141,7 +141,7 @@ fn make<const N: usize>(
     due: Due,
     answer: Option<Answer>,
     meter: &mut Meter,
-) -> Result<(SharedMove, Option<usize>), AllocError>
+) -> Result<(SharedMove, Marks, Option<usize>), AllocError>
     requires made { All IsMade old.now.moves }
     requires in_time { AreInTime old.now.moves }
     requires before { AreBefore old.now.moves from due.time }
@@ -152,7 +152,8 @@ fn make<const N: usize>(
     requires budget { live.old.account.budget ≡ force plan.now due.time }
     requires answer { answer ≡ reply_at live.old (port - 1) due }
     ensures kept { IfOk result (λ r. r.0 ≡ kept_of port (port_at live.old (port - 1)) due answer) }
-    ensures found { IfOk result (λ r. IsLeft old.now.moves r.1 (moved_port live.old (port - 1) due)) }
+    ensures marks { IfOk result (λ r. r.1 ≡ marks_kept r.0) }
+    ensures found { IfOk result (λ r. IsLeft old.now.moves r.2 (moved_port live.old (port - 1) due)) }
     ensures ports { OnOk result (live.new.ports ≡ slice_set live.old.ports (port - 1) (moved_port live.old (port - 1) due)) }
     ensures stands { OnOk result ((past : List Move) → StandsAfter plan.now past live.old
         → StandsAfter plan.now (past ++ next_move plan.now past (port - 1) due ∷ []) live.new) }
@@ -160,13 +161,14 @@ fn make<const N: usize>(
     ensures charges { OnOk result (Charges old.now.moves (kept_of port (port_at live.old (port - 1)) due answer) meter.old meter.new) }
     ensures rises { meter.old ≤ meter.new }
 {
-    let _count = meter.count();
     if let Some(i) = find(old, from, left, port, live.port(port), &due, &answer) {
         let kept = old.share(i)?;
         live.settle(plan, port, &due, kept.kept().after.share()?);
-        return Ok((kept, Some(i)));
+        return Ok((kept, old.marks(i), Some(i)));
     }
-    Ok((step(alloc, plan, live, port, due, answer, meter)?, None))
+    let kept = step(alloc, plan, live, port, due, answer, meter)?;
+    let marks = Marks::of(port, &kept.kept().entry);
+    Ok((kept, marks, None))
 }
 
 // A port's move for a due that the old run doesn't have.

@@ -137,7 +137,7 @@ impl<const N: usize> Live<N> {
         requires last { port ≤ N }
         ensures { result.now ≡ port_at self.now (port - 1) }
     {
-        self.ports[port - 1].port()
+        self.shared(port).port()
     }
 
     /// The answer to what a port asks at a due. From now on the shared budget is that of the due's time.
@@ -216,12 +216,21 @@ impl<const N: usize> Live<N> {
             → steps_left plan.now self.new < steps_left plan.now before }
         ensures ports { self.new.ports ≡ self.old.ports }
     {
-        let hold = self.port(port).hold();
+        let hold = self.shared(port).hold();
         let taken = taken_after(self.had(port), due);
-        let next = self.port(port).due(plan.event(port, taken));
+        let next = self.shared(port).due(plan.event(port, taken));
         self.ledger.set_hold(port, hold);
         self.taken[port - 1] = taken;
         self.dues[port - 1] = next;
+    }
+
+    // A port as it stands, with what is worked out of it.
+    fn shared(&self, port: usize) -> &SharedPort
+        requires first { 1 ≤ port }
+        requires last { port ≤ N }
+        ensures { result.now ≡ port_at self.now (port - 1) }
+    {
+        &self.ports[port - 1]
     }
 
     // How many events a port has had.

@@ -14,9 +14,9 @@ use std::rc::Rc;
 /// A port, and what is worked out once after each of its steps: what falls due on it but for events, and what it holds.
 #[derive(Drop)]
 struct TimedPort {
-    port: Port,
-    own: Option<Due>,
     hold: u64,
+    own: Option<Due>,
+    port: Port,
 }
 
 impl Model for TimedPort {
@@ -36,7 +36,7 @@ impl TimedPort {
     {
         let own = port.due(None);
         let hold = port.hold();
-        TimedPort { port, own, hold }
+        TimedPort { hold, own, port }
     }
 
     // What falls due next, where this is the next event.

@@ -71,15 +71,13 @@ make-requires g c =
 pub push-requires : goal.push-requires
 push-requires g c =
     let next = c.in-Some.ensures.next.0 in
-    let few = c.in-Some.ensures.is_plan.few_ports in
     let known = next.first.known in
     let count = c.in-Some.ensures.is_plan.settings_count in
-    let port : c.in_ok-kept.kept.port ≡ c.in-Some.port = ap (λ (k : KeptData). k.port) c.in_ok-kept.ensures.kept in
     let p = c.in-Some.port - 1 in
     let before : c.in_ok-kept.kept.before ≡ port_at c.loop-port.live p =
     ap (λ (k : KeptData). k.before) c.in_ok-kept.ensures.kept ∙ ap (λ (l : LiveData). port_at l p) c.reply-answer.ensures.budget in
     record {
-      port = omega (arith, few, known, count, port);
+      marks = c.in_ok-kept.ensures.marks;
       left = subst (λ (x : PortData). IsLeft c.loop-port.span.moves (slice_index_or c.loop-port.places p nowhere).new x) (sym before)
           (c.loop-port.invariant.placed p (omega (arith, known, count))).1;
     }
@@ -160,7 +158,7 @@ loop-port-preserved g c =
       begun = λ o s. begins_same g.row.N plan o c.loop-port.span c.push.new.self first (i.begun o s);
       placed = rw c.place_of_last.ensures
           (rw pushed
-          (placed_more g.row.N c.args.old.now.moves kept c.loop-port.places live new p k (moved_port live p d) c.in_ok-kept.found
+          (placed_more g.row.N c.args.old.now.moves kept c.loop-port.places live new p k (moved_port live p d) c.in_ok-kept.at
           (length (kept ++ k ∷ []) - 1) (omega (arith, i.many, few)) (stands.ports_count ∙ c.in-Some.ensures.is_plan.settings_count)
           (omega (arith, known, c.in-Some.ensures.is_plan.settings_count)) (omega (arith, more))
           (kept_is_moved live p port x d a refl c.reply-answer.ensures.answer) c.in_ok-kept.ensures.ports c.in_ok-kept.ensures.found

@@ -1,6 +1,5 @@
 use Rattle.std.proofs.Common.{◌≡◌, ◌++◌, ◌∷◌, [], List, Option, ℕ, map, ap, sym, ◌∙◌, subst}
 use Rattle.std.proofs.lemmas.List.{map-append}
-use Rattle.pd_run.specs.Notes.{marks_of}
 use Rattle.pd_run.specs.declared.note.Marks.{Marks}
 use Rattle.pd_keep.specs.Kept.{KeptData, RunData, IsLeft, marks_kept}
 use Rattle.pd_keep.proofs.Places.{linked_more}
@@ -10,13 +9,10 @@ pub invariant_of-self-2 : goal.invariant_of-self-2
 invariant_of-self-2 c =
     let moves : List KeptData = c.self.inside.moves.items in
     let k : KeptData = c.args.kept in
-    let port = ap (λ (m : KeptData). m.port) (c.behind-kept.view_is ∙ c.kept-2.ensures) in
-    let entry = ap (λ (m : KeptData). m.entry) (c.behind-kept-2.view_is ∙ c.kept-3.ensures) in
-    let mark : c.of-marks.result ≡ marks_kept k = c.of-marks.ensures.marks ∙ (λ i. marks_of (port i, entry i)) in
     let marks : c.push_reserved.new.self.items ≡ map marks_kept (moves ++ k ∷ []) =
     c.push_reserved.ensures.items
-    ∙ ap (λ (l : List Marks). l ++ c.of-marks.result ∷ []) (c.in_ok-reserve.ensures.items ∙ c.self.invariant.0)
-    ∙ ap (λ (m : Marks). map marks_kept moves ++ m ∷ []) mark ∙ sym (map-append marks_kept moves (k ∷ [])) in
+    ∙ ap (λ (l : List Marks). l ++ c.args.marks ∷ []) (c.in_ok-reserve.ensures.items ∙ c.self.invariant.0)
+    ∙ ap (λ (m : Marks). map marks_kept moves ++ m ∷ []) c.requires.marks ∙ sym (map-append marks_kept moves (k ∷ [])) in
     let links : c.push_reserved-2.new.self.items ≡ c.self.inside.links.items ++ c.args.left ∷ [] =
     c.push_reserved-2.ensures.items ∙ ap (λ (l : List (Option ℕ)). l ++ c.args.left ∷ []) c.in_ok-reserve-2.ensures.items in
     let left : IsLeft moves c.args.left k.before =

@@ -33,7 +33,7 @@ set_hold-requires g c =
     let moved = subst (λ (l : LiveData). HasMoved c.args.plan.now past before c.args.port c.args.due.now l) (sym c.self.view_is) hm in
     let held = c.hold-hold.ensures
     ∙ ap (λ (x : PortData). hold x.settings x.port_record)
-    (c.port.ensures ∙ ap (λ (l : LiveData). port_at l (c.args.port - 1)) (sym c.self.view_is)) in
+    (c.shared.ensures ∙ ap (λ (l : LiveData). port_at l (c.args.port - 1)) (sym c.self.view_is)) in
     let fits = renewed_fits c.args.plan.now past before c.args.port c.args.due.now live c.hold-hold.result moved held in
     (omega arith, (hm.next.from_one, (omega (arith, c.requires.plan.settings_count, hm.next.first.known), fits)))
 
@@ -48,12 +48,12 @@ returns-clause-stands g c = λ past before hm.
       account = c.self.inside.ledger;
     } in
     let moved = subst (λ (l : LiveData). HasMoved plan past before c.args.port c.args.due.now l) (sym c.self.view_is) hm in
-    let x_is = c.port.ensures ∙ ap (λ (l : LiveData). port_at l p) (sym c.self.view_is) in
-    let y_is = c.port-2.ensures ∙ ap (λ (l : LiveData). port_at l p) (sym c.self.view_is) in
+    let x_is = c.shared.ensures ∙ ap (λ (l : LiveData). port_at l p) (sym c.self.view_is) in
+    let y_is = c.shared-2.ensures ∙ ap (λ (l : LiveData). port_at l p) (sym c.self.view_is) in
     let held = c.hold-hold.ensures ∙ ap (λ (x : PortData). hold x.settings x.port_record) x_is in
     let had = c.had.ensures ∙ ap (λ (l : LiveData). slice_index l.taken p) (sym c.self.view_is) in
     let taken = c.taken_after-taken.ensures ∙ ap (λ t. taken_after t c.args.due.now) had in
-    let next = c.due-next.ensures ∙ ap (due c.port-2.result.now.port_record) c.event.ensures.event
+    let next = c.due-next.ensures ∙ ap (due c.shared-2.result.now.port_record) c.event.ensures.event
     ∙ ap (λ (x : PortData). due x.port_record (slice_get (script_of plan p) c.taken_after-taken.result)) y_is in
     rw c.set_hold.ensures
     (StandsAfter-renewed g.row.N plan past before c.args.port c.args.due.now live c.taken_after-taken.result c.due-next.result
