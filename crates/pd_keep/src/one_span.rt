@@ -1,4 +1,4 @@
-//! A span of a run beside an older run's: moves that the older one has are copied.
+//! A span of a run beside an older run's: moves that the older one has are shared.
 
 ghost use Rattle.std.specs.Prelude.{◌≡◌, ◌⊎◌, ℕ, ◌+◌, ◌-◌, ◌<◌, ◌≤◌, ◌++◌, ◌∷◌, [], List, IfOk, OnOk, IfSome, IfNone, map, length};
 ghost use Rattle.std.specs.Prelude.{Contains};

@@ -1,4 +1,4 @@
-//! A run beside an older one: spans that the older one has too are shared, and in the others the moves that it has are copied.
+//! A run beside an older one: spans that the older one has too are shared, and in the others the moves that it has.
 
 ghost use Rattle.std.specs.Prelude.{◌≡◌, ◌⊎◌, ℕ, ◌+◌, ◌*◌, ◌-◌, ◌<◌, ◌≤◌, ◌++◌, ◌∷◌};
 ghost use Rattle.std.specs.Prelude.{◌↔◌, [], List, IfOk, OnOk, IsTrue, map, length, All, Bool};

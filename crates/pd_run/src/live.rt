@@ -1,7 +1,7 @@
 //! Ports that move.
 
 ghost use Rattle.std.specs.Prelude.{◌≡◌, ℕ, ◌+◌, ◌-◌, ◌<◌, ◌≤◌, ◌∷◌, ◌++◌, ◌↔◌, List, [], None, true, length, max};
-ghost use Rattle.std.specs.Prelude.{IfOk, OnOk, IfSome, IfNone, MatchOption, IsTrue, ⊤};
+ghost use Rattle.std.specs.Prelude.{IfOk, OnOk, OnErr, IfSome, IfNone, MatchOption, IsTrue, ⊤};
 ghost use Rattle.std.specs.Prelude.{option_map, slice_get, slice_index, slice_index_or, slice_set};
 ghost use Rattle.pd_port.specs.Meter.{raised};
 ghost use Rattle.pd_port.specs.Port.{is_event, due, hold};
@@ -184,6 +184,7 @@ impl<const N: usize> Live<N> {
         ensures ports { OnOk result (self.new.ports ≡ slice_set self.old.ports (port - 1) (moved_port self.old (port - 1) due.now)) }
         ensures meter { OnOk result (meter.new ≡ raised meter.old 1) }
         ensures rises { meter.old ≤ meter.new }
+        ensures same { OnErr result (self.new ≡ self.old) }
     {
         let entry = self.ports[port - 1].step(alloc, due, answer, meter)?;
         self.renew(plan, port, due);

@@ -1,12 +1,13 @@
 //! A port that runs share.
 
-ghost use Rattle.std.specs.Prelude.{◌≡◌, ◌≤◌, IfOk, OnOk};
+ghost use Rattle.std.specs.Prelude.{◌≡◌, ◌≤◌, IfOk, OnOk, OnErr};
 ghost use Rattle.std.specs.Option.{option_copied};
 ghost use Rattle.pd_port.specs.Meter.{raised};
 ghost use Rattle.pd_port.specs.Port.{due as the_due, ask, record_after, entry_of, hold};
 
 use pd_objects::{Answer, Query};
 use pd_port::{Due, Entry, Event, Meter, Port, What};
+use pd_timers::LAST_TIME;
 use std::alloc::{AllocError, Global};
 use std::marker::Model;
 use std::rc::Rc;
@@ -60,7 +61,7 @@ impl TimedPort {
     }
 
     fn step(&mut self, due: &Due, answer: Option<Answer>, meter: &mut Meter) -> Entry
-        requires { due.now.time ≤ 120000000 }
+        requires { due.now.time ≤ LAST_TIME }
         ensures after { self.new ≡ record self.old {
           port_record = record_after self.old.settings self.old.port_record due.now answer;
         } }
@@ -152,13 +153,14 @@ impl SharedPort {
         answer: Option<Answer>,
         meter: &mut Meter,
     ) -> Result<Entry, AllocError>
-        requires { due.now.time ≤ 120000000 }
+        requires { due.now.time ≤ LAST_TIME }
         ensures after { OnOk result (self.new ≡ record self.old {
           port_record = record_after self.old.settings self.old.port_record due.now answer;
         }) }
         ensures entry { IfOk result (λ entry. entry ≡ entry_of self.old.settings self.old.port_record due.now answer) }
         ensures meter { OnOk result (meter.new ≡ raised meter.old 1) }
         ensures rises { meter.old ≤ meter.new }
+        ensures same { OnErr result (self.new ≡ self.old) }
     {
         let _count = meter.count();
         if let Some(port) = Rc::get_mut(&mut self.port) {
