@@ -1,9 +1,10 @@
 //! Two plans beside one another.
 
-ghost use Rattle.std.specs.Prelude.{◌≡◌, ℕ, ◌+◌, ◌-◌, ◌<◌, ◌≤◌, ◌⊎◌, ◌↔◌, IfOk, IsTrue, All, slice_index, slice_set};
+ghost use Rattle.std.specs.Prelude.{◌≡◌, ℕ, ◌+◌, ◌-◌, ◌<◌, ◌≤◌, ◌⊎◌, ◌↔◌, IfOk, IsTrue, All, false, true, length, slice_index, slice_index_or};
+ghost use Rattle.std.specs.Prelude.{slice_set};
 ghost use Rattle.pd_scenario.specs.Plan.{IsPlan, script_of, force};
 ghost use Rattle.pd_run.specs.UpTo.{AgreeIn, had_by, events_in};
-ghost use Rattle.pd_run.specs.Beside.{AreBeside, HasCounts};
+ghost use Rattle.pd_run.specs.Beside.{AreBeside, HasCounts, IsApart};
 
 use crate::Plan;
 use crate::had::{events_from, had_by};
@@ -18,6 +19,8 @@ pub struct Beside<const N: usize> {
     at: u64,
     // Most edits leave the budget as it is at all times.
     same_budget: bool,
+    // And the events of most ports. These are counted no more.
+    same_scripts: Vec<bool>,
     old_had: Vec<usize>,
     new_had: Vec<usize>,
 }
@@ -27,11 +30,18 @@ impl<const N: usize> Model for Beside<N> {
 
     ghost Value = { BesideData };
 
-    ghost view = { λ b. record { at = b.at; same_budget = b.same_budget; old_had = b.old_had.items; new_had = b.new_had.items } };
+    ghost view = { λ b. record {
+      at = b.at;
+      same_budget = b.same_budget;
+      same_scripts = b.same_scripts.items;
+      old_had = b.old_had.items;
+      new_had = b.new_had.items;
+    } };
 
     ghost invariant = { λ b. HasCounts N (record {
       at = b.at;
       same_budget = b.same_budget;
+      same_scripts = b.same_scripts.items;
       old_had = b.old_had.items;
       new_had = b.new_had.items;
     }) };
@@ -49,6 +59,7 @@ impl<const N: usize> Beside<N> {
         Ok(Beside {
             at: 0,
             same_budget: have_same_budget(old, plan),
+            same_scripts: same_scripts(alloc, old, plan)?,
             old_had: vec![in alloc; 0; N]?,
             new_had: vec![in alloc; 0; N]?,
         })
@@ -83,16 +94,17 @@ impl<const N: usize> Beside<N> {
         requires later { self.old.at ≤ to }
         ensures same { IsTrue result ↔ ((p : ℕ) → p < N
             → events_in self.old.at to (script_of old.now p) ≡ events_in self.old.at to (script_of plan.now p)) }
-        ensures old_had { (p : ℕ) → p < N → slice_index self.new.old_had p ≡ had_by to (script_of old.now p) }
-        ensures new_had { (p : ℕ) → p < N → slice_index self.new.new_had p ≡ had_by to (script_of plan.now p) }
+        ensures old_had { (p : ℕ) → p < N → IsApart self.new p → slice_index self.new.old_had p ≡ had_by to (script_of old.now p) }
+        ensures new_had { (p : ℕ) → p < N → IsApart self.new p → slice_index self.new.new_had p ≡ had_by to (script_of plan.now p) }
         ensures same_budget { self.new.same_budget ≡ self.old.same_budget }
+        ensures same_scripts { self.new.same_scripts ≡ self.old.same_scripts }
         ensures old_plan { IsPlan N old.now }
         ensures new_plan { IsPlan N plan.now }
     {
         let _ends = (old.end(), plan.end());
         let mut all = true;
         for port in 0..N {
-            let same = self.pass(old, plan, port, to);
+            let same = self.same_scripts[port] || self.pass(old, plan, port, to);
             all = all && same;
         }
         all
@@ -122,6 +134,23 @@ impl<const N: usize> Beside<N> {
         let new_events = events_from(plan, port + 1, new_from, new_to);
         same_events(old_events, new_events)
     }
+}
+
+// Of each port whether both plans have the same script.
+fn same_scripts<const N: usize>(
+    alloc: Global,
+    old: &Plan<N>,
+    plan: &Plan<N>,
+) -> Result<Vec<bool>, AllocError>
+    ensures count { IfOk result (λ same. length same.items ≡ N) }
+    ensures same { IfOk result (λ same. (p : ℕ) → p < N → slice_index_or same.items p false ≡ true
+        → script_of old.now p ≡ script_of plan.now p) }
+{
+    let mut same = Vec::new(alloc);
+    for port in 0..N {
+        same.push(same_events(old.script(port + 1), plan.script(port + 1)))?;
+    }
+    Ok(same)
 }
 
 // Whether both are the same events.

@@ -9,10 +9,11 @@ returns-clause-are g c =
     let zeros : c.in_ok-vec.field-0.items ≡ replicate g.row.N 0 = search rules in
     let zeros_new : c.in_ok-vec-2.field-0.items ≡ replicate g.row.N 0 = search rules in
     record {
-      old_had = λ p lt. ap (λ (l : List ℕ). slice_index l p) zeros
+      same_scripts = λ p lt. c.in_ok-same_scripts.ensures.same p (omega (arith, c.have_same_budget.ensures.old_plan.settings_count));
+      old_had = λ p lt _. ap (λ (l : List ℕ). slice_index l p) zeros
           ∙ get_or-replicate g.row.N p 0 0 (omega (arith, c.have_same_budget.ensures.old_plan.settings_count))
           ∙ sym (had_none (script_of c.args.old.now p));
-      new_had = λ p lt. ap (λ (l : List ℕ). slice_index l p) zeros_new
+      new_had = λ p lt _. ap (λ (l : List ℕ). slice_index l p) zeros_new
           ∙ get_or-replicate g.row.N p 0 0 (omega (arith, c.have_same_budget.ensures.new_plan.settings_count))
           ∙ sym (had_none (script_of c.args.plan.now p));
       same_budget = c.have_same_budget.ensures.same;
