@@ -1,6 +1,6 @@
 //! A port that runs share.
 
-ghost use Rattle.std.specs.Prelude.{◌≡◌, ◌≤◌, IfOk, OnOk, OnErr};
+ghost use Rattle.std.specs.Prelude.{◌≡◌, ◌≤◌, None, false, IfOk, OnOk, OnErr, IfSome, IsTrue};
 ghost use Rattle.std.specs.Option.{option_copied};
 ghost use Rattle.pd_port.specs.Meter.{raised};
 ghost use Rattle.pd_port.specs.Port.{due as the_due, ask, record_after, entry_of, hold};
@@ -12,23 +12,26 @@ use std::alloc::{AllocError, Global};
 use std::marker::Model;
 use std::rc::Rc;
 
-/// A port, and what is worked out once after each of its steps: what falls due on it but for events, and what it holds.
+/// A port, and what is worked out once after each of its steps: what falls due on it but for events, whether it asks anything then,
+/// and what it holds.
 #[derive(Drop)]
 struct TimedPort {
     hold: u64,
+    asks: bool,
     own: Option<Due>,
     port: Port,
 }
 
 impl Model for TimedPort {
-    ghost use Rattle.std.specs.Prelude.{◌≡◌, None};
-    ghost use Rattle.pd_port.specs.Port.{PortData, due, hold as held};
+    ghost use Rattle.std.specs.Prelude.{◌≡◌, None, false, IfSome};
+    ghost use Rattle.pd_port.specs.Port.{PortData, due, ask, hold as held};
 
     ghost Value = { PortData };
 
     ghost view = { λ p. p.port };
 
-    ghost invariant = { λ p. (p.own ≡ due p.port.port_record None) × (p.hold ≡ held p.port.settings p.port.port_record) };
+    ghost invariant = { λ p. (p.own ≡ due p.port.port_record None) × (p.hold ≡ held p.port.settings p.port.port_record)
+        × (p.asks ≡ false → IfSome p.own (λ d. ask p.port.settings p.port.port_record d ≡ None)) };
 }
 
 impl TimedPort {
@@ -36,8 +39,32 @@ impl TimedPort {
         ensures { result ≡ port }
     {
         let own = port.due(None);
-        let hold = port.hold();
-        TimedPort { hold, own, port }
+        TimedPort {
+            hold: port.hold(),
+            asks: asks_at(&port, &own),
+            own,
+            port,
+        }
+    }
+
+    // What the port asks before the step for this due. Most dues ask nothing, and then the port itself isn't read.
+    fn ask(&self, due: &Due) -> Option<Query>
+        ensures { result ≡ ask self.now.settings self.now.port_record due.now }
+    {
+        if self.is_quiet_at(due) {
+            return None;
+        }
+        self.port.ask(due)
+    }
+
+    // Whether it is known that the port asks nothing then.
+    fn is_quiet_at(&self, due: &Due) -> bool
+        ensures { IsTrue result → ask self.now.settings self.now.port_record due.now ≡ None }
+    {
+        match &self.own {
+            Some(own) => !self.asks && own.same(due),
+            None => false,
+        }
     }
 
     // What falls due next, where this is the next event.
@@ -70,8 +97,19 @@ impl TimedPort {
     {
         let entry = self.port.step(due, answer, meter);
         self.own = self.port.due(None);
+        self.asks = asks_at(&self.port, &self.own);
         self.hold = self.port.hold();
         entry
+    }
+}
+
+// Whether a port asks anything of the shared budget at a due, where there is one.
+fn asks_at(port: &Port, due: &Option<Due>) -> bool
+    ensures { result ≡ false → IfSome due.now (λ d. ask port.now.settings port.now.port_record d ≡ None) }
+{
+    match due {
+        Some(due) => port.ask(due).is_some(),
+        None => false,
     }
 }
 
@@ -125,7 +163,7 @@ impl SharedPort {
     pub fn ask(&self, due: &Due) -> Option<Query>
         ensures { result ≡ ask self.now.settings self.now.port_record due.now }
     {
-        self.port.port.ask(due)
+        self.port.ask(due)
     }
 
     /// What the port holds of the shared budget, in microwatts.
