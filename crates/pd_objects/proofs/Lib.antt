@@ -1,3 +1,4 @@
 pub mod FixedSupplies
 pub mod SinkSupplies
 pub mod Requests
+pub mod SupplyLists

@@ -14,3 +14,7 @@ pub record IsSupply (s : SupplyData) : Type 0 where
   pub least_ma : 10 ≤ s.ma
   pub most_ma : s.ma ≤ 5000
   pub steps_ma : s.ma % 10 ≡ 0
+
+-- the least of all
+abbrev pub least : SupplyData
+least = record { mv = 5000; ma = 10 }

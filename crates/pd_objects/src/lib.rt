@@ -9,6 +9,7 @@ mod query;
 mod request_object;
 mod sink_supply;
 mod supply;
+mod supply_list;
 mod word;
 
 pub use contract::Contract;
@@ -17,6 +18,7 @@ pub use query::{Answer, Query};
 pub use request_object::{RequestFlags, RequestObject};
 pub use sink_supply::SinkSupply;
 pub use supply::{Supply, same_supplies};
+pub use supply_list::SupplyList;
 pub use word::field;
 
 #[cfg(test)]

@@ -9,8 +9,8 @@ use std::marker::Model;
 /// 10 to 5,000 in steps of 10.
 #[derive(Clone, Copy, Debug)]
 pub struct Supply {
-    mv: u32,
-    ma: u32,
+    mv: u16,
+    ma: u16,
 }
 
 impl Model for Supply {
@@ -29,7 +29,10 @@ impl Supply {
         requires { IsSupply (record { mv = mv; ma = ma }) }
         ensures { result ≡ record { mv = mv; ma = ma } }
     {
-        Supply { mv, ma }
+        Supply {
+            mv: mv as u16,
+            ma: ma as u16,
+        }
     }
 
     /// The voltage in mV.
@@ -39,7 +42,7 @@ impl Supply {
     {
         // Read for the proof alone, which then knows its range.
         let _ma = self.ma;
-        self.mv
+        u32::from(self.mv)
     }
 
     /// The greatest current in mA.
@@ -49,7 +52,7 @@ impl Supply {
     {
         // Read for the proof alone, which then knows its range.
         let _mv = self.mv;
-        self.ma
+        u32::from(self.ma)
     }
 
     /// Whether both are of the same voltage and current.
@@ -75,7 +78,9 @@ pub fn same_supplies(supplies: &[Supply], others: &[Supply]) -> bool
 
 // What a list of a fixed capacity fills its free places with.
 impl Default for Supply {
-    ghost is_default = { λ s. s ≡ record { mv = 5000; ma = 10 } };
+    ghost use Rattle.pd_objects.specs.Supply.{least};
+
+    ghost is_default = { λ s. s ≡ least };
 
     fn default() -> Supply {
         Supply::new(5_000, 10)

@@ -4,8 +4,7 @@ ghost use Rattle.std.specs.Prelude.{◌≡◌, ℕ, ◌↔◌, IsTrue};
 ghost use Rattle.pd_setup.specs.Settings.{SettingsData, IsSettings};
 
 use arrayvec::ArrayVec;
-use pd_objects::{Supply, same_supplies};
-use pd_symbols::copied;
+use pd_objects::{Supply, SupplyList, same_supplies};
 use std::marker::Model;
 
 /// What a port is set to: its floor in mW, 500 to 100,000; 1 to 7 supplies, the first of 5 V and the voltages rising;
@@ -13,7 +12,7 @@ use std::marker::Model;
 #[derive(Drop)]
 pub struct Settings {
     floor_mw: u32,
-    supplies: ArrayVec<Supply, 7>,
+    supplies: SupplyList,
     identity_tries: u8,
     unconstrained: bool,
 }
@@ -23,14 +22,14 @@ impl Model for Settings {
 
     ghost view = { λ s. record {
       floor_mw = s.floor_mw;
-      supplies = s.supplies.items;
+      supplies = s.supplies;
       identity_tries = s.identity_tries;
       unconstrained = s.unconstrained;
     } };
 
     ghost invariant = { λ s. IsSettings (record {
       floor_mw = s.floor_mw;
-      supplies = s.supplies.items;
+      supplies = s.supplies;
       identity_tries = s.identity_tries;
       unconstrained = s.unconstrained;
     }) };
@@ -55,7 +54,7 @@ impl Settings {
     {
         Settings {
             floor_mw,
-            supplies,
+            supplies: SupplyList::of(supplies.as_slice()),
             identity_tries,
             unconstrained,
         }
@@ -111,7 +110,7 @@ impl Settings {
     {
         Settings {
             floor_mw: self.floor_mw,
-            supplies: copied(self.supplies.as_slice()),
+            supplies: self.supplies,
             identity_tries: self.identity_tries,
             unconstrained: self.unconstrained,
         }

@@ -15,8 +15,8 @@ use crate::request::{contract_of, revision_of};
 use crate::{Act, Revision, Sending, State, Stimulus};
 use arrayvec::ArrayVec;
 use pd_identity::limit_ma;
-use pd_objects::{Answer, Contract, Supply};
-use pd_symbols::{ShortList, copied};
+use pd_objects::{Answer, Contract, Supply, SupplyList};
+use pd_symbols::ShortList;
 use pd_timers::{Deadlines, LAST_TIME, Timer};
 use std::marker::Model;
 
@@ -30,7 +30,7 @@ const CABLE_CURRENT_MA: u32 = 3_000;
 /// The source's policy engine.
 #[derive(Drop)]
 pub struct Source {
-    supplies: ArrayVec<Supply, 7>,
+    supplies: SupplyList,
     identity_tries: u8,
     unconstrained: bool,
     state: State,
@@ -64,7 +64,7 @@ impl Model for Source {
     ghost Value = { SourceData };
 
     ghost view = { λ s. record {
-      settings = record { supplies = s.supplies.items; identity_tries = s.identity_tries; unconstrained = s.unconstrained };
+      settings = record { supplies = s.supplies; identity_tries = s.identity_tries; unconstrained = s.unconstrained };
       «record» = record {
         state = s.state;
         deadlines = s.deadlines;
@@ -91,7 +91,7 @@ impl Source {
         ensures { result ≡ new_source (record { supplies = supplies.now; identity_tries = identity_tries; unconstrained = unconstrained }) }
     {
         Source {
-            supplies: copied(supplies),
+            supplies: SupplyList::of(supplies),
             identity_tries,
             unconstrained,
             state: State::Off,

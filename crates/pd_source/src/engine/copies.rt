@@ -4,7 +4,6 @@ ghost use Rattle.std.specs.Prelude.{◌≡◌, ◌↔◌, IsTrue};
 
 use super::Source;
 use pd_objects::same_supplies;
-use pd_symbols::copied;
 
 /// Whether all tests hold, with a return at the first that doesn't.
 macro_rules! all_of {
@@ -53,7 +52,7 @@ impl Source {
         ensures { result ≡ self.now }
     {
         Source {
-            supplies: copied(self.supplies.as_slice()),
+            supplies: self.supplies,
             identity_tries: self.identity_tries,
             unconstrained: self.unconstrained,
             state: self.state,
