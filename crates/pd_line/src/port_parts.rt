@@ -18,7 +18,7 @@ pub enum Disturbance {
 }
 
 /// What waits on a side until the line is idle: what its engine sent last.
-#[derive(Drop)]
+#[derive(Clone, Copy, Debug)]
 pub enum Waiting {
     Nothing,
     Message(Message),
@@ -26,7 +26,7 @@ pub enum Waiting {
 }
 
 /// What is on the line between source, sink and plug, and when it ends, in microseconds.
-#[derive(Drop)]
+#[derive(Clone, Copy, Debug)]
 pub enum Line {
     Idle,
     /// A side's message is sent.

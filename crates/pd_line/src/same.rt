@@ -25,17 +25,6 @@ impl Waiting {
             _ => false,
         }
     }
-
-    /// A copy of what waits.
-    fn copy(&self) -> Waiting
-        ensures { result ≡ self.now }
-    {
-        match self {
-            Waiting::Nothing => Waiting::Nothing,
-            Waiting::Message(message) => Waiting::Message(message.copy()),
-            Waiting::HardReset => Waiting::HardReset,
-        }
-    }
 }
 
 impl Line {
@@ -139,67 +128,6 @@ impl Line {
         match self {
             Line::HardReset { side, end } => *side == from && *end == until,
             _ => false,
-        }
-    }
-
-    /// A copy of a message that is sent.
-    fn message_sent(side: Side, packet: &Packet, fate: &Fate, end: u64) -> Line
-        ensures { result ≡ lines.Message side packet.now fate.now end }
-    {
-        Line::Message {
-            side,
-            packet: packet.copy(),
-            fate: *fate,
-            end,
-        }
-    }
-
-    /// A copy of a GoodCRC that is sent for a message.
-    fn good_crc_sent(side: Side, packet: &Packet, answer: &Packet, fate: &Fate, end: u64) -> Line
-        ensures { result ≡ lines.GoodCrc side packet.now answer.now fate.now end }
-    {
-        Line::GoodCrc {
-            side,
-            packet: packet.copy(),
-            answer: answer.copy(),
-            fate: *fate,
-            end,
-        }
-    }
-
-    /// A copy of what is on the line.
-    fn copy(&self) -> Line
-        ensures { result ≡ self.now }
-    {
-        match self {
-            Line::Idle => Line::Idle,
-            Line::Message {
-                side,
-                packet,
-                fate,
-                end,
-            } => Line::message_sent(*side, packet, fate, *end),
-            Line::Pause { side, packet, end } => Line::Pause {
-                side: *side,
-                packet: packet.copy(),
-                end: *end,
-            },
-            Line::GoodCrc {
-                side,
-                packet,
-                answer,
-                fate,
-                end,
-            } => Line::good_crc_sent(*side, packet, answer, fate, *end),
-            Line::NoAnswer { side, packet, end } => Line::NoAnswer {
-                side: *side,
-                packet: packet.copy(),
-                end: *end,
-            },
-            Line::HardReset { side, end } => Line::HardReset {
-                side: *side,
-                end: *end,
-            },
         }
     }
 }
@@ -313,10 +241,10 @@ impl PortParts {
             sink_sop: self.sink_sop.copy(),
             source_sop_prime: self.source_sop_prime.copy(),
             plug_sop_prime: self.plug_sop_prime.copy(),
-            source_waits: self.source_waits.copy(),
-            sink_waits: self.sink_waits.copy(),
-            plug_waits: self.plug_waits.copy(),
-            line: self.line.copy(),
+            source_waits: self.source_waits,
+            sink_waits: self.sink_waits,
+            plug_waits: self.plug_waits,
+            line: self.line,
             disturbances: copied(self.disturbances.as_slice()),
         }
     }

@@ -5,7 +5,7 @@ ghost use Rattle.pd_protocol.specs.Layer.{fresh, reset, submit, good_crc, timed_
 ghost use Rattle.pd_protocol.specs.LayerRecord.{LayerRecord};
 
 use crate::message::Message;
-use crate::outstanding::{Outstanding, copy_outstanding, same_outstanding};
+use crate::outstanding::{Outstanding, same_outstanding};
 use pd_header::{Kind, Side, header_id, header_kind, header_revision};
 use pd_packet::Packet;
 use pd_symbols::Channel;
@@ -98,7 +98,7 @@ impl Layer {
             channel: self.channel,
             next_id: self.next_id,
             stored_id: self.stored_id,
-            outstanding: copy_outstanding(&self.outstanding),
+            outstanding: self.outstanding,
         }
     }
 

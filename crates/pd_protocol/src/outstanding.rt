@@ -7,7 +7,7 @@ use pd_packet::Packet;
 use std::marker::Model;
 
 /// A packet that waits for its GoodCRC, and how often it was sent: one more than the standard's RetryCounter.
-#[derive(Debug, Drop)]
+#[derive(Clone, Copy, Debug)]
 pub struct Outstanding {
     pub packet: Packet,
     pub tries: u8,
@@ -17,6 +17,8 @@ impl Model for Outstanding {
     ghost Value = { OutstandingData };
 
     ghost view = { λ o. record { packet = o.packet; tries = o.tries } };
+
+    ghost inverse = { λ v. record { packet = v.packet; tries = v.tries } };
 }
 
 impl Outstanding {
@@ -25,16 +27,6 @@ impl Outstanding {
         ensures { IsTrue result ↔ (self.now ≡ other.now) }
     {
         self.tries == other.tries && self.packet.same(&other.packet)
-    }
-
-    /// A copy, which allocates nothing.
-    pub fn copy(&self) -> Outstanding
-        ensures { result ≡ self.now }
-    {
-        Outstanding {
-            packet: self.packet.copy(),
-            tries: self.tries,
-        }
     }
 }
 
@@ -46,15 +38,5 @@ pub fn same_outstanding(one: &Option<Outstanding>, other: &Option<Outstanding>) 
         (None, None) => true,
         (Some(one), Some(other)) => one.same(other),
         _ => false,
-    }
-}
-
-/// A copy of what is outstanding.
-pub fn copy_outstanding(outstanding: &Option<Outstanding>) -> Option<Outstanding>
-    ensures { result ≡ outstanding.now }
-{
-    match outstanding {
-        None => None,
-        Some(outstanding) => Some(outstanding.copy()),
     }
 }
