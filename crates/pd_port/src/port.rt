@@ -16,7 +16,6 @@ use pd_line::stepping::{PortParts, PortStep};
 use pd_objects::{Answer, Contract, Query};
 use pd_timers::LAST_TIME;
 use std::marker::Model;
-use std::mem;
 
 /// One port of a charger, with what it is set to.
 #[derive(Drop)]
@@ -129,9 +128,7 @@ impl Port {
         let query = self.ask(due);
         let before = self.contract();
         meter.rise();
-        // The step owns the parts while it is under way.
-        let parts = mem::replace(&mut self.parts, parts_at_rest(&self.settings));
-        let mut step = PortStep::at_rest(parts);
+        let mut step = PortStep::at_rest(self.parts.copy());
         step.answer = answer;
         happens(&mut step, &self.settings, &due.what, due.time);
         step.line_starts(due.time);
