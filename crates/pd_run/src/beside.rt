@@ -1,7 +1,7 @@
 //! Two plans beside one another.
 
-ghost use Rattle.std.specs.Prelude.{◌≡◌, ℕ, ◌+◌, ◌-◌, ◌<◌, ◌≤◌, ◌⊎◌, ◌↔◌, IfOk, IsTrue, All, false, true, length, slice_index, slice_index_or};
-ghost use Rattle.std.specs.Prelude.{slice_set};
+ghost use Rattle.std.specs.Prelude.{◌≡◌, ℕ, ◌+◌, ◌-◌, ◌<◌, ◌≤◌, ◌⊎◌, ◌↔◌, IfOk, IsTrue, All, false, true, length};
+ghost use Rattle.std.specs.Prelude.{slice_index, slice_index_or, slice_set};
 ghost use Rattle.pd_scenario.specs.Plan.{IsPlan, script_of, force};
 ghost use Rattle.pd_run.specs.UpTo.{AgreeIn, had_by, events_in};
 ghost use Rattle.pd_run.specs.Beside.{AreBeside, HasCounts, IsApart};

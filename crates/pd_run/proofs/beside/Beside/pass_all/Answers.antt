@@ -2,7 +2,7 @@ use Rattle.std.proofs.Common.{◌≡◌, ℕ, ◌+◌, ◌<◌, Bool, true, fals
 use Rattle.std.proofs.lemmas.List.{get_or_read}
 use Rattle.std.specs.Bool.{Decides}
 use Rattle.pd_scenario.specs.Plan.{script_of}
-use Rattle.pd_run.specs.UpTo.{had_by, events_in}
+use Rattle.pd_run.specs.UpTo.{events_in}
 use Rattle.pd_run.specs.Beside.{BesideData}
 use Rattle.pd_run.proofs.Agree.{same_ports, PassOne, passed_by, counted_on}
 use Rattle.pd_run.proofs.beside.Beside.pass_all.Goals as goal
