@@ -1,0 +1,44 @@
+//! `pdlab live SCENARIO`.
+
+use crate::Ending;
+use crate::fault::{output, tell, tell_refused, tell_unread};
+use pd_desk::{ByteIn, ReasonedOut, run_live};
+use pd_run_text::{RunFault, read_whole};
+use std::alloc::Global;
+use std::io::IsTerminal;
+use std::rt::Files;
+
+/// Runs a session over standard input, for the scenario of a file. Where the input is a terminal, it is prompted.
+pub fn live<R: Files + Input + Print + Alloc<A = Global>, E: Print>(
+    rt: &R,
+    errors: &E,
+    scenario: &str,
+) -> Ending
+where
+    R::Reader: IsTerminal,
+{
+    let Ok(text) = read_whole(rt, scenario) else {
+        return tell_unread(errors, scenario);
+    };
+    let input = rt.reader();
+    let prompts = if input.is_terminal() {
+        Some(output(errors))
+    } else {
+        None
+    };
+    let mut reader = ByteIn {
+        reader: input,
+        failures: 0,
+        prompts,
+        is_at_start: true,
+    };
+    let mut writer = ReasonedOut {
+        writer: output(rt),
+        reasons: output(errors),
+    };
+    match run_live(rt.alloc(), text.as_slice(), &mut reader, &mut writer) {
+        Ok(_) => Ending::Done,
+        Err(RunFault::Scenario(fault)) => tell_refused(errors, scenario, fault),
+        Err(RunFault::Session(fault)) => tell(errors, fault),
+    }
+}

@@ -1,0 +1,38 @@
+//! Refusals and faults, as the program tells them on standard error.
+
+use crate::Ending;
+use pd_desk::tell_reason;
+use pd_device::{BenchFault, Output};
+use pd_scenario_text::ScenarioFault;
+use std::io;
+use std::io::Printer;
+
+/// A device that writes to what prints.
+pub fn output<P: Print>(to: &P) -> Output<Printer<'_, P>> {
+    Output {
+        writer: io::writer(to),
+        failures: 0,
+    }
+}
+
+/// Tells a fault, and what it is.
+pub fn tell<E: Print>(errors: &E, fault: BenchFault) -> Ending {
+    let _ = println!(errors; "fault {}", fault.number());
+    let _ = tell_reason(&mut output(errors), fault.number());
+    Ending::Fault
+}
+
+/// Tells that the scenario of a file is refused, and why.
+pub fn tell_refused<E: Print>(errors: &E, file: &str, fault: ScenarioFault) -> Ending {
+    let _ = println!(errors; "scenario refused {}", fault.number());
+    let _ = print!(errors; "{file}: ");
+    let _ = tell_reason(&mut output(errors), fault.number());
+    Ending::Refused
+}
+
+/// Tells that a file can't be read.
+pub fn tell_unread<E: Print>(errors: &E, file: &str) -> Ending {
+    let _ = errors.println("cannot read");
+    let _ = println!(errors; "{file}: no file that can be read, or more than 1048576 bytes");
+    Ending::Fault
+}

@@ -1,0 +1,104 @@
+//! The engineer's desk as a program: `pdlab live SCENARIO`.
+#![tactic(auto)]
+
+mod at_keyboard;
+mod fault;
+mod words;
+
+use at_keyboard::live;
+use clap::error::ErrorKind;
+use fault::tell;
+use pd_device::BenchFault;
+use std::alloc::{AllocError, Global};
+use std::io::IsTerminal;
+use std::process::ExitCode;
+use std::rt::{Env, Files};
+use std::{env, io};
+use words::{HELP, USAGE, command};
+
+/// How the program ends.
+#[derive(Clone, Copy, Debug, PartialEq, Eq)]
+pub enum Ending {
+    Done,
+    /// The input is refused.
+    Refused,
+    /// The words of the command line are none of the program.
+    Usage,
+    /// A fault of a session, a file or the memory.
+    Fault,
+}
+
+impl Ending {
+    /// The status that the program ends with.
+    fn status(self) -> u8 {
+        match self {
+            Ending::Done => 0,
+            Ending::Refused => 1,
+            Ending::Usage => 2,
+            Ending::Fault => 3,
+        }
+    }
+}
+
+/// Tells how the program is used, or that there was no memory to read its words.
+fn answer_words<R: Print, E: Print>(rt: &R, errors: &E, kind: ErrorKind) -> Ending {
+    match kind {
+        ErrorKind::OutOfMemory => tell(errors, BenchFault::Memory),
+        ErrorKind::DisplayHelp => match rt.print(HELP) {
+            Ok(()) => Ending::Done,
+            Err(_) => tell(errors, BenchFault::WriteFailed),
+        },
+        _ => {
+            let _ = errors.println(USAGE);
+            Ending::Usage
+        }
+    }
+}
+
+/// Does what the words of the command line say.
+fn obey<R: Files + Input + Print + Alloc<A = Global>, E: Print>(
+    rt: &R,
+    errors: &E,
+    words: &[String],
+) -> Ending
+where
+    R::Reader: IsTerminal,
+{
+    let Ok(command) = command(rt.alloc()) else {
+        return answer_words(rt, errors, ErrorKind::OutOfMemory);
+    };
+    let matches = match command.try_get_matches_from(words) {
+        Ok(matches) => matches,
+        Err(error) => return answer_words(rt, errors, error.kind()),
+    };
+    let Some((_, matches)) = matches.subcommand() else {
+        return answer_words(rt, errors, ErrorKind::MissingSubcommand);
+    };
+    match matches.get_str("SCENARIO") {
+        Some(scenario) => live(rt, errors, scenario),
+        None => answer_words(rt, errors, ErrorKind::MissingRequiredArgument),
+    }
+}
+
+/// The program. Words that are no text are wrong words.
+fn lab<R: Files + Input + Print + Env + Alloc<A = Global>, E: Print>(rt: &R, errors: &E) -> Ending
+where
+    R::Reader: IsTerminal,
+{
+    let arguments = match env::args(rt) {
+        Ok(arguments) => arguments,
+        Err(error) if error.kind() == io::ErrorKind::OutOfMemory => {
+            return answer_words(rt, errors, ErrorKind::OutOfMemory);
+        }
+        Err(_) => return answer_words(rt, errors, ErrorKind::UnknownArgument),
+    };
+    let words: Result<Vec<String>, AllocError> = arguments.collect(rt.alloc());
+    match words {
+        Ok(words) => obey(rt, errors, words.as_slice()),
+        Err(_) => answer_words(rt, errors, ErrorKind::OutOfMemory),
+    }
+}
+
+fn main(rt: HostRuntime) -> ExitCode {
+    ExitCode::from(lab(&rt, &rt.stderr()).status())
+}
