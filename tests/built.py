@@ -14,6 +14,7 @@ CASES = TOP / "crates" / "pd_cases" / "data" / "cases"
 # What `rt ci` leaves. The first keeps its moves from run to run; the second runs a folder of cases with both runners.
 BENCH = TOP / "crates" / "pdbench" / "out" / "pdbench"
 BOTH = TOP / "crates" / "pd_cases" / "out" / "pd_cases"
+LAB = TOP / "crates" / "pdlab" / "out" / "pdlab"
 # No run of a program in these checks takes a few seconds; so many say that it hangs.
 HANGS = 120
 
@@ -38,9 +39,9 @@ def room():
         yield pathlib.Path(folder)
 
 
-def programs(words):
-    """The two programs, or those that the command line names in their place; stops where one isn't there."""
-    found = [pathlib.Path(word).resolve() for word in words] or [BENCH, BOTH]
+def programs(words, usual=(BENCH, BOTH)):
+    """The usual programs, or those that the command line names in their place; stops where one isn't there."""
+    found = [pathlib.Path(word).resolve() for word in words] or usual
     for program in found:
         if not os.access(program, os.X_OK):
             sys.exit(f"no program {program}: `rt ci` at the top, or `rt run` in its folder, builds it")
