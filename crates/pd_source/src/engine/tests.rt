@@ -6,6 +6,7 @@ ghost use Rattle.std.specs.Prelude.{◌≤◌};
 use super::*;
 use crate::{Note, Sent};
 use pd_objects::Query;
+use pd_symbols::copied;
 
 mod cables;
 mod counts;
