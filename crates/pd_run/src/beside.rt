@@ -1,6 +1,6 @@
 //! Two plans beside one another.
 
-ghost use Rattle.std.specs.Prelude.{◌≡◌, ℕ, ◌+◌, ◌-◌, ◌<◌, ◌≤◌, ◌⊎◌, ◌↔◌, IfOk, IsTrue, All, false, true, length};
+ghost use Rattle.std.specs.Prelude.{◌≡◌, ℕ, ◌+◌, ◌-◌, ◌<◌, ◌≤◌, ◌⊎◌, ◌↔◌, IfOk, IsTrue, All, false, length};
 ghost use Rattle.std.specs.Prelude.{slice_index, slice_index_or, slice_set};
 ghost use Rattle.pd_scenario.specs.Plan.{IsPlan, script_of, force};
 ghost use Rattle.pd_run.specs.UpTo.{AgreeIn, had_by, events_in};
@@ -19,7 +19,7 @@ pub struct Beside<const N: usize> {
     at: u64,
     // Most edits leave the budget as it is at all times.
     same_budget: bool,
-    // And the events of most ports. These are counted no more.
+    // And the scripts of most ports, whose events need not be counted.
     same_scripts: Vec<bool>,
     old_had: Vec<usize>,
     new_had: Vec<usize>,
@@ -143,8 +143,8 @@ fn same_scripts<const N: usize>(
     plan: &Plan<N>,
 ) -> Result<Vec<bool>, AllocError>
     ensures count { IfOk result (λ same. length same.items ≡ N) }
-    ensures same { IfOk result (λ same. (p : ℕ) → p < N → slice_index_or same.items p false ≡ true
-        → script_of old.now p ≡ script_of plan.now p) }
+    ensures same { IfOk result (λ same. (p : ℕ) → p < N → IsTrue (slice_index_or same.items p false)
+        ↔ (script_of old.now p ≡ script_of plan.now p)) }
 {
     let mut same = Vec::new(alloc);
     for port in 0..N {

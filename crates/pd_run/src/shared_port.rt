@@ -1,6 +1,6 @@
 //! A port that runs share.
 
-ghost use Rattle.std.specs.Prelude.{◌≡◌, ◌≤◌, None, false, IfOk, OnOk, OnErr, IfSome, IsTrue};
+ghost use Rattle.std.specs.Prelude.{◌≡◌, ◌≤◌, ◌↔◌, None, false, IfOk, OnOk, OnErr, IfSome, IsTrue};
 ghost use Rattle.std.specs.Option.{option_copied};
 ghost use Rattle.pd_port.specs.Meter.{raised};
 ghost use Rattle.pd_port.specs.Port.{due as the_due, ask, record_after, entry_of, hold};
@@ -105,7 +105,7 @@ impl TimedPort {
 
 // Whether a port asks anything of the shared budget at a due, where there is one.
 fn asks_at(port: &Port, due: &Option<Due>) -> bool
-    ensures { result ≡ false → IfSome due.now (λ d. ask port.now.settings port.now.port_record d ≡ None) }
+    ensures { (result ≡ false) ↔ IfSome due.now (λ d. ask port.now.settings port.now.port_record d ≡ None) }
 {
     match due {
         Some(due) => port.ask(due).is_some(),
