@@ -15,6 +15,6 @@ pub record IsSupply (s : SupplyData) : Type 0 where
   pub most_ma : s.ma ≤ 5000
   pub steps_ma : s.ma % 10 ≡ 0
 
--- the least of all
+-- the least supply of these ranges, which stands in the free places of a list
 abbrev pub least : SupplyData
 least = record { mv = 5000; ma = 10 }

@@ -5,7 +5,7 @@ ghost use Rattle.std.specs.Prelude.{◌≡◌, ◌≤◌, length};
 use crate::Supply;
 use std::marker::Model;
 
-/// At most seven supplies, in their order. They are copied as a whole: behind the last one stand the least that there are.
+/// At most seven supplies, in their order. They are copied as a whole: in each place behind the last one is the least supply.
 #[derive(Clone, Copy, Debug)]
 pub struct SupplyList {
     items: [Supply; 7],
