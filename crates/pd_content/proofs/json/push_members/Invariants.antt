@@ -1,0 +1,7 @@
+use Rattle.std.proofs.Common.{◌≡◌, ◌++◌, take}
+use Rattle.std.specs.List.{flat_map}
+use Rattle.pd_content.specs.Members.{member}
+use Rattle.pd_content.proofs.json.push_members.Given as goal
+
+abbrev pub invariant-loop-row : goal.invariant-loop-row
+invariant-loop-row l = l.text.items ≡ l.initial.text.items ++ flat_map (member l.word) (take l.row-index l.rows)
