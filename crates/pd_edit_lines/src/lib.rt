@@ -12,3 +12,4 @@ mod words;
 pub use edit::{Edit, EditHappening, EditKind, WrittenDamage, WrittenSupply};
 pub use fault::EditFault;
 pub use line::{Line, Show};
+pub use words::{next, number};

@@ -29,8 +29,8 @@ fn word_len(line: &[u8]) -> usize
     line.len()
 }
 
-/// The first word, and what stands after it.
-pub(crate) fn next(line: &[u8]) -> Option<(&[u8], &[u8])>
+/// The first word of a line, and what stands after it; `None` where no word is left.
+pub fn next(line: &[u8]) -> Option<(&[u8], &[u8])>
     ensures { option_map (λ x. (x.0.now, words x.1.now)) result ≡ next (words line.now) }
 {
     let rest = without_spaces(line);
@@ -51,7 +51,7 @@ pub(crate) fn end_of(line: &[u8]) -> Option<()>
 }
 
 /// The number that a word of 1 to 10 digits stands for.
-pub(crate) fn number(word: &[u8]) -> Option<u64>
+pub fn number(word: &[u8]) -> Option<u64>
     ensures { result ≡ number word.now }
 {
     if word.is_empty() || word.len() > 10 {
