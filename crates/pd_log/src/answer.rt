@@ -1,0 +1,19 @@
+//! What is said of a line.
+
+use crate::mark::Mark;
+use pd_packet::{Packet, PacketFault};
+
+/// What a line of a log says.
+#[derive(Clone, Copy, Debug, PartialEq, Eq)]
+pub enum Answer {
+    /// It is empty, a comment, or the heading of a show.
+    Nothing,
+    /// Its codes spell this packet.
+    Packet(Packet, Mark),
+    /// Its codes spell none, and this is the first fault.
+    Fault(PacketFault, Mark),
+    /// Its codes are the four of a Hard Reset.
+    HardReset(Mark),
+    /// It gives no codes.
+    Unknown,
+}
