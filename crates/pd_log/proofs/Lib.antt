@@ -1,2 +1,4 @@
+pub mod Digits
 pub mod FirstPart
+pub mod ObjectByObject
 pub mod PartByPart

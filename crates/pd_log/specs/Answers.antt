@@ -1,13 +1,17 @@
 -- What a line of a log says.
-use Rattle.std.specs.Prelude.{◌≡◌, ◌≢◌, ℕ, true, false, List, Some, None, Ok, Err}
+use Rattle.std.specs.Prelude.{◌≡◌, ◌≢◌, ℕ, ◌==◌, Bool, true, false, List, length, Option, Some, None, Ok, Err, if◌then◌else◌}
+use Rattle.pd_symbols.specs.declared.channel.Channel.TheVariants.{Sop}
 use Rattle.pd_symbols.specs.declared.channel.OrderedSet.TheVariants as sets
 use Rattle.pd_symbols.specs.Sets.{set_codes}
+use Rattle.pd_header.specs.Header.{count_of}
 use Rattle.pd_packet.specs.Reading.{Reads}
 use Rattle.pd_log.specs.declared.mark.Mark.{Mark}
+use Rattle.pd_log.specs.declared.mark.Mark.TheVariants.{Whole}
 use Rattle.pd_log.specs.declared.answer.Answer.{Answer}
-use Rattle.pd_log.specs.declared.answer.Answer.TheVariants.{Nothing, Packet, Fault, HardReset, Unknown}
+use Rattle.pd_log.specs.declared.answer.Answer.TheVariants.{Nothing, Packet, Fault, HardReset, Header, Miscounted, Unknown}
 use Rattle.pd_log.specs.Parts.{parts}
 use Rattle.pd_log.specs.Forms.{given_codes, is_heading}
+use Rattle.pd_log.specs.Words.{given_words}
 
 abbrev pub hard_reset : List ℕ
 hard_reset = set_codes sets.HardReset
@@ -22,15 +26,21 @@ Tells given mark (Fault fault m) = (m ≡ mark) × (given ≢ hard_reset) × Rea
 Tells given mark (HardReset m) = (m ≡ mark) × (given ≡ hard_reset)
 Tells given mark _ = ⊥
 
--- the line gives codes, and this is what they come to
-abbrev pub SaysByCodes : List ℕ → Answer → Type 0
-SaysByCodes line answer = (given : List ℕ) × (mark : Mark) × (given_codes (parts line) ≡ Some (given, mark)) × Tells given mark answer
+-- What a header and objects come to: a packet on SOP where there are as many objects as the header tells; else the header, where
+-- there are none.
+abbrev pub words_answer : ℕ → List ℕ → Answer
+words_answer header objects =
+    if count_of header == length objects then Packet (record { channel = Sop; header = header; objects = objects }) Whole
+    else if length objects == 0 then Header header
+    else Miscounted header (length objects)
+
+-- A line that is a heading tells nothing. Codes are read before words, and a line with neither is unknown.
+abbrev pub Comes : Bool → Option (List ℕ × Mark) → Option (ℕ × List ℕ) → Answer → Type 0
+Comes true given words answer = answer ≡ Nothing
+Comes false (Some given) words answer = Tells given.0 given.1 answer
+Comes false None (Some words) answer = answer ≡ words_answer words.0 words.1
+Comes false None None answer = answer ≡ Unknown
 
 -- what a line says
 abbrev pub Says : List ℕ → Answer → Type 0
-Says line Nothing = is_heading (parts line) ≡ true
-Says line (Packet p mark) = SaysByCodes line (Packet p mark)
-Says line (Fault fault mark) = SaysByCodes line (Fault fault mark)
-Says line (HardReset mark) = SaysByCodes line (HardReset mark)
--- neither of these
-Says line Unknown = (is_heading (parts line) ≡ false) × (given_codes (parts line) ≡ None)
+Says line answer = Comes (is_heading (parts line)) (given_codes (parts line)) (given_words (parts line)) answer

@@ -8,12 +8,16 @@ use pd_packet::{Packet, PacketFault};
 pub enum Answer {
     /// It is empty, a comment, or the heading of a show.
     Nothing,
-    /// Its codes spell this packet.
+    /// Its codes spell this packet, or its header and its objects are those of this packet on SOP.
     Packet(Packet, Mark),
     /// Its codes spell none, and this is the first fault.
     Fault(PacketFault, Mark),
     /// Its codes are the four of a Hard Reset.
     HardReset(Mark),
-    /// It gives no codes.
+    /// It gives a header that tells of objects, and none of them.
+    Header(u16),
+    /// It gives a header and so many objects, and the header tells another count.
+    Miscounted(u16, usize),
+    /// It gives neither codes nor a header.
     Unknown,
 }

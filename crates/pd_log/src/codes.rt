@@ -26,7 +26,7 @@ fn pair_of(high: u8, low: u8) -> Option<u8>
 }
 
 /// The digits without `0x` before them.
-fn without_0x(part: &[u8]) -> &[u8]
+pub(crate) fn without_0x(part: &[u8]) -> &[u8]
     ensures { result.now ≡ without_0x part.now }
 {
     match part {

@@ -1,4 +1,4 @@
-//! What a line of a log says: a packet, by the codes that the line lists.
+//! What a line of a log says: a packet, by its codes, or by its header and its objects.
 #![tactic(auto)]
 
 mod answer;
@@ -6,8 +6,10 @@ mod codes;
 mod given;
 mod heads;
 mod mark;
+mod numbers;
 mod parts;
 mod reading;
+mod words;
 
 pub use answer::Answer;
 pub use mark::Mark;

@@ -4,7 +4,7 @@ use pd_symbols::Channel;
 use std::test::*;
 
 /// What a line is to say: the header and the first object of a packet, or 0 where it has none.
-const PACKETS: [(&str, Channel, u16, u32, Mark); 9] = [
+const PACKETS: [(&str, Channel, u16, u32, Mark); 17] = [
     (
         "18 18 18 11 09 12 1E 1E 0B 1D 17 17 09 0A 15 0E 0D",
         Channel::Sop,
@@ -68,6 +68,44 @@ const PACKETS: [(&str, Channel, u16, u32, Mark); 9] = [
         0xFF00_A001,
         Mark::Damaged,
     ),
+    (
+        "11A1 0001912C",
+        Channel::Sop,
+        0x11A1,
+        0x0001_912C,
+        Mark::Whole,
+    ),
+    (
+        "0x11a1, 0x0001912c\r",
+        Channel::Sop,
+        0x11A1,
+        0x0001_912C,
+        Mark::Whole,
+    ),
+    ("0081", Channel::Sop, 0x0081, 0, Mark::Whole),
+    ("header: 0x41", Channel::Sop, 0x0041, 0, Mark::Whole),
+    (
+        "[   12.345678] PD RX, header: 0x161 [1]",
+        Channel::Sop,
+        0x0161,
+        0,
+        Mark::Whole,
+    ),
+    (
+        "PD TX, header: 0x1082 [2] 0x1304b12c",
+        Channel::Sop,
+        0x1082,
+        0x1304_B12C,
+        Mark::Whole,
+    ),
+    (
+        "C0 RECV 11a1/1 0001912C",
+        Channel::Sop,
+        0x11A1,
+        0x0001_912C,
+        Mark::Whole,
+    ),
+    ("RECV 0161/0", Channel::Sop, 0x0161, 0, Mark::Whole),
 ];
 
 /// The packets of lines.
@@ -87,7 +125,7 @@ fn packets(rt: HostRuntime) -> Result<(), Fail> {
 }
 
 /// What other lines say.
-const OTHERS: [(&str, Answer); 22] = [
+const OTHERS: [(&str, Answer); 35] = [
     ("", Answer::Nothing),
     (" \t,\r", Answer::Nothing),
     ("# 18 18 18", Answer::Nothing),
@@ -128,6 +166,22 @@ const OTHERS: [(&str, Answer); 22] = [
     ("   500000 port 1 none", Answer::Unknown),
     ("Sync-4", Answer::Unknown),
     ("18 0x 18", Answer::Unknown),
+    ("PD RX, header: 0x61a1 [1]", Answer::Header(0x61A1)),
+    ("41A1", Answer::Header(0x41A1)),
+    ("41A1 0001912C", Answer::Miscounted(0x41A1, 1)),
+    ("0081 0001912C", Answer::Miscounted(0x0081, 1)),
+    (
+        "7081 11111111 22222222 33333333 44444444 55555555 66666666 77777777 88888888",
+        Answer::Miscounted(0x7081, 8),
+    ),
+    ("RECV 41a1/4 0001912C", Answer::Miscounted(0x41A1, 1)),
+    ("RECV 41a1/3", Answer::Unknown),
+    ("RECV 41a1/", Answer::Unknown),
+    ("RECV 41a1:4", Answer::Unknown),
+    ("header:", Answer::Unknown),
+    ("header: 0x141a1", Answer::Unknown),
+    ("add", Answer::Unknown),
+    ("11A1 0001912", Answer::Unknown),
 ];
 
 /// Lines that tell no packet.
