@@ -11,6 +11,7 @@ use Rattle.pd_log.specs.declared.answer.Answer.{Answer}
 use Rattle.pd_log.specs.declared.answer.Answer.TheVariants.{Nothing, Packet, Fault, HardReset, Header, Miscounted, Unknown}
 use Rattle.pd_log.specs.Parts.{parts}
 use Rattle.pd_log.specs.Forms.{given_codes, is_heading}
+use Rattle.pd_log.specs.Places.{place_of}
 use Rattle.pd_log.specs.Words.{given_words}
 
 abbrev pub hard_reset : List ℕ
@@ -20,8 +21,8 @@ hard_reset = set_codes sets.HardReset
 abbrev pub Tells : List ℕ → Mark → Answer → Type 0
 -- a packet: they spell it
 Tells given mark (Packet p m) = (m ≡ mark) × Reads given (Ok p)
--- the first fault that keeps them from spelling one
-Tells given mark (Fault fault m) = (m ≡ mark) × (given ≢ hard_reset) × Reads given (Err fault)
+-- the first fault that keeps them from spelling one, and where it shows
+Tells given mark (Fault fault at m) = (m ≡ mark) × (given ≢ hard_reset) × Reads given (Err fault) × (at ≡ place_of fault given)
 -- the four of a Hard Reset
 Tells given mark (HardReset m) = (m ≡ mark) × (given ≡ hard_reset)
 Tells given mark _ = ⊥

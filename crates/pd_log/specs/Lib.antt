@@ -1,5 +1,6 @@
 pub mod Parts
 pub mod Codes
 pub mod Forms
+pub mod Places
 pub mod Answers
 pub mod Words

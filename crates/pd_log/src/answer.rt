@@ -10,8 +10,12 @@ pub enum Answer {
     Nothing,
     /// Its codes spell this packet, or its header and its objects are those of this packet on SOP.
     Packet(Packet, Mark),
-    /// Its codes spell none, and this is the first fault.
-    Fault(PacketFault, Mark),
+    /// Its codes spell none: the first fault, and at which of the codes it shows, from 1.
+    Fault {
+        fault: PacketFault,
+        at: usize,
+        mark: Mark,
+    },
     /// Its codes are the four of a Hard Reset.
     HardReset(Mark),
     /// It gives a header that tells of objects, and none of them.

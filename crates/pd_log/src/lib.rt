@@ -8,6 +8,7 @@ mod heads;
 mod mark;
 mod numbers;
 mod parts;
+mod places;
 mod reading;
 mod words;
 

@@ -7,6 +7,7 @@ use crate::answer::Answer;
 use crate::given::given_codes;
 use crate::heads::is_heading;
 use crate::mark::Mark;
+use crate::places::place_of;
 use crate::words::given_words;
 use pd_header::header_count;
 use pd_packet::Packet;
@@ -22,7 +23,11 @@ fn answer_of(codes: &[u8], mark: Mark) -> Answer
     }
     match pd_packet::read(codes) {
         Ok(packet) => Answer::Packet(packet, mark),
-        Err(fault) => Answer::Fault(fault, mark),
+        Err(fault) => Answer::Fault {
+            fault,
+            at: place_of(fault, codes),
+            mark,
+        },
     }
 }
 

@@ -131,22 +131,45 @@ const OTHERS: [(&str, Answer); 35] = [
     ("# 18 18 18", Answer::Nothing),
     ("#", Answer::Nothing),
     ("= transcript 1", Answer::Nothing),
-    ("18 18 18", Answer::Fault(PacketFault::Set, Mark::Whole)),
+    (
+        "18 18 18",
+        Answer::Fault {
+            fault: PacketFault::Set,
+            at: 1,
+            mark: Mark::Whole,
+        },
+    ),
     (
         "18 18 18 11 09 EOP 1E 1E 0B 1D 17 17 09 0A 15 0E 0D",
-        Answer::Fault(PacketFault::Code, Mark::Whole),
+        Answer::Fault {
+            fault: PacketFault::Code,
+            at: 6,
+            mark: Mark::Whole,
+        },
     ),
     (
         "18 18 18 11 09 12 1E 1E 0B 1D 17 17 09 0A 15 0E",
-        Answer::Fault(PacketFault::Length, Mark::Whole),
+        Answer::Fault {
+            fault: PacketFault::Length,
+            at: 16,
+            mark: Mark::Whole,
+        },
     ),
     (
         "18 18 18 11 09 12 1E 1E 0B 1D 17 17 09 0A 15 0E 1E",
-        Answer::Fault(PacketFault::Eop, Mark::Whole),
+        Answer::Fault {
+            fault: PacketFault::Eop,
+            at: 17,
+            mark: Mark::Whole,
+        },
     ),
     (
         "18 18 18 11 14 12 1E 1E 0B 1D 17 17 09 0A 15 0E 0D damaged",
-        Answer::Fault(PacketFault::Check, Mark::Damaged),
+        Answer::Fault {
+            fault: PacketFault::Check,
+            at: 9,
+            mark: Mark::Damaged,
+        },
     ),
     (
         "   500000 src HR: 07 07 07 19",
