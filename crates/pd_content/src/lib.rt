@@ -17,6 +17,7 @@ pub use json::{push_header_members, push_packet_members};
 pub use kind::{ObjectKind, kind_at};
 pub use row::{Row, Unit};
 pub use tables::{RowList, rows};
+pub use values::push_number;
 
 #[cfg(test)]
 mod tests;

@@ -9,7 +9,10 @@ use pd_symbols::hex_digits;
 use std::alloc::AllocError;
 
 /// Writes a number in decimal digits.
-pub(crate) fn push_number(text: &mut Vec<u8>, number: u64) -> Result<(), AllocError>
+///
+/// # Errors
+/// There is no memory for it.
+pub fn push_number(text: &mut Vec<u8>, number: u64) -> Result<(), AllocError>
     ensures { OnOk result (text.new.items ≡ text.old.items ++ decimal number) }
 {
     let mut buffer = Buffer::new();
