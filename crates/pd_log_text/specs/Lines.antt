@@ -1,0 +1,50 @@
+-- What a line of a log says, as a line of text: this product's own form.
+use Rattle.std.specs.Prelude.{ℕ, List, [], ◌∷◌, ◌++◌, codes, decimal}
+use Rattle.pd_symbols.specs.declared.channel.Channel.TheVariants.{Sop}
+use Rattle.pd_header.specs.Header.{count_of}
+use Rattle.pd_packet.specs.declared.fault.PacketFault.{PacketFault}
+use Rattle.pd_packet.specs.declared.fault.PacketFault.TheVariants as fault
+use Rattle.pd_packet.specs.Reading.{number_of}
+use Rattle.pd_log.specs.declared.mark.Mark.{Mark}
+use Rattle.pd_log.specs.declared.mark.Mark.TheVariants.{Whole, Lost, Damaged}
+use Rattle.pd_log.specs.declared.answer.Answer.{Answer}
+use Rattle.pd_log.specs.declared.answer.Answer.TheVariants.{Nothing, Packet, Fault, HardReset, Header, Miscounted, Unknown}
+use Rattle.pd_content.specs.Texts.{header_text, packet_text}
+
+abbrev pub mark_text : Mark → List ℕ
+mark_text Whole = []
+mark_text Lost = codes " lost"
+mark_text Damaged = codes " damaged"
+
+abbrev pub fault_words : PacketFault → List ℕ
+fault_words fault.Set = codes "the first four codes are no ordered set of a packet"
+fault_words fault.Code = codes "the code stands for no nibble"
+fault_words fault.Length = codes "the codes are not as many as the header tells"
+fault_words fault.Eop = codes "the last code is not EOP"
+fault_words fault.Check = codes "the CRC is another"
+
+-- a fault, by its number and the place of the code at which it shows
+unfoldable pub fault_text : PacketFault → ℕ → List ℕ
+fault_text fault at =
+    codes "fault " ++ (decimal (number_of fault) ++ (codes " at code " ++ (decimal at ++ (codes ": " ++ fault_words fault))))
+
+unfoldable pub told_text : ℕ → List ℕ
+told_text header = codes ", told by the header " ++ decimal (count_of header)
+
+-- a header that tells of other objects than there are
+unfoldable pub counts_text : ℕ → ℕ → List ℕ
+counts_text header there = header_text Sop header ++ (codes " | objects there " ++ (decimal there ++ told_text header))
+
+unfoldable pub said : Answer → List ℕ
+said Nothing = []
+said (Packet p mark) = packet_text p ++ mark_text mark
+said (Fault fault at mark) = fault_text fault at ++ mark_text mark
+said (HardReset mark) = codes "Hard Reset" ++ mark_text mark
+said (Header header) = counts_text header 0
+said (Miscounted header there) = counts_text header there
+said Unknown = codes "unknown form"
+
+-- behind the number of the line; a line that says nothing has none
+unfoldable pub line_text : ℕ → Answer → List ℕ
+line_text n Nothing = []
+line_text n answer = decimal n ++ (codes ": " ++ (said answer ++ 10 ∷ []))

@@ -1,0 +1,51 @@
+-- What a line of a log says, as a JSON object: this product's own keys.
+use Rattle.std.specs.Prelude.{ℕ, List, [], ◌∷◌, ◌++◌, codes, decimal}
+use Rattle.pd_symbols.specs.declared.channel.Channel.TheVariants.{Sop}
+use Rattle.pd_header.specs.Header.{count_of}
+use Rattle.pd_packet.specs.declared.fault.PacketFault.{PacketFault}
+use Rattle.pd_packet.specs.Reading.{number_of}
+use Rattle.pd_log.specs.declared.mark.Mark.{Mark}
+use Rattle.pd_log.specs.declared.mark.Mark.TheVariants.{Whole, Lost, Damaged}
+use Rattle.pd_log.specs.declared.answer.Answer.{Answer}
+use Rattle.pd_log.specs.declared.answer.Answer.TheVariants.{Nothing, Packet, Fault, HardReset, Header, Miscounted, Unknown}
+use Rattle.pd_content.specs.Members.{header_members, packet_members}
+use Rattle.pd_log_text.specs.Lines.{fault_words}
+
+abbrev pub mark_name : Mark → List ℕ
+mark_name Whole = codes "whole"
+mark_name Lost = codes "lost"
+mark_name Damaged = codes "damaged"
+
+unfoldable pub mark_member : Mark → List ℕ
+mark_member mark = codes ",\"mark\":\"" ++ (mark_name mark ++ 34 ∷ [])
+
+unfoldable pub reason_member : PacketFault → List ℕ
+reason_member fault = codes ",\"reason\":\"" ++ (fault_words fault ++ 34 ∷ [])
+
+unfoldable pub fault_members : PacketFault → ℕ → List ℕ
+fault_members fault at =
+    codes "\"fault\",\"fault\":" ++ (decimal (number_of fault) ++ (codes ",\"at_code\":" ++ (decimal at ++ reason_member fault)))
+
+unfoldable pub told_member : ℕ → List ℕ
+told_member header = codes ",\"objects_told\":" ++ decimal (count_of header)
+
+unfoldable pub counts_members : ℕ → ℕ → List ℕ
+counts_members header there =
+    codes "\"header\",\"objects_there\":" ++ (decimal there ++ (told_member header ++ (codes "," ++ header_members Sop header)))
+
+unfoldable pub reset_members : Mark → List ℕ
+reset_members mark = codes "\"hard_reset\"" ++ mark_member mark
+
+-- the kind, and the members of that kind
+unfoldable pub members : Answer → List ℕ
+members Nothing = codes "\"nothing\""
+members (Packet p mark) = codes "\"packet\"" ++ (mark_member mark ++ 44 ∷ packet_members p)
+members (Fault fault at mark) = fault_members fault at ++ mark_member mark
+members (HardReset mark) = reset_members mark
+members (Header header) = counts_members header 0
+members (Miscounted header there) = counts_members header there
+members Unknown = codes "\"unknown\""
+
+unfoldable pub json_text : ℕ → Answer → List ℕ
+json_text n Nothing = []
+json_text n answer = codes "{\"line\":" ++ (decimal n ++ (codes ",\"kind\":" ++ (members answer ++ codes "}\n")))

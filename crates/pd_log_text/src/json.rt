@@ -1,0 +1,133 @@
+//! What a line of a log says, as a JSON object.
+
+ghost use Rattle.std.specs.Prelude.{◌≡◌, ◌++◌, OnOk};
+ghost use Rattle.pd_log_text.specs.Objects.{counts_members, fault_members, json_text, mark_member, mark_name, members};
+ghost use Rattle.pd_log_text.specs.Objects.{reason_member, reset_members, told_member};
+
+use crate::line::fault_words;
+use pd_content::{push_header_members, push_number, push_packet_members};
+use pd_header::header_count;
+use pd_log::{Answer, Mark};
+use pd_packet::PacketFault;
+use pd_symbols::Channel;
+use std::alloc::AllocError;
+
+fn mark_name(mark: Mark) -> &'static str
+    ensures { result.now ≡ mark_name mark }
+{
+    match mark {
+        Mark::Whole => "whole",
+        Mark::Lost => "lost",
+        Mark::Damaged => "damaged",
+    }
+}
+
+/// Writes what became of a packet, as a member behind a comma.
+#[tactic(auto, unfolding(crate::specs::Objects::mark_member))]
+fn push_mark(text: &mut Vec<u8>, mark: Mark) -> Result<(), AllocError>
+    ensures { OnOk result (text.new.items ≡ text.old.items ++ mark_member mark) }
+{
+    text.extend_from_slice(b",\"mark\":\"")?;
+    text.extend_from_slice(mark_name(mark).as_bytes())?;
+    text.push(b'"')?;
+    Ok(())
+}
+
+/// Writes a fault in words, as a member behind a comma.
+#[tactic(auto, unfolding(crate::specs::Objects::reason_member))]
+fn push_reason(text: &mut Vec<u8>, fault: PacketFault) -> Result<(), AllocError>
+    ensures { OnOk result (text.new.items ≡ text.old.items ++ reason_member fault) }
+{
+    text.extend_from_slice(b",\"reason\":\"")?;
+    text.extend_from_slice(fault_words(fault).as_bytes())?;
+    text.push(b'"')?;
+    Ok(())
+}
+
+/// Writes a fault as members.
+#[tactic(auto, unfolding(crate::specs::Objects::fault_members))]
+fn push_fault(text: &mut Vec<u8>, fault: PacketFault, at: usize) -> Result<(), AllocError>
+    ensures { OnOk result (text.new.items ≡ text.old.items ++ fault_members fault at) }
+{
+    text.extend_from_slice(b"\"fault\",\"fault\":")?;
+    push_number(text, u64::from(fault.number()))?;
+    text.extend_from_slice(b",\"at_code\":")?;
+    push_number(text, at as u64)?;
+    push_reason(text, fault)?;
+    Ok(())
+}
+
+/// Writes how many objects a header tells of, as a member behind a comma.
+#[tactic(auto, unfolding(crate::specs::Objects::told_member))]
+fn push_told(text: &mut Vec<u8>, header: u16) -> Result<(), AllocError>
+    ensures { OnOk result (text.new.items ≡ text.old.items ++ told_member header) }
+{
+    let told = header_count(header);
+    text.extend_from_slice(b",\"objects_told\":")?;
+    push_number(text, u64::from(told))
+}
+
+/// Writes a header that tells of other objects than there are, as members.
+#[tactic(auto, unfolding(crate::specs::Objects::counts_members))]
+fn push_counts(text: &mut Vec<u8>, header: u16, there: usize) -> Result<(), AllocError>
+    ensures { OnOk result (text.new.items ≡ text.old.items ++ counts_members header there) }
+{
+    text.extend_from_slice(b"\"header\",\"objects_there\":")?;
+    push_number(text, there as u64)?;
+    push_told(text, header)?;
+    text.extend_from_slice(b",")?;
+    push_header_members(text, Channel::Sop, header)?;
+    Ok(())
+}
+
+/// Writes a Hard Reset as members.
+#[tactic(auto, unfolding(crate::specs::Objects::reset_members))]
+fn push_reset(text: &mut Vec<u8>, mark: Mark) -> Result<(), AllocError>
+    ensures { OnOk result (text.new.items ≡ text.old.items ++ reset_members mark) }
+{
+    text.extend_from_slice(b"\"hard_reset\"")?;
+    push_mark(text, mark)?;
+    Ok(())
+}
+
+/// Writes what a line says: its kind, and the members of that kind.
+#[tactic(auto, unfolding(crate::specs::Objects::members))]
+fn push_members(text: &mut Vec<u8>, answer: &Answer) -> Result<(), AllocError>
+    ensures { OnOk result (text.new.items ≡ text.old.items ++ members answer.now) }
+{
+    match answer {
+        Answer::Nothing => text.extend_from_slice(b"\"nothing\""),
+        Answer::Packet(packet, mark) => {
+            text.extend_from_slice(b"\"packet\"")?;
+            push_mark(text, *mark)?;
+            text.push(b',')?;
+            push_packet_members(text, packet)
+        }
+        Answer::Fault { fault, at, mark } => {
+            push_fault(text, *fault, *at)?;
+            push_mark(text, *mark)
+        }
+        Answer::HardReset(mark) => push_reset(text, *mark),
+        Answer::Header(header) => push_counts(text, *header, 0),
+        Answer::Miscounted(header, there) => push_counts(text, *header, *there),
+        Answer::Unknown => text.extend_from_slice(b"\"unknown\""),
+    }
+}
+
+/// Writes what the line of a number says, as a JSON object and a line feed. For a line that says nothing there is none.
+///
+/// # Errors
+/// There is no memory for it; some of it may stand in the text.
+#[tactic(auto, unfolding(crate::specs::Objects::json_text))]
+pub fn push_json(text: &mut Vec<u8>, number: u64, answer: &Answer) -> Result<(), AllocError>
+    ensures { OnOk result (text.new.items ≡ text.old.items ++ json_text number answer.now) }
+{
+    if matches!(answer, Answer::Nothing) {
+        return Ok(());
+    }
+    text.extend_from_slice(b"{\"line\":")?;
+    push_number(text, number)?;
+    text.extend_from_slice(b",\"kind\":")?;
+    push_members(text, answer)?;
+    text.extend_from_slice(b"}\n")
+}

@@ -1,0 +1,112 @@
+//! What a line of a log says, as a line of text.
+
+ghost use Rattle.std.specs.Prelude.{◌≡◌, ◌++◌, OnOk};
+ghost use Rattle.pd_log_text.specs.Lines.{counts_text, fault_text, fault_words, line_text, mark_text, said, told_text};
+
+use pd_content::{push_header, push_number, push_packet};
+use pd_header::header_count;
+use pd_log::{Answer, Mark};
+use pd_packet::PacketFault;
+use pd_symbols::Channel;
+use std::alloc::AllocError;
+
+/// What is said behind a packet.
+fn mark_text(mark: Mark) -> &'static str
+    ensures { result.now ≡ mark_text mark }
+{
+    match mark {
+        Mark::Whole => "",
+        Mark::Lost => " lost",
+        Mark::Damaged => " damaged",
+    }
+}
+
+/// A fault in words.
+pub(crate) fn fault_words(fault: PacketFault) -> &'static str
+    ensures { result.now ≡ fault_words fault }
+{
+    match fault {
+        PacketFault::Set => "the first four codes are no ordered set of a packet",
+        PacketFault::Code => "the code stands for no nibble",
+        PacketFault::Length => "the codes are not as many as the header tells",
+        PacketFault::Eop => "the last code is not EOP",
+        PacketFault::Check => "the CRC is another",
+    }
+}
+
+/// Writes a fault with its number and its place.
+#[tactic(auto, unfolding(crate::specs::Lines::fault_text))]
+fn push_fault(text: &mut Vec<u8>, fault: PacketFault, at: usize) -> Result<(), AllocError>
+    ensures { OnOk result (text.new.items ≡ text.old.items ++ fault_text fault at) }
+{
+    text.extend_from_slice(b"fault ")?;
+    push_number(text, u64::from(fault.number()))?;
+    text.extend_from_slice(b" at code ")?;
+    push_number(text, at as u64)?;
+    text.extend_from_slice(b": ")?;
+    text.extend_from_slice(fault_words(fault).as_bytes())
+}
+
+/// Writes how many objects a header tells of.
+#[tactic(auto, unfolding(crate::specs::Lines::told_text))]
+fn push_told(text: &mut Vec<u8>, header: u16) -> Result<(), AllocError>
+    ensures { OnOk result (text.new.items ≡ text.old.items ++ told_text header) }
+{
+    let told = header_count(header);
+    text.extend_from_slice(b", told by the header ")?;
+    push_number(text, u64::from(told))
+}
+
+/// Writes that a header tells of other objects than there are.
+#[tactic(auto, unfolding(crate::specs::Lines::counts_text))]
+fn push_counts(text: &mut Vec<u8>, header: u16, there: usize) -> Result<(), AllocError>
+    ensures { OnOk result (text.new.items ≡ text.old.items ++ counts_text header there) }
+{
+    push_header(text, Channel::Sop, header)?;
+    text.extend_from_slice(b" | objects there ")?;
+    push_number(text, there as u64)?;
+    push_told(text, header)
+}
+
+/// Writes what a line says.
+#[tactic(auto, unfolding(crate::specs::Lines::said))]
+fn push_said(text: &mut Vec<u8>, answer: &Answer) -> Result<(), AllocError>
+    ensures { OnOk result (text.new.items ≡ text.old.items ++ said answer.now) }
+{
+    match answer {
+        Answer::Nothing => Ok(()),
+        Answer::Packet(packet, mark) => {
+            push_packet(text, packet)?;
+            text.extend_from_slice(mark_text(*mark).as_bytes())
+        }
+        Answer::Fault { fault, at, mark } => {
+            push_fault(text, *fault, *at)?;
+            text.extend_from_slice(mark_text(*mark).as_bytes())
+        }
+        Answer::HardReset(mark) => {
+            text.extend_from_slice(b"Hard Reset")?;
+            text.extend_from_slice(mark_text(*mark).as_bytes())
+        }
+        Answer::Header(header) => push_counts(text, *header, 0),
+        Answer::Miscounted(header, there) => push_counts(text, *header, *there),
+        Answer::Unknown => text.extend_from_slice(b"unknown form"),
+    }
+}
+
+/// Writes what the line of a number says, as a line of text behind that number. For a line that says nothing there is none.
+///
+/// # Errors
+/// There is no memory for it; some of it may stand in the text.
+#[tactic(auto, unfolding(crate::specs::Lines::line_text))]
+pub fn push_line(text: &mut Vec<u8>, number: u64, answer: &Answer) -> Result<(), AllocError>
+    ensures { OnOk result (text.new.items ≡ text.old.items ++ line_text number answer.now) }
+{
+    if matches!(answer, Answer::Nothing) {
+        return Ok(());
+    }
+    push_number(text, number)?;
+    text.extend_from_slice(b": ")?;
+    push_said(text, answer)?;
+    text.push(b'\n')?;
+    Ok(())
+}
