@@ -36,3 +36,10 @@ pub fn tell_unread<E: Print>(errors: &E, file: &str) -> Ending {
     let _ = println!(errors; "{file}: no file that can be read, or more than 1048576 bytes");
     Ending::Fault
 }
+
+/// Tells that a file of any length can't be read.
+pub fn tell_no_file<E: Print>(errors: &E, file: &str) -> Ending {
+    let _ = errors.println("cannot read");
+    let _ = println!(errors; "{file}: no file that can be read");
+    Ending::Fault
+}

@@ -1,20 +1,22 @@
-//! The engineer's desk as a program: `pdlab live SCENARIO`.
+//! The engineer's desk as a program: `pdlab live SCENARIO`, `pdlab decode [FILE]`.
 #![tactic(auto)]
 
 mod at_keyboard;
 mod fault;
+mod log;
 mod words;
 
 use at_keyboard::live;
 use clap::error::ErrorKind;
 use fault::tell;
+use log::decode;
 use pd_device::BenchFault;
 use std::alloc::{AllocError, Global};
 use std::io::IsTerminal;
 use std::process::ExitCode;
 use std::rt::{Env, Files};
 use std::{env, io};
-use words::{HELP, USAGE, command};
+use words::{USAGE, command, help_of};
 
 /// How the program ends.
 #[derive(Clone, Copy, Debug, PartialEq, Eq)]
@@ -40,11 +42,17 @@ impl Ending {
     }
 }
 
-/// Tells how the program is used, or that there was no memory to read its words.
-fn answer_words<R: Print, E: Print>(rt: &R, errors: &E, kind: ErrorKind) -> Ending {
+/// Tells how the program or one of its commands is used, or that there was no memory to read its words.
+fn answer_words<R: Print, E: Print>(
+    rt: &R,
+    errors: &E,
+    words: &[String],
+    kind: ErrorKind,
+) -> Ending {
+    let first = words.get(1).map_or("", |word| word.as_str());
     match kind {
         ErrorKind::OutOfMemory => tell(errors, BenchFault::Memory),
-        ErrorKind::DisplayHelp => match rt.print(HELP) {
+        ErrorKind::DisplayHelp => match rt.print(help_of(first)) {
             Ok(()) => Ending::Done,
             Err(_) => tell(errors, BenchFault::WriteFailed),
         },
@@ -65,18 +73,22 @@ where
     R::Reader: IsTerminal,
 {
     let Ok(command) = command(rt.alloc()) else {
-        return answer_words(rt, errors, ErrorKind::OutOfMemory);
+        return answer_words(rt, errors, words, ErrorKind::OutOfMemory);
     };
     let matches = match command.try_get_matches_from(words) {
         Ok(matches) => matches,
-        Err(error) => return answer_words(rt, errors, error.kind()),
+        Err(error) => return answer_words(rt, errors, words, error.kind()),
     };
-    let Some((_, matches)) = matches.subcommand() else {
-        return answer_words(rt, errors, ErrorKind::MissingSubcommand);
-    };
-    match matches.get_str("SCENARIO") {
-        Some(scenario) => live(rt, errors, scenario),
-        None => answer_words(rt, errors, ErrorKind::MissingRequiredArgument),
+    match matches.subcommand() {
+        Some(("decode", matches)) => {
+            let file = matches.get_str("FILE").unwrap_or("-");
+            decode(rt, errors, file, matches.get_flag("json"))
+        }
+        Some((_, matches)) => match matches.get_str("SCENARIO") {
+            Some(scenario) => live(rt, errors, scenario),
+            None => answer_words(rt, errors, words, ErrorKind::MissingRequiredArgument),
+        },
+        None => answer_words(rt, errors, words, ErrorKind::MissingSubcommand),
     }
 }
 
@@ -88,14 +100,14 @@ where
     let arguments = match env::args(rt) {
         Ok(arguments) => arguments,
         Err(error) if error.kind() == io::ErrorKind::OutOfMemory => {
-            return answer_words(rt, errors, ErrorKind::OutOfMemory);
+            return answer_words(rt, errors, &[], ErrorKind::OutOfMemory);
         }
-        Err(_) => return answer_words(rt, errors, ErrorKind::UnknownArgument),
+        Err(_) => return answer_words(rt, errors, &[], ErrorKind::UnknownArgument),
     };
     let words: Result<Vec<String>, AllocError> = arguments.collect(rt.alloc());
     match words {
         Ok(words) => obey(rt, errors, words.as_slice()),
-        Err(_) => answer_words(rt, errors, ErrorKind::OutOfMemory),
+        Err(_) => answer_words(rt, errors, &[], ErrorKind::OutOfMemory),
     }
 }
 

@@ -4,19 +4,31 @@ use clap::{Arg, ArgAction, Command};
 use std::alloc::{AllocError, Global};
 
 /// What stands where the words are others.
-pub const USAGE: &str = "usage: pdlab live SCENARIO | --help";
+pub const USAGE: &str = "usage: pdlab live SCENARIO | decode [--json] [FILE] | --help";
 
 /// What `--help` prints.
 pub const HELP: &str = "pdlab: the engineer's desk
 
+usage: pdlab COMMAND ..
+
+  live SCENARIO           a session at the keyboard
+  decode [--json] [FILE]  what the lines of a log say
+  COMMAND --help          tells more of a command, with an example
+  -h, --help              prints this
+
+status: 0 all is well, 1 the input is refused, 2 the words are others,
+        3 a file can't be read, or a fault
+";
+
+/// What `live --help` prints.
+pub const LIVE_HELP: &str = "pdlab live: a session at the keyboard
+
 usage: pdlab live SCENARIO
 
-  live SCENARIO  a session at the keyboard for the charger of the file SCENARIO:
-                 reads edits and shows from standard input, a line at a time, and
-                 answers each on standard output before it reads the next; after
-                 refused N, says on standard error what rule the line breaks;
-                 in a terminal asks for each line by a prompt
-  -h, --help     prints this
+Runs the charger of the file SCENARIO, reads edits and shows from standard input,
+a line at a time, and answers each on standard output before it reads the next;
+after refused N, says on standard error what rule the line breaks; in a terminal
+asks for each line by a prompt.
 
 Lines, files and numbers are those of pdbench: times in microseconds, voltages in
 mV, currents in mA, powers in mW. The last line tells how many edits were made,
@@ -28,14 +40,66 @@ example: pdlab live examples/derating.toml
   show contracts
 
 status: 0 the lines were answered to their end, 1 the scenario is refused,
-        2 the words are others, 3 a file can't be read, or a fault
+        3 a file can't be read, or a fault
+";
+
+/// What `decode --help` prints.
+pub const DECODE_HELP: &str = "pdlab decode: what the lines of a log say
+
+usage: pdlab decode [--json] [FILE]
+
+Reads the file FILE, or standard input where it is - or left out, and tells of
+each line, behind its number, the packet that it holds, field by field.
+--json writes a JSON object for each line instead, with units in its keys (_mv,
+_ma, _mw).
+
+A line may hold
+  codes          18 18 18 11 09 12 .., with 0x before them or without, parted by
+                 spaces, commas or tabs; Sync-1, Sync-2, Sync-3, RST-1, RST-2 and
+                 EOP by their names; or five binary digits, 11000 11000 ..
+  a transcript   a line of pdbench's show transcript, with lost or damaged
+  words          a header and objects: 11A1 0001912C; PD RX, header: 0x161 [1];
+                 RECV 11a1/1 0001912C
+Codes that spell no packet are told with the first fault and the place of the
+code. A line that begins with # or =, and an empty one, tells nothing. Any other
+line is told to be of unknown form.
+
+example: pdlab decode --json capture.txt
+  grep RECV controller.log | pdlab decode
+
+status: 0 each line was read, 1 a line has a fault or is of unknown form,
+        3 the file can't be read, or a fault
 ";
 
 /// `pdlab live SCENARIO`.
-pub fn command<'a>(alloc: Global) -> Result<Command<'a>, AllocError> {
+fn live<'a>(alloc: Global) -> Result<Command<'a>, AllocError> {
     let scenario = Arg::new(alloc, "SCENARIO")
         .required(true)
         .action(ArgAction::Set);
-    let live = Command::new(alloc, "live").arg(scenario)?;
-    Command::new(alloc, "pdlab").subcommand(live)
+    Command::new(alloc, "live").arg(scenario)
+}
+
+/// `pdlab decode [--json] [FILE]`.
+fn decode<'a>(alloc: Global) -> Result<Command<'a>, AllocError> {
+    let json = Arg::new(alloc, "json")
+        .long("json")
+        .action(ArgAction::SetTrue);
+    let file = Arg::new(alloc, "FILE").action(ArgAction::Set);
+    Command::new(alloc, "decode").arg(json)?.arg(file)
+}
+
+/// The words of the command line.
+pub fn command<'a>(alloc: Global) -> Result<Command<'a>, AllocError> {
+    Command::new(alloc, "pdlab")
+        .subcommand(live(alloc)?)?
+        .subcommand(decode(alloc)?)
+}
+
+/// What tells how a command is used, or the program where the word is no command.
+pub fn help_of(word: &str) -> &'static str {
+    match word {
+        "live" => LIVE_HELP,
+        "decode" => DECODE_HELP,
+        _ => HELP,
+    }
 }

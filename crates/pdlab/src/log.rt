@@ -1,0 +1,100 @@
+//! `pdlab decode [FILE]`.
+
+use crate::Ending;
+use crate::fault::{output, tell, tell_no_file};
+use pd_device::{BenchFault, Output, write_all};
+use pd_log::{Answer, read};
+use pd_log_text::{push_json, push_line};
+use std::alloc::{AllocError, Global};
+use std::fs::File;
+use std::io::{BufRead, BufReader, Printer};
+use std::rt::Files;
+
+/// The log of a file, or of standard input where none is named or the name is `-`, told line by line as text or as JSON.
+pub fn decode<R: Files + Input + Print + Alloc<A = Global>, E: Print>(
+    rt: &R,
+    errors: &E,
+    file: &str,
+    is_json: bool,
+) -> Ending {
+    if file == "-" {
+        return match BufReader::new(rt.alloc(), rt.reader()) {
+            Ok(reader) => decode_lines(rt, errors, file, reader, is_json),
+            Err(_) => tell(errors, BenchFault::Memory),
+        };
+    }
+    let Ok(file_reader) = File::open(rt, file) else {
+        return tell_no_file(errors, file);
+    };
+    match BufReader::new(rt.alloc(), file_reader) {
+        Ok(reader) => decode_lines(rt, errors, file, reader, is_json),
+        Err(_) => tell(errors, BenchFault::Memory),
+    }
+}
+
+/// Whether a line holds what the desk can read.
+fn is_read(answer: &Answer) -> bool {
+    matches!(
+        answer,
+        Answer::Nothing | Answer::Packet(_, _) | Answer::HardReset(_)
+    )
+}
+
+/// Tells each line of a reader, as it comes.
+fn decode_lines<R: Print + Alloc<A = Global>, E: Print, I: BufRead + Drop>(
+    rt: &R,
+    errors: &E,
+    file: &str,
+    reader: I,
+    is_json: bool,
+) -> Ending {
+    let mut reader = reader;
+    let mut writer = output(rt);
+    let mut line = Vec::new(rt.alloc());
+    let mut ending = Ending::Done;
+    for number in 1..u64::MAX {
+        line.clear();
+        match reader.read_until(b'\n', &mut line) {
+            Ok(0) => return ending,
+            Ok(_) => {}
+            Err(_) => return tell_no_file(errors, file),
+        }
+        match decode_line(rt.alloc(), &mut writer, number, line.as_slice(), is_json) {
+            Ok(true) => {}
+            Ok(false) => ending = Ending::Refused,
+            Err(fault) => return tell(errors, fault),
+        }
+    }
+    ending
+}
+
+/// Tells one line, with its line feed or without; whether it holds what the desk can read.
+fn decode_line<P: Print>(
+    alloc: Global,
+    writer: &mut Output<Printer<'_, P>>,
+    number: u64,
+    line: &[u8],
+    is_json: bool,
+) -> Result<bool, BenchFault> {
+    let (text, is_read) = line_text(alloc, number, line, is_json).map_err(|_| BenchFault::Memory)?;
+    write_all(writer, text.as_slice())?;
+    Ok(is_read)
+}
+
+/// What is told of a line, and whether it holds what the desk can read.
+fn line_text(
+    alloc: Global,
+    number: u64,
+    line: &[u8],
+    is_json: bool,
+) -> Result<(Vec<u8>, bool), AllocError> {
+    let line = line.strip_suffix(b"\n").unwrap_or(line);
+    let answer = read(alloc, line)?;
+    let mut text = Vec::new(alloc);
+    if is_json {
+        push_json(&mut text, number, &answer)?;
+    } else {
+        push_line(&mut text, number, &answer)?;
+    }
+    Ok((text, is_read(&answer)))
+}
