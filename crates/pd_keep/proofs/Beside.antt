@@ -1,5 +1,5 @@
 -- A run beside an older one.
-use Rattle.std.proofs.Common.{◌≡◌, ⊎_elim, inl, inr, ℕ, zero, suc, ◌+◌, ◌-◌, ◌<◌, ◌≤◌, Bool, true, List, [], ◌∷◌, ◌++◌}
+use Rattle.std.proofs.Common.{◌≡◌, ⊎_elim, inl, inr, ℕ, zero, suc, ◌+◌, ◌-◌, ◌<◌, ◌≤◌, List, [], ◌∷◌, ◌++◌}
 use Rattle.std.proofs.lemmas.Option.{slice_get_within, slice_get-get_or}
 use Rattle.std.proofs.lemmas.Bool.{cases_lt}
 use Rattle.std.proofs.Common.{length, map, take, get_or, All, Contains, Some, None, slice_get, refl, ap, sym, ◌∙◌, subst, arith}
@@ -10,18 +10,20 @@ use Rattle.pd_setup.specs.Settings.{SettingsData}
 use Rattle.pd_port.specs.Port.{PortData}
 use Rattle.pd_scenario.specs.Plan.{Plan, IsPlan, count, settings_of, no_settings}
 use Rattle.pd_run.specs.Live.{LiveData, StandsAfter, port_after}
-use Rattle.pd_run.specs.Run.{Move, Run}
-use Rattle.pd_run.specs.UpTo.{before, IsUpTo, AgreeIn, AreAlike, AreAfter}
-use Rattle.pd_run.proofs.Alike.{go_alike, between}
-use Rattle.pd_run.proofs.Cut.{All-nil, IsEarlier, run_up_to, starts_up_to, timely_all}
-use Rattle.pd_run.proofs.Taken.{taken_is}
+use Rattle.pd_run.specs.declared.beside.Agreement.{Agreement}
+use Rattle.pd_run.specs.declared.beside.Agreement.TheVariants as agreement
+use Rattle.pd_run.specs.Order.{EachAfter}
+use Rattle.pd_run.specs.Run.{Move, IsAnswered}
+use Rattle.pd_run.specs.UpTo.{before, AgreeInScripts, AgreeAs, AreAlike, AreAfter, StandsBeside}
+use Rattle.pd_run.proofs.Alike.{chained_alike, go_alike, answered_alike, between}
+use Rattle.pd_run.proofs.Cut.{All-nil, IsEarlier, starts_up_to, timely_all}
 use Rattle.pd_keep.specs.declared.rerun.Standing.{Standing}
 use Rattle.pd_keep.specs.declared.rerun.Standing.TheVariants as standing
 use Rattle.pd_keep.specs.Fresh.{IsRepeated, AreFresh}
 use Rattle.pd_keep.specs.Kept.{KeptData, move_of, IsOwn}
 use Rattle.pd_keep.specs.Kept.{RunData}
 use Rattle.pd_keep.specs.Spans.{kept_of_spans, moves_of, end_of, begins_at, BeginsAfter, IsKept}
-use Rattle.pd_keep.specs.Rerun.{StandsAlike, Stands, Costs, IsNextSpan, ComesTo, BeginsWith}
+use Rattle.pd_keep.specs.Rerun.{Stands, Costs, ComesTo, BeginsWith, IsShared, GoesOnWith}
 use Rattle.pd_keep.specs.Rerun.{AreStanding, IsOld, IsSoFar, AreOver, AreThose, IsDone}
 use Rattle.pd_keep.proofs.Parted.{in_span, moves_push}
 
@@ -85,7 +87,7 @@ begins_both n a moves b others s is alike begun = record {
 
 -- the ports of a run that comes to a span of the old run's stand alike, where it is seen that they do
 pub comes_alike : (n : ℕ) (old : Plan) (old_spans : List RunData) (span : RunData) (plan : Plan) (spans : List RunData) (at : ℕ)
-    (agree : Bool) (st : Standing n) → (c : ComesTo n old old_spans span plan spans at agree st) → AreStanding n st span
+    (agree : Agreement) (st : Standing n) → (c : ComesTo n old old_spans span plan spans at agree st) → AreStanding n st span
     → AreAlike old (before at (moves_of old_spans)) plan (moves_of spans)
 comes_alike n old old_spans span plan spans at agree standing.Alike c h = c.stands.alike
 comes_alike n old old_spans span plan spans at agree (standing.Apart live) c h =
@@ -94,12 +96,6 @@ comes_alike n old old_spans span plan spans at agree (standing.Apart live) c h =
     subst (λ t. BeginsAfter n old (before t (moves_of old_spans)) span) (sym c.at_is) w.begun in
     alike_from n old (before at (moves_of old_spans)) plan (moves_of spans) span live c.kept.is_plan c.far.is_plan begun h c.stands
 
-pub record IsShared (n : ℕ) (old : Plan) (old_spans : List RunData) (span : RunData) (plan : Plan) (moves : List Move) (at : ℕ) : Type 0
-  where
-    pub next : IsNextSpan n plan moves at span
-    pub stands : StandsAlike n old old_spans plan (moves ++ map move_of span.moves) span.to
-    pub fresh : AreFresh old (moves_of old_spans) plan (map move_of span.moves) 0
-
 own_too : (a b : Plan) (k : KeptData) → a.settings ≡ b.settings → IsOwn a k → IsOwn b k
 own_too a b k set h = record {
   made = h.made;
@@ -107,42 +103,74 @@ own_too a b k set h = record {
   settings = h.settings ∙ ap (λ (l : List SettingsData). get_or l (k.port - 1) no_settings) set;
 }
 
--- a span in which both plans ask the same, and at whose beginning the ports stand alike, is shared
-pub shares : (n : ℕ) (old : Plan) (old_spans : List RunData) (span : RunData) (plan : Plan) (spans : List RunData) (at : ℕ)
-    (agree : Bool) (st : Standing n) → ComesTo n old old_spans span plan spans at agree st
-    → AreAlike old (before at (moves_of old_spans)) plan (moves_of spans) → AgreeIn old plan at span.to
+-- a span at whose beginning the ports stand alike, and in which both plans have the same scripts, stands beside the run
+stands_beside : (n : ℕ) (old : Plan) (old_spans : List RunData) (span : RunData) (plan : Plan) (spans : List RunData) (at : ℕ)
+    (agree : Agreement) (st : Standing n) → ComesTo n old old_spans span plan spans at agree st → AreStanding n st span
+    → AgreeInScripts old plan at span.to
+    → StandsBeside old plan (moves_of old_spans) (moves_of spans) (map move_of span.moves) at span.to
+stands_beside n old old_spans span plan spans at agree st c standing scripts =
+    let to = span.to in
+    let all : List Move = moves_of old_spans in
+    let mid : List Move = map move_of span.moves in
+    let w = in_span n old old_spans c.place span c.kept c.there in
+    let needed = c.kept.reach.needed c.place (slice_get_within old_spans c.place span c.there) in
+    let e = c.at_is in
+    let r = w.rising in
+    record {
+      run = c.kept.safe.run;
+      up = c.far.up;
+      alike = comes_alike n old old_spans span plan spans at agree st c standing;
+      scripts = scripts;
+      rising = omega (arith, e, r);
+      soon = omega (arith, e, needed);
+      soon_too = c.soon;
+      is_between = subst (λ t. before to all ≡ before t all ++ mid) (sym c.at_is) w.is_next;
+    }
+
+-- the run goes on with its moves
+goes_with : (n : ℕ) (old : Plan) (old_spans : List RunData) (span : RunData) (plan : Plan) (spans : List RunData) (at : ℕ)
+    (agree : Agreement) (st : Standing n) → ComesTo n old old_spans span plan spans at agree st
+    → StandsBeside old plan (moves_of old_spans) (moves_of spans) (map move_of span.moves) at span.to
+    → GoesOnWith n plan (moves_of spans) span
+goes_with n old old_spans span plan spans at agree st c s =
+    let all : List Move = moves_of old_spans in
+    let w = in_span n old old_spans c.place span c.kept c.there in
+    let begun : BeginsAfter n old (before at all) span =
+    subst (λ t. BeginsAfter n old (before t all) span) (sym c.at_is) w.begun in
+    record {
+      begun = begins_both n old (before at all) plan (moves_of spans) span c.kept.is_plan s.alike begun;
+      own = λ k d lt. own_too old plan _ s.alike.settings (w.own k d lt);
+      chained = chained_alike old plan all (moves_of spans) (map move_of span.moves) at span.to s;
+    }
+
+-- and shares it where its moves have the answers that the plan's budget gives
+shares : (n : ℕ) (old : Plan) (old_spans : List RunData) (span : RunData) (plan : Plan) (spans : List RunData) (at : ℕ)
+    (agree : Agreement) (st : Standing n) → ComesTo n old old_spans span plan spans at agree st
+    → StandsBeside old plan (moves_of old_spans) (moves_of spans) (map move_of span.moves) at span.to
+    → EachAfter (IsAnswered plan) (moves_of spans) (map move_of span.moves)
     → IsShared n old old_spans span plan (moves_of spans) at
-shares n old old_spans span plan spans at agree st c alike same =
+shares n old old_spans span plan spans at agree st c s answered =
     let to = span.to in
     let moves : List Move = moves_of spans in
     let all : List Move = moves_of old_spans in
     let mid : List Move = map move_of span.moves in
-    let w = in_span n old old_spans c.place span c.kept c.there in
-    let run : Run old all = c.kept.safe.run in
-    let is_next : before to all ≡ before at all ++ mid =
-    subst (λ t. before to all ≡ before t all ++ mid) (sym c.at_is) w.is_next in
-    let begun : BeginsAfter n old (before at all) span =
-    subst (λ t. BeginsAfter n old (before t all) span) (sym c.at_is) w.begun in
-    let rising : at < to = (let e = c.at_is in let r = w.rising in omega (arith, e, r)) in
-    let needed = c.kept.reach.needed c.place (slice_get_within old_spans c.place span c.there) in
-    let soon : at ≤ old.end = (let e = c.at_is in omega (arith, e, needed)) in
-    let old_up : IsUpTo old (before at all) at = run_up_to old all at run in
-    let parts = between old all mid at to run is_next in
-    let on = go_alike old plan all moves mid at to run c.far.up alike same (omega (arith, rising))
-    (λ p lt. taken_is old (before at all) at p old_up soon lt)
-    (λ p lt. taken_is plan moves at p c.far.up c.soon lt) is_next in
+    let with = goes_with n old old_spans span plan spans at agree st c s in
+    let parts = between old all mid at to s.run s.is_between in
+    let on = go_alike old plan all moves mid at to s answered in
+    let e = c.at_is in
+    let r = (in_span n old old_spans c.place span c.kept c.there).rising in
     record {
       next = record {
-        rising = rising;
-        begun = begins_both n old (before at all) plan moves span c.kept.is_plan alike begun;
-        own = λ k d lt. own_too old plan _ alike.settings (w.own k d lt);
+        rising = omega (arith, e, r);
+        begun = with.begun;
+        own = with.own;
         later = λ k d lt. (parts.inside k d lt).0;
         up = on.0;
       };
       stands = record {
         kept = c.kept;
         alike = on.1;
-        ends = ⊎_elim (λ (e : old.end ≡ plan.end). inl e) (λ (e : (to ≤ old.end) × (to ≤ plan.end)). inr e.0) same.ends;
+        ends = ⊎_elim (λ (e : old.end ≡ plan.end). inl e) (λ (e : (to ≤ old.end) × (to ≤ plan.end)). inr e.0) s.scripts.ends;
       };
       fresh = none_fresh old all plan mid
           (λ m h. (
@@ -152,16 +180,42 @@ shares n old old_spans span plan spans at agree st c alike same =
             record {
               port = refl;
               before = refl;
-              settings = ap (λ (l : List SettingsData). get_or l m.port no_settings) alike.settings;
+              settings = ap (λ (l : List SettingsData). get_or l m.port no_settings) s.alike.settings;
               due = refl;
               answer = refl;
             },
           ));
     }
 
+-- where both plans ask the same, they have them
+pub shares_both : (n : ℕ) (old : Plan) (old_spans : List RunData) (span : RunData) (plan : Plan) (spans : List RunData) (at : ℕ)
+    (st : Standing n) → ComesTo n old old_spans span plan spans at agreement.Both st → AreStanding n st span
+    → IsShared n old old_spans span plan (moves_of spans) at
+shares_both n old old_spans span plan spans at st c standing =
+    let s = stands_beside n old old_spans span plan spans at agreement.Both st c standing c.agrees.scripts in
+    shares n old old_spans span plan spans at agreement.Both st c s
+    (answered_alike old plan (moves_of old_spans) (moves_of spans) (map move_of span.moves) at span.to s c.agrees)
+
+-- where they have the same scripts, the run goes on with the moves, and shares the span if these are answered
+pub goes_on_with : (n : ℕ) (old : Plan) (old_spans : List RunData) (span : RunData) (plan : Plan) (spans : List RunData) (at : ℕ)
+    (st : Standing n) → ComesTo n old old_spans span plan spans at agreement.Scripts st → AreStanding n st span
+    → GoesOnWith n plan (moves_of spans) span
+goes_on_with n old old_spans span plan spans at st c standing =
+    goes_with n old old_spans span plan spans at agreement.Scripts st c
+    (stands_beside n old old_spans span plan spans at agreement.Scripts st c standing c.agrees.0)
+
+pub shares_answered : (n : ℕ) (old : Plan) (old_spans : List RunData) (span : RunData) (plan : Plan) (spans : List RunData) (at : ℕ)
+    (st : Standing n) → ComesTo n old old_spans span plan spans at agreement.Scripts st → AreStanding n st span
+    → ((past : List Move) → GoesOnWith n plan past span → EachAfter (IsAnswered plan) past (map move_of span.moves))
+    → IsShared n old old_spans span plan (moves_of spans) at
+shares_answered n old old_spans span plan spans at st c standing answered =
+    let s = stands_beside n old old_spans span plan spans at agreement.Scripts st c standing c.agrees.0 in
+    shares n old old_spans span plan spans at agreement.Scripts st c s
+    (answered (moves_of spans) (goes_with n old old_spans span plan spans at agreement.Scripts st c s))
+
 -- the ports at the beginning of a span are where the run stands, where they stand alike
 pub resumes : (n : ℕ) (old : Plan) (old_spans : List RunData) (span : RunData) (plan : Plan) (spans : List RunData) (at : ℕ)
-    (agree : Bool) → ComesTo n old old_spans span plan spans at agree standing.Alike
+    (agree : Agreement) → ComesTo n old old_spans span plan spans at agree standing.Alike
     → (length span.first ≡ n) × AreAfter plan (moves_of spans) span.first
 resumes n old old_spans span plan spans at agree c =
     let w = in_span n old old_spans c.place span c.kept c.there in
@@ -259,10 +313,10 @@ past_all spans k e =
     (λ (past : length spans ≤ k). past) (cases_lt k (length spans))
 
 -- a run that comes to the beginning of an old run's span
-pub comes_to : (n : ℕ) (old : Plan) (old_spans spans : List RunData) (s : RunData) (plan : Plan) (k at from : ℕ) (agree : Bool)
+pub comes_to : (n : ℕ) (old : Plan) (old_spans spans : List RunData) (s : RunData) (plan : Plan) (k at from : ℕ) (agree : Agreement)
     (st : Standing n) → IsOld n old old_spans → IsSoFar n plan spans at → Stands n old old_spans plan (moves_of spans) at st
     → at ≡ begins_at old_spans k → slice_get old_spans k ≡ Some s → at ≤ plan.end → from ≡ at
-    → (agree ≡ true → AgreeIn old plan from s.to) → ComesTo n old old_spans s plan spans at agree st
+    → AgreeAs agree old plan from s.to → ComesTo n old old_spans s plan spans at agree st
 comes_to n old old_spans spans s plan k at from agree st is_old far stands at_is there soon now agrees = record {
   place = k;
   kept = is_kept_of n old old_spans k s is_old there;
@@ -271,7 +325,7 @@ comes_to n old old_spans spans s plan k at from agree st is_old far stands at_is
   far = far;
   soon = soon;
   stands = stands;
-  agrees = λ e. subst (λ t. AgreeIn old plan t s.to) now (agrees e);
+  agrees = subst (λ t. AgreeAs agree old plan t s.to) now agrees;
 }
 
 -- all of a list from a time on are so from a later time on

@@ -1,8 +1,8 @@
 -- Moves that are kept.
-use Rattle.std.specs.Prelude.{◌≡◌, ℕ, ◌-◌, ◌<◌, ◌≤◌, List, length, Option, None, Some, slice_index_or}
+use Rattle.std.specs.Prelude.{◌≡◌, ℕ, ◌-◌, ◌<◌, ◌≤◌, Bool, true, false, List, length, Option, None, Some, slice_index_or}
 use Rattle.pd_objects.specs.declared.query.Answer.{Answer}
 use Rattle.pd_port.specs.declared.due.Due.{Due}
-use Rattle.pd_port.specs.Port.{PortData, record_after, entry_of}
+use Rattle.pd_port.specs.Port.{PortData, record_after, entry_of, hold}
 use Rattle.pd_scenario.specs.Plan.{Plan, settings_of}
 use Rattle.pd_run.specs.declared.note.Marks.{Marks}
 use Rattle.pd_run.specs.Notes.{marks_of}
@@ -62,6 +62,21 @@ abbrev pub AreLinked : List KeptData → List (Option ℕ) → Type 0
 AreLinked moves links =
     (length links ≡ length moves)
     × ((i : ℕ) (k : KeptData) → i < length moves → IsLeft moves (slice_index_or links i None) (slice_index_or moves i k).before)
+
+-- what a port holds of the shared budget
+abbrev pub held_by : PortData → ℕ
+held_by x = hold x.settings x.port_record
+
+-- a move asks nothing of the shared budget, and its port holds as much after it as before
+pub record IsQuiet (k : KeptData) : Type 0 where
+  pub unasked : k.entry.query ≡ None
+  pub unanswered : k.answer ≡ None
+  pub same_hold : held_by k.after ≡ held_by k.before
+
+-- each move is quiet, unless it is marked as one that may not be
+pub record AreQuiet (moves : List KeptData) (stirs : List Bool) : Type 0 where
+  pub count : length stirs ≡ length moves
+  pub quiet : (i : ℕ) (k : KeptData) → i < length moves → slice_index_or stirs i true ≡ false → IsQuiet (slice_index_or moves i k)
 
 -- moves up to a time, and the ports as they are before them
 pub record RunData : Type 0 where

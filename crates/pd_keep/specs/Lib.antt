@@ -1,3 +1,4 @@
+pub mod Asked
 pub mod Charge
 pub mod Cost
 pub mod Firsts

@@ -1,12 +1,14 @@
 -- A run beside an older one.
-use Rattle.std.specs.Prelude.{◌≡◌, ◌⊎◌, ℕ, ◌<◌, ◌≤◌, ◌++◌, ◌↔◌, Bool, true, List, [], length, map, slice_get, Some, All, Contains}
+use Rattle.std.specs.Prelude.{◌≡◌, ◌⊎◌, ℕ, ◌<◌, ◌≤◌, ◌++◌, ◌↔◌, List, [], length, map, slice_get, Some, All, Contains}
 use Rattle.std.specs.Prelude.{slice_index_or}
 use Rattle.pd_port.specs.Meter.{raised}
 use Rattle.pd_scenario.specs.Plan.{Plan, IsPlan}
 use Rattle.pd_run.specs.Live.{LiveData, StandsAfter, port_at}
 use Rattle.pd_run.specs.Start.{no_port}
-use Rattle.pd_run.specs.Run.{Move}
-use Rattle.pd_run.specs.UpTo.{before, IsUpTo, AgreeIn, AreAlike}
+use Rattle.pd_run.specs.declared.beside.Agreement.{Agreement}
+use Rattle.pd_run.specs.Order.{EachAfter}
+use Rattle.pd_run.specs.Run.{Move, GoesOn}
+use Rattle.pd_run.specs.UpTo.{before, IsUpTo, AgreeAs, AreAlike}
 use Rattle.pd_keep.specs.declared.rerun.Standing.{Standing}
 use Rattle.pd_keep.specs.declared.rerun.Standing.TheVariants as standing
 use Rattle.pd_keep.specs.Fresh.{AreFresh}
@@ -51,9 +53,9 @@ pub record IsNextSpan (n : ℕ) (plan : Plan) (moves : List Move) (from : ℕ) (
   pub later : All (λ m. from ≤ m.due.time) (map move_of span.moves)
   pub up : IsUpTo plan (moves ++ map move_of span.moves) span.to
 
--- a run beside an old one comes to the beginning of a span of the old one, and may be told that both plans ask the same in it
+-- a run beside an old one comes to the beginning of a span of the old one, and is told how far both plans ask the same in it
 pub record ComesTo (n : ℕ) (old : Plan) (old_spans : List RunData) (span : RunData) (plan : Plan) (spans : List RunData) (at : ℕ)
-    (agree : Bool) (standing : Standing n) : Type 0 where
+    (agree : Agreement) (standing : Standing n) : Type 0 where
   pub place : ℕ
   pub kept : IsKept n old old_spans
   pub there : slice_get old_spans place ≡ Some span
@@ -61,7 +63,20 @@ pub record ComesTo (n : ℕ) (old : Plan) (old_spans : List RunData) (span : Run
   pub far : IsSoFar n plan spans at
   pub soon : at ≤ plan.end
   pub stands : Stands n old old_spans plan (moves_of spans) at standing
-  pub agrees : agree ≡ true → AgreeIn old plan at span.to
+  pub agrees : AgreeAs agree old plan at span.to
+
+-- a span of an old run is one of the run too: it goes on with it, none of its moves is fresh, and the ports stand alike after it
+pub record IsShared (n : ℕ) (old : Plan) (old_spans : List RunData) (span : RunData) (plan : Plan) (moves : List Move) (at : ℕ) : Type 0
+  where
+    pub next : IsNextSpan n plan moves at span
+    pub stands : StandsAlike n old old_spans plan (moves ++ map move_of span.moves) span.to
+    pub fresh : AreFresh old (moves_of old_spans) plan (map move_of span.moves) 0
+
+-- a span begins with a plan's ports as these moves have left them, and its moves are of these ports and go on from there
+pub record GoesOnWith (n : ℕ) (plan : Plan) (past : List Move) (span : RunData) : Type 0 where
+  pub begun : BeginsAfter n plan past span
+  pub own : All (IsOwn plan) span.moves
+  pub chained : EachAfter (GoesOn plan) past (map move_of span.moves)
 
 -- of what is kept of an old run these are all from one time to another
 abbrev pub AreThose : List KeptData → ℕ → ℕ → List KeptData → Type 0

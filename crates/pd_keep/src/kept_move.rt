@@ -1,15 +1,19 @@
 //! Moves that are kept, which runs share.
 
 ghost use Rattle.std.specs.Prelude.{◌≡◌, ◌↔◌, ◌<◌, ◌≤◌, ◌++◌, ◌∷◌, ℕ, [], List, All, IsTrue, IfOk, OnOk, length, map};
-ghost use Rattle.std.specs.Prelude.{option_map, slice_get, slice_index_or};
+ghost use Rattle.std.specs.Prelude.{false, option_map, slice_get, slice_index_or};
 ghost use Rattle.pd_run.specs.Notes.{IsNextWith};
 ghost use Rattle.pd_port.specs.Port.{PortData};
+ghost use Rattle.pd_run.specs.Held.{AreHeld};
+ghost use Rattle.pd_run.specs.Run.{Move, IsAnswered};
 ghost use Rattle.pd_run.specs.Start.{no_port};
-ghost use Rattle.pd_keep.specs.Kept.{KeptData, IsMade, IsLeft, kept_of, marks_kept, shown_of};
+ghost use Rattle.pd_run.specs.UpTo.{AreAfter};
+ghost use Rattle.pd_keep.specs.Asked.{IsAsked};
+ghost use Rattle.pd_keep.specs.Kept.{KeptData, IsMade, IsLeft, IsQuiet, kept_of, move_of, marks_kept, shown_of};
 
 use pd_objects::Answer;
 use pd_port::{Due, Entry, Port};
-use pd_run::{Marks, Note, SharedPort};
+use pd_run::{Marks, Note, Plan, SharedBudget, SharedPort};
 use std::alloc::{AllocError, Global};
 use std::marker::Model;
 use std::rc::Rc;
@@ -38,6 +42,17 @@ impl Model for KeptMove {
       after = m.after;
       entry = m.entry;
     } };
+}
+
+impl KeptMove {
+    // Whether the move asked anything of the shared budget, or its port holds more or less of it than before.
+    fn stirs(&self) -> bool
+        ensures { result ≡ false → IsQuiet self.now }
+    {
+        self.entry.query.is_some()
+            || self.answer.is_some()
+            || self.after.hold() != self.before.hold()
+    }
 }
 
 /// What is kept of a move, which runs share.
@@ -89,7 +104,8 @@ impl SharedMove {
 
 /// Moves of a run up to a time, and the ports as they are before them. Beside the moves stand the marks of their entries, so that
 /// whoever looks for a note reads these alone, and after which other move each move's port stood, where that is known, so that
-/// ports that come from one move to the next needn't be compared.
+/// ports that come from one move to the next needn't be compared, and which moves asked the shared budget or changed what their port
+/// holds, so that no other is looked at where the budget alone is another.
 #[derive(Drop)]
 pub struct KeptMoves {
     to: u64,
@@ -97,17 +113,19 @@ pub struct KeptMoves {
     moves: Vec<SharedMove>,
     marks: Vec<Marks>,
     links: Vec<Option<usize>>,
+    stirs: Vec<bool>,
 }
 
 impl Model for KeptMoves {
     ghost use Rattle.std.specs.Prelude.{◌≡◌, map};
-    ghost use Rattle.pd_keep.specs.Kept.{RunData, AreLinked, marks_kept};
+    ghost use Rattle.pd_keep.specs.Kept.{RunData, AreLinked, AreQuiet, marks_kept};
 
     ghost Value = { RunData };
 
     ghost view = { λ r. record { to = r.to; first = r.first.items; moves = r.moves.items } };
 
-    ghost invariant = { λ r. (r.marks.items ≡ map marks_kept r.moves.items) × AreLinked r.moves.items r.links.items };
+    ghost invariant = { λ r. (r.marks.items ≡ map marks_kept r.moves.items) × AreLinked r.moves.items r.links.items
+        × AreQuiet r.moves.items r.stirs.items };
 }
 
 impl KeptMoves {
@@ -121,6 +139,7 @@ impl KeptMoves {
             moves: Vec::new(alloc),
             marks: Vec::new(alloc),
             links: Vec::new(alloc),
+            stirs: Vec::new(alloc),
         }
     }
 
@@ -220,6 +239,48 @@ impl KeptMoves {
         self.moves[i].share()
     }
 
+    /// What the ports hold of the shared budget of a plan before the moves.
+    ///
+    /// # Errors
+    /// There is no memory.
+    pub fn shared_budget<const N: usize>(
+        &self,
+        alloc: Global,
+        plan: &Plan<N>,
+    ) -> Result<SharedBudget<N>, AllocError>
+        requires { length self.now.first ≡ N }
+        ensures { IfOk result (λ shared. (past : List Move) → AreAfter plan.now past self.now.first → AreHeld plan.now past shared) }
+    {
+        SharedBudget::of_ports(alloc, plan, self.first.as_slice())
+    }
+
+    /// Whether a move has the answer that the shared budget gives at its time. If it has, its port holds from now on what it
+    /// holds after the move.
+    pub fn is_answered<const N: usize>(
+        &self,
+        i: usize,
+        plan: &Plan<N>,
+        shared: &mut SharedBudget<N>,
+    ) -> bool
+        requires { (past : List Move) × (k : KeptData) × IsAsked plan.now past shared.old self.now.moves i k }
+        ensures answered { IsTrue result → (past : List Move) (k : KeptData)
+            → IsAsked plan.now past shared.old self.now.moves i k → IsAnswered plan.now past (move_of k) }
+        ensures held { IsTrue result → (past : List Move) (k : KeptData)
+            → IsAsked plan.now past shared.old self.now.moves i k → AreHeld plan.now (past ++ move_of k ∷ []) shared.new }
+    {
+        if !self.stirs[i] {
+            return true;
+        }
+        let kept = self.moves[i].kept();
+        shared.answers(
+            plan,
+            kept.port,
+            &kept.entry,
+            &kept.answer,
+            kept.after.hold(),
+        )
+    }
+
     // Whether a move is known to be the next one of its port after another.
     fn follows(&self, i: usize, left: Option<usize>) -> bool
         requires { i < length self.now.moves }
@@ -272,9 +333,12 @@ impl KeptMoves {
     {
         self.marks.reserve(1)?;
         self.links.reserve(1)?;
+        self.stirs.reserve(1)?;
+        let stirs = kept.kept().stirs();
         self.moves.push(kept)?;
         self.marks.push_reserved(marks);
         self.links.push_reserved(left);
+        self.stirs.push_reserved(stirs);
         Ok(())
     }
 }

@@ -1,6 +1,7 @@
 //! The runner that keeps its run in spans, and shares those that the next run has too.
 #![tactic(auto)]
 
+mod answered;
 mod kept;
 mod kept_move;
 pub mod laws;

@@ -1,22 +1,24 @@
 //! A run beside an older one: spans that the older one has too are shared, and in the others the moves that it has.
 
 ghost use Rattle.std.specs.Prelude.{◌≡◌, ◌⊎◌, ℕ, ◌+◌, ◌*◌, ◌-◌, ◌<◌, ◌≤◌, ◌++◌, ◌∷◌};
-ghost use Rattle.std.specs.Prelude.{◌↔◌, [], List, IfOk, OnOk, IsTrue, map, length, All, Bool};
+ghost use Rattle.std.specs.Prelude.{◌↔◌, [], List, IfOk, OnOk, IsTrue, map, length, All};
+ghost use Rattle.pd_run.specs.declared.beside.Agreement.{Agreement as AgreementData};
 ghost use Rattle.pd_scenario.specs.Plan.{Plan as PlanData, IsPlan};
 ghost use Rattle.pd_run.specs.Live.{StandsAfter, port_at};
 ghost use Rattle.pd_run.specs.Run.{Move};
 ghost use Rattle.pd_run.specs.Start.{no_port};
-ghost use Rattle.pd_run.specs.UpTo.{AgreeIn, IsUpTo};
+ghost use Rattle.pd_run.specs.UpTo.{IsUpTo};
 ghost use Rattle.pd_keep.specs.Kept.{KeptData, move_of, IsMade, IsOwn, AreInTime};
 ghost use Rattle.pd_keep.specs.Kept.{RunData};
-ghost use Rattle.pd_keep.specs.Rerun.{IsOld, IsSoFar, Stands, Costs, ComesTo, AreStanding, AreThose, IsDone, BeginsWith, AreOver};
+ghost use Rattle.pd_keep.specs.Rerun.{IsOld, IsSoFar, Stands, Costs, ComesTo, AreStanding, AreThose, IsDone, IsShared, BeginsWith, AreOver};
 ghost use Rattle.pd_keep.specs.Spans.{IsKept, kept_of_spans, moves_of};
 
+use crate::answered::are_answered;
 use crate::kept_move::KeptMoves;
 use crate::one_span::{STRIDE, run_span};
 use crate::spans::Spans;
 use pd_port::Meter;
-use pd_run::{Beside, Live, Plan};
+use pd_run::{Agreement, Beside, Live, Plan};
 use std::alloc::{AllocError, Global};
 use std::rc::Rc;
 
@@ -96,7 +98,7 @@ fn next_spans<const N: usize>(
     old: &Rc<KeptMoves>,
     plan: &Plan<N>,
     at: u64,
-    agree: bool,
+    agree: Agreement,
     standing: Standing<N>,
     spans: &mut Spans,
     meter: &mut Meter,
@@ -115,13 +117,41 @@ fn next_spans<const N: usize>(
 {
     let _end = plan.end();
     let _count = meter.count();
-    if agree && stands_alike(&standing, old) {
+    let shared = is_shared(alloc, old, plan, agree, &standing)?;
+    if shared {
         spans.push(old.clone()?)?;
         return Ok(Standing::Alike);
     }
     let mut live = standing_live(alloc, old, plan, at, standing)?;
     run_on(alloc, old, plan, at, old.to(), &mut live, spans, meter)?;
     Ok(Standing::Apart(live))
+}
+
+// Whether a span of the older run is one of the run too: the ports stand alike at its beginning, and both plans ask the same in it,
+// or have the same scripts, and what is asked is answered alike.
+fn is_shared<const N: usize>(
+    alloc: Global,
+    old: &KeptMoves,
+    plan: &Plan<N>,
+    agree: Agreement,
+    standing: &Standing<N>,
+) -> Result<bool, AllocError>
+    requires comes { (old_plan : PlanData) × (old_spans : List RunData) × (spans : List RunData) × (at : ℕ)
+        × ComesTo N old_plan old_spans old.now plan.now spans at agree standing.now }
+    ensures { IfOk result (λ shared. IsTrue shared → (old_plan : PlanData) (old_spans : List RunData) (spans : List RunData) (at : ℕ)
+        → ComesTo N old_plan old_spans old.now plan.now spans at agree standing.now
+        → IsShared N old_plan old_spans old.now plan.now (moves_of spans) at) }
+{
+    match agree {
+        Agreement::Not => Ok(false),
+        Agreement::Both => Ok(stands_alike(standing, old)),
+        Agreement::Scripts => {
+            if !stands_alike(standing, old) {
+                return Ok(false);
+            }
+            are_answered(alloc, plan, old)
+        }
+    }
 }
 
 // The ports where they stand at the beginning of a span.
@@ -132,9 +162,9 @@ fn standing_live<const N: usize>(
     at: u64,
     standing: Standing<N>,
 ) -> Result<Live<N>, AllocError>
-    requires comes { (old_plan : PlanData) × (old_spans : List RunData) × (spans : List RunData) × (agree : Bool)
+    requires comes { (old_plan : PlanData) × (old_spans : List RunData) × (spans : List RunData) × (agree : AgreementData)
         × ComesTo N old_plan old_spans old.now plan.now spans at agree standing }
-    ensures { IfOk result (λ live. (old_plan : PlanData) (old_spans : List RunData) (spans : List RunData) (agree : Bool)
+    ensures { IfOk result (λ live. (old_plan : PlanData) (old_spans : List RunData) (spans : List RunData) (agree : AgreementData)
         → ComesTo N old_plan old_spans old.now plan.now spans at agree standing.entry → StandsAfter plan.now (moves_of spans) live) }
 {
     match standing {

@@ -1,6 +1,6 @@
 ghost use Rattle.std.specs.Prelude.{◌≤◌};
 
-use crate::texts::{LATE, PAIR, PHONE, SECOND};
+use crate::texts::{LATE, PAIR, PHONE, SECOND, SHARED};
 use pd_edit::apply;
 use pd_edit_lines::Line;
 use pd_keep::Kept;
@@ -84,6 +84,87 @@ fn of_more_power(rt: HostRuntime) -> Result<(), Fail> {
     assert_eq!(rt; kept, Some((263, 0)));
     let kept = cost::<1, Kept<1>>(rt.alloc(), SECOND, more.as_slice())?;
     assert_eq!(rt; kept, Some((25, 0)));
+    Ok(())
+}
+
+/// Whether the kept run has the moves of the plain one after the edits of these lines, each of which is made and run.
+fn alike<const N: usize>(alloc: Global, text: &[u8], lines: &[&[u8]]) -> Result<bool, Fail>
+    requires from_one { 1 ≤ N }
+    requires to_eight { N ≤ 8 }
+{
+    let Ok(mut scenario) = scenario_from_text::<N>(alloc, text) else {
+        return Ok(false);
+    };
+    let mut meter = Meter::new();
+    let mut kept = Kept::<N>::empty(alloc);
+    kept.replace(alloc, &scenario, &mut meter)?;
+    for line in lines {
+        let Ok(Line::Edit(edit)) = Line::read(line) else {
+            return Ok(false);
+        };
+        let Ok(edited) = apply(alloc, &scenario, &edit) else {
+            return Ok(false);
+        };
+        scenario = edited;
+        kept.replace(alloc, &scenario, &mut meter)?;
+    }
+    let mut plain = Plain::<N>::empty(alloc);
+    plain.replace(alloc, &scenario, &mut meter)?;
+    Ok(have_same_moves(&kept, &plain))
+}
+
+/// Whether both runs have moves of the same ports for the same dues, which change the contract alike.
+fn have_same_moves<const N: usize>(kept: &Kept<N>, plain: &Plain<N>) -> bool {
+    for i in 0..plain.len() {
+        match (kept.entry(i), plain.entry(i)) {
+            (Some((port, entry)), Some((other_port, other)))
+                if port == other_port
+                    && entry.due.same(&other.due)
+                    && entry.contract.is_some() == other.contract.is_some() => {}
+            _ => return false,
+        }
+    }
+    kept.len() == plain.len()
+}
+
+/// A budget that is less by 1 mW changes no answer of these.
+#[test]
+fn of_a_little_less_power(rt: HostRuntime) -> Result<(), Fail> {
+    let less: [&[u8]; 1] = [b"budget 199999"];
+    let kept = cost::<2, Kept<2>>(rt.alloc(), PAIR, less.as_slice())?;
+    assert_eq!(rt; kept.map(|(_, steps)| steps), Some(0));
+    assert!(rt; alike::<2>(rt.alloc(), PAIR, less.as_slice())?);
+    let less: [&[u8]; 1] = [b"budget 59999"];
+    let kept = cost::<1, Kept<1>>(rt.alloc(), PHONE, less.as_slice())?;
+    assert_eq!(rt; kept, Some((263, 0)));
+    Ok(())
+}
+
+/// A budget that leaves the second phone less power: the moves before its offer are shared, and so are those after it has gone.
+#[test]
+fn of_less_power_for_one(rt: HostRuntime) -> Result<(), Fail> {
+    let less: [&[u8]; 1] = [b"budget 29000"];
+    let kept = cost::<2, Kept<2>>(rt.alloc(), SHARED, less.as_slice())?;
+    assert_eq!(rt; kept, Some((327, 57)));
+    assert!(rt; alike::<2>(rt.alloc(), SHARED, less.as_slice())?);
+    let back: [&[u8]; 2] = [b"budget 29000", b"budget 30000"];
+    assert!(rt; alike::<2>(rt.alloc(), SHARED, back.as_slice())?);
+    Ok(())
+}
+
+/// A change of the budget in the middle: from then on what is asked is answered by the new one, which changes answers or doesn't.
+#[test]
+fn of_a_change_of_the_budget(rt: HostRuntime) -> Result<(), Fail> {
+    let enough: [&[u8]; 1] = [b"insert 4 50000000 budget 59000"];
+    let kept = cost::<1, Kept<1>>(rt.alloc(), PHONE, enough.as_slice())?;
+    assert_eq!(rt; kept, Some((264, 1)));
+    assert!(rt; alike::<1>(rt.alloc(), PHONE, enough.as_slice())?);
+    let little: [&[u8]; 1] = [b"insert 4 50000000 budget 14000"];
+    let kept = cost::<1, Kept<1>>(rt.alloc(), PHONE, little.as_slice())?;
+    assert_eq!(rt; kept, Some((281, 158)));
+    assert!(rt; alike::<1>(rt.alloc(), PHONE, little.as_slice())?);
+    let gone: [&[u8]; 2] = [b"insert 4 50000000 budget 14000", b"remove 4"];
+    assert!(rt; alike::<1>(rt.alloc(), PHONE, gone.as_slice())?);
     Ok(())
 }
 

@@ -88,3 +88,21 @@ event = [
   { id = 2, at = 200000, port = 2, kind = \"attach\", cable = \"thin\", sink = \"phone\" },
 ]
 ";
+
+/// Two phones on two ports, which together take all of the budget once the second is attached, to the end of two minutes.
+pub(super) const SHARED: &[u8] = b"
+version = 1
+end = 120000000
+budget = 30000
+port = [
+  { floor = 2500, identity_tries = 1, supplies = [[5000, 3000]] },
+  { floor = 2500, identity_tries = 1, supplies = [[5000, 3000]] },
+]
+cable = [{ name = \"thin\", plug = \"none\", rating = 3000 }]
+sink = [{ name = \"phone\", max = 5000, demand = 15000 }]
+event = [
+  { id = 1, at = 0, port = 1, kind = \"attach\", cable = \"thin\", sink = \"phone\" },
+  { id = 2, at = 40000000, port = 2, kind = \"attach\", cable = \"thin\", sink = \"phone\" },
+  { id = 3, at = 60000000, port = 2, kind = \"detach\" },
+]
+";

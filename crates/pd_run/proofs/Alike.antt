@@ -21,7 +21,7 @@ use Rattle.pd_scenario.specs.Plan.{Plan, count, settings_of, script_of, floors_o
 use Rattle.pd_run.specs.Order.{EachAfter}
 use Rattle.pd_run.specs.Run.{Move, Run, Standing, standing, after, taken_after, due_after, holds_after, account_after, reply_after}
 use Rattle.pd_run.specs.Run.{GoesOn, IsAnswered, IsInOrder, NoneLater}
-use Rattle.pd_run.specs.UpTo.{before, IsUpTo, until, had_by, AgreeIn, AreAlike, GoOnAlike}
+use Rattle.pd_run.specs.UpTo.{before, IsUpTo, until, AgreeIn, AreAlike, StandsBeside, GoOnAlike}
 use Rattle.pd_run.proofs.Moves.{standing-same, standing-other}
 use Rattle.pd_run.proofs.Steps.{some_event}
 use Rattle.pd_run.proofs.Taken.{taken_is}
@@ -224,7 +224,8 @@ goes_on_too a b to past more m set s goes early = record {
   entry_is = goes.entry_is ∙ ap (λ (l : List SettingsData). entry_of (get_or l m.port no_settings) m.before m.due m.answer) set;
 }
 
-same_map : (f g : ℕ → ℕ) (n : ℕ) → ((k : ℕ) → k < n → f k ≡ g k) → map f (range_with_len 0 n) ≡ map g (range_with_len 0 n)
+-- tables that are the same at each place
+pub same_map : (f g : ℕ → ℕ) (n : ℕ) → ((k : ℕ) → k < n → f k ≡ g k) → map f (range_with_len 0 n) ≡ map g (range_with_len 0 n)
 same_map f g n h =
     let fs = length-map-range_with_len f 0 n in
     let gs = length-map-range_with_len g 0 n in
@@ -256,28 +257,35 @@ IsIn from to m = (from ≤ m.due.time) × (m.due.time < to)
 
 record GoTogether (a b : Plan) (to : ℕ) (past more moves : List Move) : Type 0 where
   chained : EachAfter (GoesOn b) more moves
-  answered : EachAfter (IsAnswered b) more moves
   alike : StandAlike a b to (past ++ moves) (more ++ moves)
 
-go_together : (a b : Plan) (from to : ℕ) (past more moves : List Move) → a.settings ≡ b.settings
-    → ((t : ℕ) → from ≤ t → t < to → force a t ≡ force b t) → StandAlike a b to past more → EachAfter (GoesOn a) past moves
-    → EachAfter (IsAnswered a) past moves → All (IsIn from to) moves → GoTogether a b to past more moves
-go_together a b from to past more [] set budget s goes answered inside = record {
+go_together : (a b : Plan) (from to : ℕ) (past more moves : List Move) → a.settings ≡ b.settings → StandAlike a b to past more
+    → EachAfter (GoesOn a) past moves → All (IsIn from to) moves → GoTogether a b to past more moves
+go_together a b from to past more [] set s goes inside = record {
   chained = tt;
-  answered = tt;
   alike = subst (λ (l : List Move). StandAlike a b to l (more ++ [])) (sym (append-nil past))
       (subst (λ (l : List Move). StandAlike a b to past l) (sym (append-nil more)) s);
 }
-go_together a b from to past more (m ∷ ms) set budget s goes answered inside =
+go_together a b from to past more (m ∷ ms) set s goes inside =
     let here = All-head (IsIn from to) m ms inside in
-    let on = go_together a b from to (past ++ m ∷ []) (more ++ m ∷ []) ms set budget
-    (stand_on a b to past more m set s goes.0 here.1) goes.1 answered.1 (All-tail (IsIn from to) m ms inside) in
+    let on = go_together a b from to (past ++ m ∷ []) (more ++ m ∷ []) ms set (stand_on a b to past more m set s goes.0 here.1) goes.1
+    (All-tail (IsIn from to) m ms inside) in
     record {
       chained = (goes_on_too a b to past more m set s goes.0 here.1, on.chained);
-      answered = (answered_too a b to past more m set s (budget m.due.time here.0 here.1) answered.0, on.answered);
       alike = subst (λ (l : List Move). StandAlike a b to l (more ++ m ∷ ms)) (append_assoc past (m ∷ []) ms)
           (subst (λ (l : List Move). StandAlike a b to ((past ++ m ∷ []) ++ ms) l) (append_assoc more (m ∷ []) ms) on.alike);
     }
+
+answered_together : (a b : Plan) (from to : ℕ) (past more moves : List Move) → a.settings ≡ b.settings
+    → ((t : ℕ) → from ≤ t → t < to → force a t ≡ force b t) → StandAlike a b to past more → EachAfter (GoesOn a) past moves
+    → EachAfter (IsAnswered a) past moves → All (IsIn from to) moves → EachAfter (IsAnswered b) more moves
+answered_together a b from to past more [] set budget s goes answered inside = tt
+answered_together a b from to past more (m ∷ ms) set budget s goes answered inside =
+    let here = All-head (IsIn from to) m ms inside in (
+      answered_too a b to past more m set s (budget m.due.time here.0 here.1) answered.0,
+      answered_together a b from to (past ++ m ∷ []) (more ++ m ∷ []) ms set budget (stand_on a b to past more m set s goes.0 here.1)
+          goes.1 answered.1 (All-tail (IsIn from to) m ms inside),
+    )
 
 pub none_later-back : (t p : ℕ) (past moves : List Move) → NoneLater t p (past ++ moves) → NoneLater t p moves
 none_later-back t p [] moves h = h
@@ -341,61 +349,81 @@ between plan moves mid from to run is =
     All-back (IsEarlier to) (before from moves) mid (subst (λ (l : List Move). All (λ m. m.due.time < to) l) is d.earlier) in
     record { rest = d.rest; whole = whole; inside = λ k x lt. (later k x lt, earlier k x lt) }
 
--- Where the ports of a run stand at a time as those of another that has come up to it, and both plans ask the same from then to
--- a later time, the moves in between are those of the other too, and the ports stand alike again.
-pub go_alike : (a b : Plan) (moves more mid : List Move) (from to : ℕ) → Run a moves → IsUpTo b more from
-    → AreAlike a (before from moves) b more → AgreeIn a b from to → from ≤ to
-    → ((p : ℕ) → p < count a → (standing a (before from moves) p).taken ≡ had_by from (script_of a p))
-    → ((p : ℕ) → p < count b → (standing b more p).taken ≡ had_by from (script_of b p))
-    → before to moves ≡ before from moves ++ mid
-    → IsUpTo b (more ++ mid) to × AreAlike a (before to moves) b (more ++ mid)
-go_alike a b moves more mid from to run up alike agree le had_a had_b is =
+-- what holds of each move of a run holds of those in between
+in_between : (P : List Move → Move → Type 0) (moves mid : List Move) (from to : ℕ) → EachAfter P [] moves → Between from to moves mid
+    → EachAfter P (before from moves) mid
+in_between P moves mid from to h w =
+    EachAfter-back P [] (before from moves) mid
+    (EachAfter-front P [] (before from moves ++ mid) w.rest (subst (λ (l : List Move). EachAfter P [] l) w.whole h))
+
+-- both stand alike at the first time, and have the same events left before the second one
+begin_alike : (a b : Plan) (moves more mid : List Move) (from to : ℕ) → StandsBeside a b moves more mid from to
+    → StandAlike a b to (before from moves) more
+begin_alike a b moves more mid from to s = λ p lt.
     let past : List Move = before from moves in
-    let w = between a moves mid from to run is in
-    let whole : Run a ((past ++ mid) ++ w.rest) = subst (Run a) w.whole run in
-    let chained : EachAfter (GoesOn a) past mid =
-    EachAfter-back (GoesOn a) [] past mid (EachAfter-front (GoesOn a) [] (past ++ mid) w.rest whole.chained) in
-    let answered : EachAfter (IsAnswered a) past mid =
-    EachAfter-back (IsAnswered a) [] past mid (EachAfter-front (IsAnswered a) [] (past ++ mid) w.rest whole.answered) in
-    let ordered : EachAfter IsInOrder past mid =
-    EachAfter-back IsInOrder [] past mid (EachAfter-front IsInOrder [] (past ++ mid) w.rest whole.ordered) in
-    let timely : EachAfter (λ _ m. m.due.time ≤ a.end) past mid =
-    EachAfter-back (λ _ m. m.due.time ≤ a.end) [] past mid
-    (EachAfter-front (λ _ m. m.due.time ≤ a.end) [] (past ++ mid) w.rest whole.timely) in
-    let begin : StandAlike a b to past more = λ p lt. (
-      alike.records p lt,
-      ap (λ n. until to (drop n (script_of a p))) (had_a p lt) ∙ agree.events p lt
-          ∙ ap (λ n. until to (drop n (script_of b p))) (sym (had_b p (omega (arith, same_count a b alike.settings)))),
-    ) in
-    let on = go_together a b from to past more mid alike.settings agree.budget begin chained answered w.inside in
+    let had_a = taken_is a past from p (run_up_to a moves from s.run) s.soon lt in
+    let had_b = taken_is b more from p s.up s.soon_too (omega (arith, same_count a b s.alike.settings)) in (
+      s.alike.records p lt,
+      ap (λ n. until to (drop n (script_of a p))) had_a ∙ s.scripts.events p lt ∙ ap (λ n. until to (drop n (script_of b p))) (sym had_b),
+    )
+
+-- the moves in between go on in the other too
+together : (a b : Plan) (moves more mid : List Move) (from to : ℕ) → StandsBeside a b moves more mid from to
+    → GoTogether a b to (before from moves) more mid
+together a b moves more mid from to s =
+    let w = between a moves mid from to s.run s.is_between in
+    go_together a b from to (before from moves) more mid s.alike.settings (begin_alike a b moves more mid from to s)
+    (in_between (GoesOn a) moves mid from to s.run.chained w) w.inside
+
+pub chained_alike : (a b : Plan) (moves more mid : List Move) (from to : ℕ) → StandsBeside a b moves more mid from to
+    → EachAfter (GoesOn b) more mid
+chained_alike a b moves more mid from to s = (together a b moves more mid from to s).chained
+
+-- and where they are answered there too, the other goes on with them, and the ports stand alike again
+pub go_alike : (a b : Plan) (moves more mid : List Move) (from to : ℕ) → StandsBeside a b moves more mid from to
+    → EachAfter (IsAnswered b) more mid → IsUpTo b (more ++ mid) to × AreAlike a (before to moves) b (more ++ mid)
+go_alike a b moves more mid from to s answered =
+    let past : List Move = before from moves in
+    let le = s.rising in
+    let w = between a moves mid from to s.run s.is_between in
+    let on = together a b moves more mid from to s in
     let in_order : EachAfter IsInOrder more mid =
     subst (λ (l : List Move). EachAfter IsInOrder l mid) (append-nil more)
-    (order_together from to past more [] mid up.earlier w.inside
-    (subst (λ (l : List Move). EachAfter IsInOrder l mid) (sym (append-nil past)) ordered)) in
-    let in_time : EachAfter (λ _ m. m.due.time ≤ b.end) more mid = timely_together a b from to past more mid agree.ends w.inside timely in
+    (order_together from to past more [] mid s.up.earlier w.inside
+    (subst (λ (l : List Move). EachAfter IsInOrder l mid) (sym (append-nil past))
+    (in_between IsInOrder moves mid from to s.run.ordered w))) in
+    let in_time : EachAfter (λ _ m. m.due.time ≤ b.end) more mid =
+    timely_together a b from to past more mid s.scripts.ends w.inside
+    (in_between (λ _ m. m.due.time ≤ a.end) moves mid from to s.run.timely w) in
     let earlier : All (λ m. m.due.time < to) (more ++ mid) =
-    All-append (IsEarlier to) more mid (λ k d lt. let e = up.earlier k d lt in omega arith) (λ k d lt. (w.inside k d lt).1) in
-    let old_up : IsUpTo a (past ++ mid) to = subst (λ (l : List Move). IsUpTo a l to) is (run_up_to a moves to run) in (
-      up_to b (more ++ mid) to (EachAfter-append (GoesOn b) [] more mid up.runs.chained on.chained)
-          (EachAfter-append IsInOrder [] more mid up.runs.ordered in_order)
-          (EachAfter-append (IsAnswered b) [] more mid up.runs.answered on.answered)
-          (EachAfter-append (λ _ m. m.due.time ≤ b.end) [] more mid up.runs.timely in_time) earlier
+    All-append (IsEarlier to) more mid (λ k d lt. let e = s.up.earlier k d lt in omega arith) (λ k d lt. (w.inside k d lt).1) in
+    let old_up : IsUpTo a (past ++ mid) to = subst (λ (l : List Move). IsUpTo a l to) s.is_between (run_up_to a moves to s.run) in (
+      up_to b (more ++ mid) to (EachAfter-append (GoesOn b) [] more mid s.up.runs.chained on.chained)
+          (EachAfter-append IsInOrder [] more mid s.up.runs.ordered in_order)
+          (EachAfter-append (IsAnswered b) [] more mid s.up.runs.answered answered)
+          (EachAfter-append (λ _ m. m.due.time ≤ b.end) [] more mid s.up.runs.timely in_time) earlier
           (λ p d lt e soon.
-          let k : p < count a = omega (arith, same_count a b alike.settings) in
+          let k : p < count a = omega (arith, same_count a b s.alike.settings) in
           ⊎_elim
           (λ (early : d.time < to).
           old_up.passed p d k (due_back a b to (past ++ mid) (more ++ mid) p d on.alike k e early)
-          (in_both_back a b to d.time agree.ends early soon))
+          (in_both_back a b to d.time s.scripts.ends early soon))
           (λ (late : to ≤ d.time). late)
           (cases_lt d.time to)),
       record {
-        settings = alike.settings;
-        records = λ p lt. ap (λ (l : List Move). (standing a l p).state) is ∙ (on.alike p lt).0;
+        settings = s.alike.settings;
+        records = λ p lt. ap (λ (l : List Move). (standing a l p).state) s.is_between ∙ (on.alike p lt).0;
       },
     )
 
+-- where the budgets are the same at each instant, they are answered there too
+pub answered_alike : (a b : Plan) (moves more mid : List Move) (from to : ℕ) → StandsBeside a b moves more mid from to
+    → AgreeIn a b from to → EachAfter (IsAnswered b) more mid
+answered_alike a b moves more mid from to s agree =
+    let w = between a moves mid from to s.run s.is_between in
+    answered_together a b from to (before from moves) more mid s.alike.settings agree.budget (begin_alike a b moves more mid from to s)
+    (in_between (GoesOn a) moves mid from to s.run.chained w) (in_between (IsAnswered a) moves mid from to s.run.answered w) w.inside
+
 pub they_go_on_alike : GoOnAlike
-they_go_on_alike = λ a b moves more mid from to run up alike agree le ends_a ends_b is.
-    go_alike a b moves more mid from to run up alike agree le
-    (λ p lt. taken_is a (before from moves) from p (run_up_to a moves from run) ends_a lt)
-    (λ p lt. taken_is b more from p up ends_b lt) is
+they_go_on_alike = λ a b moves more mid from to s.
+    (chained_alike a b moves more mid from to s, go_alike a b moves more mid from to s)

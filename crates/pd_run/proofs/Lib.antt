@@ -4,6 +4,7 @@ pub mod Contracts
 pub mod Cut
 pub mod First
 pub mod Forces
+pub mod Held
 pub mod Moves
 pub mod Offers
 pub mod OneRun

@@ -145,6 +145,21 @@ held plan past p x is =
     let least = hold_floor (settings_of plan p) (standing plan past p).state in
     omega arith
 
+-- what ports hold that stand after these moves
+pub holds_resumed : (n : ℕ) (plan : Plan) (past : List Move) (ports : List PortData) (holds : List ℕ) → count plan ≡ n
+    → length holds ≡ n → AreAfter plan past ports
+    → ((p : ℕ) → p < n → slice_index holds p ≡ max (slice_index (floors_of plan) p)
+    (hold (slice_index_or ports p no_port).settings (slice_index_or ports p no_port).port_record))
+    → holds ≡ holds_after plan past
+holds_resumed n plan past ports holds counts length_is after are =
+    same_lists holds (holds_after plan past) (length_is ∙ sym counts ∙ sym (length-holds_after plan past))
+    (λ k d lt.
+    let kn : k < count plan = omega (arith, length_is, counts) in
+    get_or_default holds k d 0 lt ∙ are k (omega arith)
+    ∙ held plan past k (slice_index_or ports k no_port) (after k kn)
+    ∙ sym (get_or-map-range_with_len (λ i. hold (settings_of plan i) (standing plan past i).state) 0 (count plan) k k d kn
+    (omega arith)))
+
 -- ports that stand after a run up to the time go on from there
 pub StandsAfter-resumed : (n : ℕ) (plan : Plan) (past : List Move) (at : ℕ) (live : LiveData) → IsPlan n plan → at ≤ plan.end
     → IsUpTo plan past at → AreAfter plan past live.ports → AreResumed n plan at live → StandsAfter plan past live
@@ -163,11 +178,5 @@ StandsAfter-resumed n plan past at live is within up after r =
           ∙ ap (λ (x : PortData). due x.port_record (slice_get (script_of plan p) (slice_index live.taken p))) (after p lt)
           ∙ ap (λ t. due (standing plan past p).state (slice_get (script_of plan p) t)) (taken p lt);
       floors_are = r.floors_are;
-      holds_are = same_lists live.account.holds (holds_after plan past) (r.holds_count ∙ sym ports ∙ sym (length-holds_after plan past))
-          (λ k d lt.
-          let kn : k < count plan = omega (arith, r.holds_count) in
-          get_or_default live.account.holds k d 0 lt ∙ r.holds_are k (omega arith)
-          ∙ held plan past k (slice_index_or live.ports k no_port) (after k kn)
-          ∙ sym (get_or-map-range_with_len (λ i. hold (settings_of plan i) (standing plan past i).state) 0 (count plan) k k d kn
-          (omega arith)));
+      holds_are = holds_resumed n plan past live.ports live.account.holds ports r.holds_count after r.holds_are;
     }

@@ -1,5 +1,6 @@
 pub mod Beside
 pub mod Cost
+pub mod Held
 pub mod Laws
 pub mod Live
 pub mod Notes

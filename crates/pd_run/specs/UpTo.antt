@@ -5,8 +5,11 @@ use Rattle.pd_setup.specs.Events.{EventData}
 use Rattle.pd_port.specs.declared.due.Due.{Due}
 use Rattle.pd_port.specs.Port.{PortData}
 use Rattle.pd_scenario.specs.Plan.{Plan, count, script_of, force}
-use Rattle.pd_run.specs.Run.{Move, Run, standing, due_after}
+use Rattle.pd_run.specs.declared.beside.Agreement.{Agreement}
+use Rattle.pd_run.specs.declared.beside.Agreement.TheVariants as agreement
+use Rattle.pd_run.specs.Run.{Move, Run, standing, due_after, GoesOn, IsAnswered}
 use Rattle.pd_run.specs.Live.{RunsTo, port_after}
+use Rattle.pd_run.specs.Order.{EachAfter}
 use Rattle.pd_run.specs.Start.{no_port}
 
 -- the moves before a time
@@ -36,22 +39,48 @@ had_by at script = length (until at script)
 abbrev pub events_in : ℕ → ℕ → List EventData → List EventData
 events_in from to script = until to (drop (had_by from script) script)
 
--- Two plans ask the same from one time to another: of each port the same events, at each instant the same budget, and both
--- end together or not before the second time.
-pub record AgreeIn (a b : Plan) (from to : ℕ) : Type 0 where
+-- Two plans have the same scripts from one time to another: of each port the same events, and both end together or not before the
+-- second time.
+pub record AgreeInScripts (a b : Plan) (from to : ℕ) : Type 0 where
   pub events : (p : ℕ) → p < count a → events_in from to (script_of a p) ≡ events_in from to (script_of b p)
-  pub budget : (t : ℕ) → from ≤ t → t < to → force a t ≡ force b t
   pub ends : (a.end ≡ b.end) ⊎ ((to ≤ a.end) × (to ≤ b.end))
+
+-- They ask the same from one time to another: they have the same scripts, and at each instant the same budget.
+pub record AgreeIn (a b : Plan) (from to : ℕ) : Type 0 where
+  pub scripts : AgreeInScripts a b from to
+  pub budget : (t : ℕ) → from ≤ t → t < to → force a t ≡ force b t
+
+-- how far they do
+abbrev pub AgreeAs : Agreement → Plan → Plan → ℕ → ℕ → Type 0
+AgreeAs agreement.Not a b from to = AgreeInScripts a b from to → ⊥
+AgreeAs agreement.Scripts a b from to = AgreeInScripts a b from to × (AgreeIn a b from to → ⊥)
+AgreeAs agreement.Both a b from to = AgreeIn a b from to
 
 -- after these moves the ports of one plan stand as those of another after others: with the same settings and records
 pub record AreAlike (a : Plan) (moves : List Move) (b : Plan) (others : List Move) : Type 0 where
   pub settings : a.settings ≡ b.settings
   pub records : (p : ℕ) → p < count a → (standing a moves p).state ≡ (standing b others p).state
 
--- Where the ports of a run stand at a time as those of another that has come up to it, and both plans ask the same from then
--- to a later time, the other goes on with the same moves until then, and the ports stand alike again.
+-- Of a run that has these moves from one time to another, the ports stand at the first time as those of another that has come up to it,
+-- and both plans have the same scripts from then on.
+pub record StandsBeside (a b : Plan) (moves others between : List Move) (from to : ℕ) : Type 0 where
+  pub run : Run a moves
+  pub up : IsUpTo b others from
+  pub alike : AreAlike a (before from moves) b others
+  pub scripts : AgreeInScripts a b from to
+  pub rising : from ≤ to
+  pub soon : from ≤ a.end
+  pub soon_too : from ≤ b.end
+  pub is_between : before to moves ≡ before from moves ++ between
+
+-- Then each move in between goes on in the other too. Where each also has the answer that the other plan's budget gives, the other goes
+-- on with the same moves until the second time, and the ports stand alike again.
 abbrev pub GoOnAlike : Type 0
-GoOnAlike = (a b : Plan) (moves others between : List Move) (from to : ℕ) → Run a moves → IsUpTo b others from
-    → AreAlike a (before from moves) b others → AgreeIn a b from to → from ≤ to → from ≤ a.end → from ≤ b.end
-    → before to moves ≡ before from moves ++ between
-    → IsUpTo b (others ++ between) to × AreAlike a (before to moves) b (others ++ between)
+GoOnAlike = (a b : Plan) (moves others between : List Move) (from to : ℕ) → StandsBeside a b moves others between from to
+    → EachAfter (GoesOn b) others between
+    × (EachAfter (IsAnswered b) others between → IsUpTo b (others ++ between) to × AreAlike a (before to moves) b (others ++ between))
+
+-- Where both plans have the same budget at each instant, each move in between has that answer.
+abbrev pub AnsweredAlike : Type 0
+AnsweredAlike = (a b : Plan) (moves others between : List Move) (from to : ℕ) → StandsBeside a b moves others between from to
+    → AgreeIn a b from to → EachAfter (IsAnswered b) others between

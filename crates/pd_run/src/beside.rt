@@ -3,7 +3,7 @@
 ghost use Rattle.std.specs.Prelude.{◌≡◌, ℕ, ◌+◌, ◌-◌, ◌<◌, ◌≤◌, ◌⊎◌, ◌↔◌, IfOk, IsTrue, All, false, length};
 ghost use Rattle.std.specs.Prelude.{slice_index, slice_index_or, slice_set};
 ghost use Rattle.pd_scenario.specs.Plan.{IsPlan, script_of, force};
-ghost use Rattle.pd_run.specs.UpTo.{AgreeIn, had_by, events_in};
+ghost use Rattle.pd_run.specs.UpTo.{AgreeAs, had_by, events_in};
 ghost use Rattle.pd_run.specs.Beside.{AreBeside, HasCounts, IsApart};
 
 use crate::Plan;
@@ -12,6 +12,15 @@ use pd_scenario::BudgetChange;
 use pd_setup::Event;
 use std::alloc::{AllocError, Global};
 use std::marker::Model;
+
+/// How far two plans ask the same from one time to another: not at all, the same events of each port until the same end, or also the
+/// same of the shared budget.
+#[derive(Clone, Copy)]
+pub enum Agreement {
+    Not,
+    Scripts,
+    Both,
+}
 
 /// Two plans of N ports beside one another, gone through from time to time: how many events of each port's script have been.
 #[derive(Drop)]
@@ -65,11 +74,11 @@ impl<const N: usize> Beside<N> {
         })
     }
 
-    /// Goes on to a time. Whether both plans ask the same until then.
-    pub fn advance(&mut self, old: &Plan<N>, plan: &Plan<N>, to: u64) -> bool
+    /// Goes on to a time. How far both plans ask the same until then.
+    pub fn advance(&mut self, old: &Plan<N>, plan: &Plan<N>, to: u64) -> Agreement
         requires are { AreBeside old.now plan.now self.old }
         requires later { self.old.at ≤ to }
-        ensures agree { IsTrue result ↔ AgreeIn old.now plan.now self.old.at to }
+        ensures agree { AgreeAs result old.now plan.now self.old.at to }
         ensures are { AreBeside old.now plan.now self.new }
         ensures at { self.new.at ≡ to }
     {
@@ -77,7 +86,11 @@ impl<const N: usize> Beside<N> {
         let events_alike = self.pass_all(old, plan, to);
         let ends_alike = end_alike(old, plan, to);
         self.at = to;
-        events_alike && budget_alike && ends_alike
+        match (events_alike && ends_alike, budget_alike) {
+            (true, true) => Agreement::Both,
+            (true, false) => Agreement::Scripts,
+            (false, _) => Agreement::Not,
+        }
     }
 
     // Whether both plans have the same budget at each instant until a time.

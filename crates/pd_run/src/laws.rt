@@ -3,7 +3,7 @@
 ghost use Rattle.pd_run.specs.Laws.{OneRun, AlwaysFit, ContractsAlwaysFit};
 ghost use Rattle.pd_run.specs.Sheds.{ShedsAlwaysLast};
 ghost use Rattle.pd_run.specs.Sound.{RunsAreSound};
-ghost use Rattle.pd_run.specs.UpTo.{GoOnAlike};
+ghost use Rattle.pd_run.specs.UpTo.{GoOnAlike, AnsweredAlike};
 
 /// A plan has at most one run.
 pub fn one_run()
@@ -35,8 +35,13 @@ pub fn sound()
     ensures { RunsAreSound }
 {}
 
-/// Ports that stand alike move alike for as long as both plans ask the same of them: until then each move of the one run is a
-/// move of the other.
+/// Ports that stand alike move alike for as long as both plans have the same scripts and what they ask is answered alike: until then
+/// each move of the one run is a move of the other.
 pub fn go_on_alike()
     ensures { GoOnAlike }
+{}
+
+/// What they ask is answered alike for as long as both plans also have the same budget.
+pub fn answered_alike()
+    ensures { AnsweredAlike }
 {}

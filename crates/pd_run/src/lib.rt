@@ -9,12 +9,14 @@ mod note;
 mod plain;
 mod plan;
 mod runner;
+mod shared_budget;
 mod shared_port;
 
-pub use beside::Beside;
+pub use beside::{Agreement, Beside};
 pub use live::Live;
 pub use note::{Marks, Note};
 pub use plain::Plain;
 pub use plan::Plan;
 pub use runner::Runner;
+pub use shared_budget::SharedBudget;
 pub use shared_port::SharedPort;

@@ -289,7 +289,11 @@ impl<const N: usize> Live<N> {
 }
 
 // What each port holds, in microwatts; no less than its floor.
-fn holds_of(alloc: Global, ports: &[SharedPort], floors: &[u64]) -> Result<Vec<u64>, AllocError>
+pub(crate) fn holds_of(
+    alloc: Global,
+    ports: &[SharedPort],
+    floors: &[u64],
+) -> Result<Vec<u64>, AllocError>
     requires { length floors.now ≡ length ports.now }
     ensures count { IfOk result (λ holds. length holds.items ≡ length ports.now) }
     ensures holds { IfOk result (λ holds. (p : ℕ) → p < length ports.now

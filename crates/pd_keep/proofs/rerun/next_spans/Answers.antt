@@ -3,62 +3,62 @@ use Rattle.pd_run.specs.Live.{StandsAfter}
 use Rattle.pd_run.specs.Run.{Move}
 use Rattle.pd_keep.specs.Kept.{KeptData, move_of}
 use Rattle.pd_keep.specs.Kept.{RunData}
-use Rattle.pd_keep.specs.Rerun.{ComesTo, IsSoFar, StandsAlike, AreStanding, AreThose, Costs}
+use Rattle.pd_keep.specs.Rerun.{ComesTo, IsSoFar, IsShared, StandsAlike, AreThose, Costs}
 use Rattle.pd_keep.specs.Spans.{kept_of_spans, moves_of}
-use Rattle.pd_keep.proofs.Beside.{IsShared, comes_alike, shares, next_costs}
+use Rattle.pd_keep.proofs.Beside.{next_costs}
 use Rattle.pd_keep.proofs.Parted.{in_span, so_far_push, moves_push}
 use Rattle.pd_keep.proofs.rerun.next_spans.Goals as goal
 
-pub returns-then-stands_alike-clause-so_far : goal.returns-then-stands_alike-clause-so_far
-returns-then-stands_alike-clause-so_far g c =
+pub returns-then-shared-clause-so_far : goal.returns-then-shared-clause-so_far
+returns-then-shared-clause-so_far g c =
     let plan = c.args.plan.now in
     let old : RunData = c.args.old.now.value in
     let at = c.args.at in
     let spans : List RunData = c.args.spans.now in
-    let seen : AreStanding g.row.N c.args.standing c.deref.result.now = c.stands_alike.ensures.0 c.if-stands_alike.true in
-    let standing : AreStanding g.row.N c.args.standing old =
-    subst (λ (s : RunData). AreStanding g.row.N c.args.standing s) c.deref.ensures seen in
     let is : c.in_ok-clone.field-0.value ≡ old = c.in_ok-clone.ensures.cases in
     let pushed : c.push.new.self ≡ spans ++ old ∷ [] = c.in_ok-push.ensures ∙ ap (λ (s : RunData). spans ++ s ∷ []) is in
+    let read : c.deref.result.now ≡ old = c.deref.ensures in
     let h = c.requires.comes in
     let old_plan = h.0 in
     let old_spans : List RunData = h.1 in
     let k = h.2 in
-    let alike = comes_alike g.row.N old_plan old_spans old plan spans at c.args.agree c.args.standing k standing in
+    let there : ComesTo g.row.N old_plan old_spans c.deref.result.now plan spans at c.args.agree c.args.standing =
+    subst (λ (s : RunData). ComesTo g.row.N old_plan old_spans s plan spans at c.args.agree c.args.standing) (sym read) k in
     let shared : IsShared g.row.N old_plan old_spans old plan (moves_of spans) at =
-    shares g.row.N old_plan old_spans old plan spans at c.args.agree c.args.standing k alike (k.agrees c.if-agree.true) in
+    subst (λ (s : RunData). IsShared g.row.N old_plan old_spans s plan (moves_of spans) at) read
+    (c.in_ok-shared.ensures c.if-shared.true old_plan old_spans spans at there) in
     rw pushed (so_far_push g.row.N plan spans old at k.far k.soon shared.next)
 
-pub returns-then-stands_alike-clause-stands : goal.returns-then-stands_alike-clause-stands
-returns-then-stands_alike-clause-stands g c = λ old_plan old_spans k.
+pub returns-then-shared-clause-stands : goal.returns-then-shared-clause-stands
+returns-then-shared-clause-stands g c = λ old_plan old_spans k.
     let plan = c.args.plan.now in
     let old : RunData = c.args.old.now.value in
     let at = c.args.at in
     let spans : List RunData = c.args.spans.now in
-    let seen : AreStanding g.row.N c.args.standing c.deref.result.now = c.stands_alike.ensures.0 c.if-stands_alike.true in
-    let standing : AreStanding g.row.N c.args.standing old =
-    subst (λ (s : RunData). AreStanding g.row.N c.args.standing s) c.deref.ensures seen in
     let is : c.in_ok-clone.field-0.value ≡ old = c.in_ok-clone.ensures.cases in
     let pushed : c.push.new.self ≡ spans ++ old ∷ [] = c.in_ok-push.ensures ∙ ap (λ (s : RunData). spans ++ s ∷ []) is in
-    let alike = comes_alike g.row.N old_plan old_spans old plan spans at c.args.agree c.args.standing k standing in
+    let read : c.deref.result.now ≡ old = c.deref.ensures in
+    let there : ComesTo g.row.N old_plan old_spans c.deref.result.now plan spans at c.args.agree c.args.standing =
+    subst (λ (s : RunData). ComesTo g.row.N old_plan old_spans s plan spans at c.args.agree c.args.standing) (sym read) k in
     let shared : IsShared g.row.N old_plan old_spans old plan (moves_of spans) at =
-    shares g.row.N old_plan old_spans old plan spans at c.args.agree c.args.standing k alike (k.agrees c.if-agree.true) in
+    subst (λ (s : RunData). IsShared g.row.N old_plan old_spans s plan (moves_of spans) at) read
+    (c.in_ok-shared.ensures c.if-shared.true old_plan old_spans spans at there) in
     rw pushed (subst (λ (l : List Move). StandsAlike g.row.N old_plan old_spans plan l old.to) (sym (moves_push spans old)) shared.stands)
 
-pub returns-then-stands_alike-clause-cost : goal.returns-then-stands_alike-clause-cost
-returns-then-stands_alike-clause-cost g c = λ old_plan old_spans first k so_far.
+pub returns-then-shared-clause-cost : goal.returns-then-shared-clause-cost
+returns-then-shared-clause-cost g c = λ old_plan old_spans first k so_far.
     let plan = c.args.plan.now in
     let old : RunData = c.args.old.now.value in
     let at = c.args.at in
     let spans : List RunData = c.args.spans.now in
-    let seen : AreStanding g.row.N c.args.standing c.deref.result.now = c.stands_alike.ensures.0 c.if-stands_alike.true in
-    let standing : AreStanding g.row.N c.args.standing old =
-    subst (λ (s : RunData). AreStanding g.row.N c.args.standing s) c.deref.ensures seen in
     let is : c.in_ok-clone.field-0.value ≡ old = c.in_ok-clone.ensures.cases in
     let pushed : c.push.new.self ≡ spans ++ old ∷ [] = c.in_ok-push.ensures ∙ ap (λ (s : RunData). spans ++ s ∷ []) is in
-    let alike = comes_alike g.row.N old_plan old_spans old plan spans at c.args.agree c.args.standing k standing in
+    let read : c.deref.result.now ≡ old = c.deref.ensures in
+    let there : ComesTo g.row.N old_plan old_spans c.deref.result.now plan spans at c.args.agree c.args.standing =
+    subst (λ (s : RunData). ComesTo g.row.N old_plan old_spans s plan spans at c.args.agree c.args.standing) (sym read) k in
     let shared : IsShared g.row.N old_plan old_spans old plan (moves_of spans) at =
-    shares g.row.N old_plan old_spans old plan spans at c.args.agree c.args.standing k alike (k.agrees c.if-agree.true) in
+    subst (λ (s : RunData). IsShared g.row.N old_plan old_spans s plan (moves_of spans) at) read
+    (c.in_ok-shared.ensures c.if-shared.true old_plan old_spans spans at there) in
     let paid : Costs old_plan (moves_of old_spans) plan (map move_of old.moves) c.args.meter.now c.args.meter.now =
     (0, shared.fresh, omega arith) in
     rw pushed (next_costs old_plan (moves_of old_spans) plan spans old first c.args.meter.now c.args.meter.now so_far paid)

@@ -1,7 +1,7 @@
 use Rattle.std.proofs.Common.{◌≡◌, ◌+◌, List, None, Some, suc, slice_get, refl, arith, ap, sym, ◌∙◌, subst}
 use Rattle.std.proofs.lemmas.List.{take_all}
 use Rattle.std.proofs.lemmas.Option.{slice_get_within}
-use Rattle.pd_run.specs.UpTo.{AgreeIn}
+use Rattle.pd_run.specs.UpTo.{AgreeAs}
 use Rattle.pd_keep.specs.Kept.{RunData}
 use Rattle.pd_keep.specs.Rerun.{ComesTo}
 use Rattle.pd_keep.specs.Spans.{moves_of, end_of, begins_at}
@@ -36,7 +36,7 @@ next_spans-requires g c =
     let comes : ComesTo g.row.N old old_spans s plan spans at c.advance-agree.result c.loop-at.standing =
     comes_to g.row.N old old_spans spans s plan place at c.loop-at.beside.at c.advance-agree.result c.loop-at.standing c.requires.old
     i.so_far i.stands i.begins there (omega arith) i.now
-    (λ e. subst (λ t. AgreeIn old plan c.loop-at.beside.at t) to_is (c.advance-agree.ensures.agree.0 e)) in
+    (subst (λ t. AgreeAs c.advance-agree.result old plan c.loop-at.beside.at t) to_is c.advance-agree.ensures.agree) in
     (omega arith, (omega arith, (old, old_spans, comes)))
 
 pub loop-at-smaller : goal.loop-at-smaller
@@ -60,7 +60,7 @@ loop-at-preserved g c =
     let comes : ComesTo g.row.N old old_spans s plan spans at c.advance-agree.result c.loop-at.standing =
     comes_to g.row.N old old_spans spans s plan place at c.loop-at.beside.at c.advance-agree.result c.loop-at.standing c.requires.old
     i.so_far i.stands i.begins there (omega arith) i.now
-    (λ e. subst (λ t. AgreeIn old plan c.loop-at.beside.at t) to_is (c.advance-agree.ensures.agree.0 e)) in
+    (subst (λ t. AgreeAs c.advance-agree.result old plan c.loop-at.beside.at t) to_is c.advance-agree.ensures.agree) in
     let end_is : c.to-at.result ≡ s.to = c.to-at.ensures ∙ ap (λ (r : RunData). r.to) c.deref-in-loop-at.ensures in
     let one : suc place ≡ place + 1 = omega arith in
     let next : begins_at old_spans (place + 1) ≡ s.to = ap (begins_at old_spans) (sym one) ∙ end_next 0 old_spans place s there in

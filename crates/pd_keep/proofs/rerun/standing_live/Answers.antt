@@ -1,7 +1,8 @@
-use Rattle.std.proofs.Common.{◌≡◌, Bool, List, length, ap, sym, ◌∙◌, subst, arith}
+use Rattle.std.proofs.Common.{◌≡◌, List, length, ap, sym, ◌∙◌, subst, arith}
 use Rattle.std.proofs.lemmas.Result.{IfOk-weaker}
 use Rattle.pd_port.specs.Port.{PortData}
 use Rattle.pd_scenario.specs.Plan.{Plan}
+use Rattle.pd_run.specs.declared.beside.Agreement.{Agreement}
 use Rattle.pd_run.specs.Live.{LiveData, StandsAfter}
 use Rattle.pd_run.specs.Run.{Move}
 use Rattle.pd_run.specs.UpTo.{IsUpTo, AreAfter}
@@ -29,7 +30,7 @@ returns-in_ok-first_ports-in-Alike g c =
     let are : ports ≡ old.first = c.in_ok-first_ports-in-Alike.ensures in
     IfOk-weaker c.resume.result
     (λ (live : LiveData). (past : List Move) → IsUpTo plan past c.args.at → AreAfter plan past ports → StandsAfter plan past live)
-    (λ (live : LiveData). (old_plan : Plan) (old_spans : List RunData) (spans : List RunData) (agree : Bool)
+    (λ (live : LiveData). (old_plan : Plan) (old_spans : List RunData) (spans : List RunData) (agree : Agreement)
     → ComesTo g.row.N old_plan old_spans old plan spans c.args.at agree c.args.standing → StandsAfter plan (moves_of spans) live)
     (λ live stands old_plan old_spans spans agree h.
     let k : ComesTo g.row.N old_plan old_spans old plan spans c.args.at agree standing.Alike =
