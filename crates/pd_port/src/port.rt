@@ -14,6 +14,8 @@ use arrayvec::ArrayVec;
 use pd_header::Side;
 use pd_line::stepping::{PortParts, PortStep};
 use pd_objects::{Answer, Contract, Query};
+use pd_sink::State as SinkState;
+use pd_source::State as SourceState;
 use pd_timers::LAST_TIME;
 use std::marker::Model;
 
@@ -158,6 +160,20 @@ impl Port {
         ensures { result ≡ self.now.port_record.source.contract }
     {
         self.parts.source.contract()
+    }
+
+    /// The state that the source is in.
+    pub fn source_state(&self) -> SourceState
+        ensures { result ≡ self.now.port_record.source.state }
+    {
+        self.parts.source.state()
+    }
+
+    /// The state that the sink is in.
+    pub fn sink_state(&self) -> SinkState
+        ensures { result ≡ self.now.port_record.sink.state }
+    {
+        self.parts.sink.state()
     }
 
     /// Whether both ports' records are the same, whatever the ports are set to.

@@ -98,6 +98,13 @@ impl Sink {
         self.deadlines.first()
     }
 
+    /// The state that the engine is in.
+    pub fn state(&self) -> State
+        ensures { result ≡ self.now.state }
+    {
+        self.state
+    }
+
     /// Whether messages reach the engine.
     pub fn hears(&self) -> bool
         ensures { result ≡ hears_in self.now }

@@ -121,6 +121,13 @@ impl Source {
         self.deadlines.first()
     }
 
+    /// The state that the engine is in.
+    pub fn state(&self) -> State
+        ensures { result ≡ self.now.record.state }
+    {
+        self.state
+    }
+
     /// Whether messages reach the engine.
     pub fn hears(&self) -> bool
         ensures { result ≡ hears_in self.now.record }
