@@ -1,0 +1,92 @@
+-- Facts on a shown run that is written page by page.
+use Rattle.std.proofs.Common.{◌≡◌, ℕ, List, [], ◌∷◌, ◌++◌, Option, refl, sym, ap, ◌∙◌, append_assoc}
+use Rattle.std.specs.List.{flat_map}
+use Rattle.std.proofs.lemmas.List.{append-nil}
+use Rattle.std.proofs.lemmas.List.Concat.{flat_map-append}
+use Rattle.std.specs.Io.KnownBytes.{Appends}
+use Rattle.std.proofs.KnownBytes.{Appends-nil, Appends-trans}
+use Rattle.pd_device.specs.Device.{WrotePart}
+use Rattle.pd_device.proofs.DeviceLemmas.{WrotePart-after}
+use Rattle.pd_scenario.specs.Plan.{Plan}
+use Rattle.pd_run.specs.Run.{Move}
+use Rattle.pd_run.specs.Live.{RunsTo}
+use Rattle.pd_show.specs.declared.choice.Choice.{Choice}
+use Rattle.pd_show.specs.Lines.{Line, chosen_lines, lines_of}
+use Rattle.pd_show.specs.Pages.{PageData, last_at, text_from, written}
+use Rattle.pd_show.specs.Seen.{seen_of}
+use Rattle.pd_show.specs.Show.{Passed, show_text}
+use Rattle.pd_show.proofs.PageLemmas.{text_from-append, last_at-append}
+
+-- no move has been made
+pub runs_none : (plan : Plan) → RunsTo plan []
+runs_none plan = record { chained = tt; ordered = tt; answered = tt; timely = tt; ahead = λ p d k e. tt }
+
+-- the text of these moves is what was written and the page, which knows the time of its last line
+pub record Progress (plan : Plan) (choice : Choice) (moves : List Move) (page : PageData) (old new : Option (List ℕ)) : Type 0 where
+  pub out : List ℕ
+  pub appends : Appends old new out
+  pub text_is : show_text plan choice moves ≡ out ++ page.text
+  pub before_is : page.before ≡ last_at 0 (lines_of plan choice moves)
+
+pub progress_none : (plan : Plan) (choice : Choice) (page : PageData) (a : Option (List ℕ)) → page ≡ record { text = []; before = 0 }
+    → Progress plan choice [] page a a
+progress_none plan choice page a e = record {
+  out = [];
+  appends = Appends-nil a;
+  text_is = rw e refl;
+  before_is = rw e refl;
+}
+
+lines_push : (plan : Plan) (choice : Choice) (moves : List Move) (m : Move)
+    → lines_of plan choice (moves ++ m ∷ []) ≡ lines_of plan choice moves ++ chosen_lines choice (seen_of plan m)
+lines_push plan choice moves m =
+    flat_map-append (λ x. chosen_lines choice (seen_of plan x)) moves (m ∷ [])
+    ∙ ap (λ v. lines_of plan choice moves ++ v) (append-nil (chosen_lines choice (seen_of plan m)))
+
+-- the lines of one more move on the page
+pub progress_more : (plan : Plan) (choice : Choice) (moves : List Move) (m : Move) (page page' : PageData) (a b : Option (List ℕ)) →
+    Progress plan choice moves page a b → page' ≡ written page (chosen_lines choice (seen_of plan m))
+    → Progress plan choice (moves ++ m ∷ []) page' a b
+unfolding written
+progress_more plan choice moves m page page' a b p e =
+    let all : List Line = lines_of plan choice moves in
+    let more : List Line = chosen_lines choice (seen_of plan m) in
+    rw e (record {
+      out = p.out;
+      appends = p.appends;
+      text_is =
+          ap (text_from 0) (lines_push plan choice moves m) ∙ text_from-append 0 all more
+          ∙ ap (λ v. v ++ text_from (last_at 0 all) more) p.text_is
+          ∙ ap (λ t. (p.out ++ page.text) ++ text_from t more) (sym p.before_is)
+          ∙ append_assoc p.out page.text (text_from page.before more);
+      before_is =
+          ap (λ t. last_at t more) p.before_is ∙ sym (last_at-append 0 all more)
+          ∙ sym (ap (last_at 0) (lines_push plan choice moves m));
+    })
+
+-- some of the page is written
+pub progress_passed : (plan : Plan) (choice : Choice) (moves : List Move) (page page' : PageData) (a b c : Option (List ℕ)) →
+    Progress plan choice moves page a b → Passed b c page page' → Progress plan choice moves page' a c
+progress_passed plan choice moves page page' a b c p q = record {
+  out = p.out ++ q.out;
+  appends = Appends-trans a b c p.out q.out p.appends q.appends;
+  text_is = p.text_is ∙ ap (λ v. p.out ++ v) q.text_is ∙ sym (append_assoc p.out q.out page'.text);
+  before_is = q.before_is ∙ p.before_is;
+}
+
+-- what was written begins the text
+pub progress_part : (plan : Plan) (choice : Choice) (moves : List Move) (page : PageData) (a b : Option (List ℕ)) →
+    Progress plan choice moves page a b → WrotePart a b (show_text plan choice moves)
+progress_part plan choice moves page a b p = record { out = p.out; begins = (page.text, p.text_is); appends = p.appends }
+
+-- also where the page is written in part
+pub progress_torn : (plan : Plan) (choice : Choice) (moves : List Move) (page : PageData) (a b c : Option (List ℕ)) →
+    Progress plan choice moves page a b → WrotePart b c page.text → WrotePart a c (show_text plan choice moves)
+progress_torn plan choice moves page a b c p w = rw p.text_is (WrotePart-after a b c p.out page.text p.appends w)
+
+-- nothing is left on the page
+pub progress_all : (plan : Plan) (choice : Choice) (moves : List Move) (page : PageData) (a b : Option (List ℕ)) →
+    Progress plan choice moves page a b → page.text ≡ [] → Appends a b (show_text plan choice moves)
+progress_all plan choice moves page a b p e =
+    let whole : show_text plan choice moves ≡ p.out = p.text_is ∙ ap (λ v. p.out ++ v) e ∙ append-nil p.out in
+    rw whole p.appends

@@ -1,0 +1,5 @@
+pub mod Choices
+pub mod Lines
+pub mod Pages
+pub mod Seen
+pub mod Show

@@ -1,0 +1,13 @@
+//! A run as a transcript that an engineer reads: what fell due on each port, what went wrong, what was offered and agreed, what
+//! the port holds, the packets with their content, and the states of the engines.
+#![tactic(auto)]
+
+mod choice;
+mod faults;
+mod lines;
+mod page;
+mod seen;
+mod walk;
+
+pub use choice::Choice;
+pub use walk::show;

@@ -1,0 +1,10 @@
+//! Runs that are shown, for the scenarios of texts.
+#![tactic(auto)]
+
+mod texts;
+
+pub use pd_show::Choice;
+pub use texts::{ShowFault, show_text};
+
+#[cfg(test)]
+mod tests;

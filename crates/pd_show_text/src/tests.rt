@@ -1,0 +1,101 @@
+//! Shown runs, with texts that were put together apart, from the times of docs/FORMATS.md and the packets' durations.
+
+use crate::{Choice, ShowFault, show_text};
+use pd_device::Output;
+use std::test::Fail;
+
+const PHONE: &[u8] = b"version = 1
+end = 1000000
+budget = 60000
+[[port]]
+floor = 2500
+identity_tries = 0
+supplies = [[5000, 3000]]
+[[cable]]
+name = \"thin\"
+plug = \"none\"
+rating = 3000
+[[sink]]
+name = \"phone\"
+max = 5000
+demand = 15000
+[[event]]
+id = 1
+at = 0
+port = 1
+kind = \"attach\"
+cable = \"thin\"
+sink = \"phone\"
+";
+
+/// All that is told up to a time.
+fn up_to(to: u64) -> Choice {
+    Choice {
+        port: None,
+        from: 0,
+        to,
+        good_crc: true,
+        codes: false,
+    }
+}
+
+/// A writer into memory.
+fn page(rt: HostRuntime) -> Output<Vec<u8>> {
+    Output {
+        writer: Vec::new(rt.alloc()),
+        failures: 0,
+    }
+}
+
+const OFFERED: &[u8] = b"        0        +0 port 1 event 1 attach
+        0        +0 port 1 state PE_SRC_Startup PE_SNK_Discovery
+    50000    +50000 port 1 offer, cable 3.00 A | 5.00 V 3.00 A of 3.00 A
+    50000        +0 port 1 hold 2.5000 W to 15.0000 W
+    50000        +0 port 1 src SOP Source_Capabilities id 0 source dfp rev 3.0 | 1 fixed 5.00 V 3.00 A
+    50000        +0 port 1 state PE_SRC_Send_Capabilities PE_SNK_Wait_for_Capabilities
+    50730      +730 port 1 snk SOP GoodCRC id 0 sink ufp rev 3.0
+";
+
+#[test]
+fn an_offer(rt: HostRuntime) -> Result<(), Fail> {
+    let mut page = page(rt);
+    show_text(rt.alloc(), PHONE, &up_to(51_000), &mut page)?;
+    assert_eq!(rt; page.writer.as_slice(), OFFERED);
+    Ok(())
+}
+
+const CHOSEN: &[u8] = b"    50000    +50000 port 1 offer, cable 3.00 A | 5.00 V 3.00 A of 3.00 A
+    50000        +0 port 1 hold 2.5000 W to 15.0000 W
+    50000        +0 port 1 src SOP Source_Capabilities id 0 source dfp rev 3.0 | 1 fixed 5.00 V 3.00 A \
+: 18 18 18 11 09 16 09 09 1A 14 09 13 09 1E 1E 1E 16 1B 1C 14 1A 14 09 15 0D
+    50000        +0 port 1 state PE_SRC_Send_Capabilities PE_SNK_Wait_for_Capabilities
+";
+
+/// The codes are those of the transcript; what is before and after isn't shown, nor is the GoodCRC.
+#[test]
+fn chosen(rt: HostRuntime) -> Result<(), Fail> {
+    let mut page = page(rt);
+    let choice = Choice {
+        port: Some(1),
+        from: 50_000,
+        to: 50_730,
+        good_crc: false,
+        codes: true,
+    };
+    show_text(rt.alloc(), PHONE, &choice, &mut page)?;
+    assert_eq!(rt; page.writer.as_slice(), CHOSEN);
+    Ok(())
+}
+
+#[test]
+fn refused(rt: HostRuntime) -> Result<(), Fail> {
+    let mut page = page(rt);
+    let mut choice = up_to(1);
+    choice.port = Some(2);
+    assert_eq!(rt;
+        show_text(rt.alloc(), PHONE, &choice, &mut page),
+        Err(ShowFault::NoSuchPort)
+    );
+    assert_eq!(rt; page.writer.as_slice(), b"".as_slice());
+    Ok(())
+}
