@@ -30,6 +30,13 @@ pub fn tell_refused<E: Print>(errors: &E, file: &str, fault: ScenarioFault) -> E
     Ending::Refused
 }
 
+/// Tells that a port that was to be shown isn't there.
+pub fn tell_no_port<E: Print>(errors: &E) -> Ending {
+    let _ = errors.println("port refused 23");
+    let _ = tell_reason(&mut output(errors), 23);
+    Ending::Refused
+}
+
 /// Tells that a file can't be read.
 pub fn tell_unread<E: Print>(errors: &E, file: &str) -> Ending {
     let _ = errors.println("cannot read");

@@ -1,16 +1,19 @@
-//! The engineer's desk as a program: `pdlab live SCENARIO`, `pdlab decode [FILE]`.
+//! The engineer's desk as a program: `pdlab live SCENARIO`, `pdlab show SCENARIO` and `pdlab decode [FILE]`.
 #![tactic(auto)]
 
 mod at_keyboard;
 mod fault;
 mod log;
+mod shown;
 mod words;
 
 use at_keyboard::live;
+use clap::ArgMatches;
 use clap::error::ErrorKind;
 use fault::tell;
 use log::decode;
 use pd_device::BenchFault;
+use shown::{choice_of, shown};
 use std::alloc::{AllocError, Global};
 use std::io::IsTerminal;
 use std::process::ExitCode;
@@ -79,16 +82,32 @@ where
         Ok(matches) => matches,
         Err(error) => return answer_words(rt, errors, words, error.kind()),
     };
-    match matches.subcommand() {
-        Some(("decode", matches)) => {
-            let file = matches.get_str("FILE").unwrap_or("-");
-            decode(rt, errors, file, matches.get_flag("json"))
-        }
-        Some((_, matches)) => match matches.get_str("SCENARIO") {
-            Some(scenario) => live(rt, errors, scenario),
-            None => answer_words(rt, errors, words, ErrorKind::MissingRequiredArgument),
-        },
-        None => answer_words(rt, errors, words, ErrorKind::MissingSubcommand),
+    let Some((name, matches)) = matches.subcommand() else {
+        return answer_words(rt, errors, words, ErrorKind::MissingSubcommand);
+    };
+    if name == "decode" {
+        let file = matches.get_str("FILE").unwrap_or("-");
+        return decode(rt, errors, file, matches.get_flag("json"));
+    }
+    let Some(scenario) = matches.get_str("SCENARIO") else {
+        return answer_words(rt, errors, words, ErrorKind::MissingRequiredArgument);
+    };
+    match name {
+        "show" => show(rt, errors, scenario, matches),
+        _ => live(rt, errors, scenario),
+    }
+}
+
+/// Shows a run, by the words behind `show`.
+fn show<R: Files + Print + Alloc<A = Global>, E: Print>(
+    rt: &R,
+    errors: &E,
+    scenario: &str,
+    matches: &ArgMatches<'_>,
+) -> Ending {
+    match choice_of(matches) {
+        Ok(choice) => shown(rt, errors, scenario, &choice),
+        Err(_) => answer_words(rt, errors, &[], ErrorKind::InvalidValue),
     }
 }
 

@@ -4,7 +4,8 @@ use clap::{Arg, ArgAction, Command};
 use std::alloc::{AllocError, Global};
 
 /// What stands where the words are others.
-pub const USAGE: &str = "usage: pdlab live SCENARIO | decode [--json] [FILE] | --help";
+pub const USAGE: &str =
+    "usage: pdlab live SCENARIO | show SCENARIO [OPTIONS] | decode [--json] [FILE] | --help";
 
 /// What `--help` prints.
 pub const HELP: &str = "pdlab: the engineer's desk
@@ -12,6 +13,7 @@ pub const HELP: &str = "pdlab: the engineer's desk
 usage: pdlab COMMAND ..
 
   live SCENARIO           a session at the keyboard
+  show SCENARIO           a run as an engineer reads it, all ports in one list
   decode [--json] [FILE]  what the lines of a log say
   COMMAND --help          tells more of a command, with an example
   -h, --help              prints this
@@ -43,6 +45,29 @@ status: 0 the lines were answered to their end, 1 the scenario is refused,
         3 a file can't be read, or a fault
 ";
 
+/// What `show --help` prints.
+pub const SHOW_HELP: &str = "pdlab show: a run as an engineer reads it
+
+usage: pdlab show SCENARIO [OPTIONS]
+
+Shows the run of the charger of the file SCENARIO, a line for each thing that is
+told, in the order of time: events, faults, what is asked of the shared budget and
+answered, contracts, holds, packets with their content, and the states of source
+and sink. Each line begins with its time and the time since the line before, in
+microseconds.
+
+  --port P       of this port alone; ports are numbered from 1
+  --from T       from this time on, in microseconds
+  --to T         up to this time
+  --no-goodcrc   without the GoodCRC messages
+  --codes        packets with the codes on the line
+
+example: pdlab show --no-goodcrc --port 1 examples/charger_65w.toml
+
+status: 0 the run was shown, 1 the scenario is refused, or has no such port,
+        2 the words are others, 3 a file can't be read, or a fault
+";
+
 /// What `decode --help` prints.
 pub const DECODE_HELP: &str = "pdlab decode: what the lines of a log say
 
@@ -71,27 +96,43 @@ status: 0 each line was read, 1 a line has a fault or is of unknown form,
         3 the file can't be read, or a fault
 ";
 
-/// `pdlab live SCENARIO`.
-fn live<'a>(alloc: Global) -> Result<Command<'a>, AllocError> {
-    let scenario = Arg::new(alloc, "SCENARIO")
+/// `SCENARIO`, a word that stands behind a command.
+fn scenario<'a>(alloc: Global) -> Arg<'a> {
+    Arg::new(alloc, "SCENARIO")
         .required(true)
-        .action(ArgAction::Set);
-    Command::new(alloc, "live").arg(scenario)
+        .action(ArgAction::Set)
+}
+
+/// An option that is a word behind two dashes.
+fn option<'a>(alloc: Global, name: &'a str, action: ArgAction) -> Arg<'a> {
+    Arg::new(alloc, name).long(name).action(action)
+}
+
+/// `pdlab show SCENARIO`, with its options.
+fn show<'a>(alloc: Global) -> Result<Command<'a>, AllocError> {
+    Command::new(alloc, "show")
+        .arg(scenario(alloc))?
+        .arg(option(alloc, "port", ArgAction::Set))?
+        .arg(option(alloc, "from", ArgAction::Set))?
+        .arg(option(alloc, "to", ArgAction::Set))?
+        .arg(option(alloc, "no-goodcrc", ArgAction::SetTrue))?
+        .arg(option(alloc, "codes", ArgAction::SetTrue))
 }
 
 /// `pdlab decode [--json] [FILE]`.
 fn decode<'a>(alloc: Global) -> Result<Command<'a>, AllocError> {
-    let json = Arg::new(alloc, "json")
-        .long("json")
-        .action(ArgAction::SetTrue);
     let file = Arg::new(alloc, "FILE").action(ArgAction::Set);
-    Command::new(alloc, "decode").arg(json)?.arg(file)
+    Command::new(alloc, "decode")
+        .arg(option(alloc, "json", ArgAction::SetTrue))?
+        .arg(file)
 }
 
 /// The words of the command line.
 pub fn command<'a>(alloc: Global) -> Result<Command<'a>, AllocError> {
+    let live = Command::new(alloc, "live").arg(scenario(alloc))?;
     Command::new(alloc, "pdlab")
-        .subcommand(live(alloc)?)?
+        .subcommand(live)?
+        .subcommand(show(alloc)?)?
         .subcommand(decode(alloc)?)
 }
 
@@ -99,6 +140,7 @@ pub fn command<'a>(alloc: Global) -> Result<Command<'a>, AllocError> {
 pub fn help_of(word: &str) -> &'static str {
     match word {
         "live" => LIVE_HELP,
+        "show" => SHOW_HELP,
         "decode" => DECODE_HELP,
         _ => HELP,
     }
