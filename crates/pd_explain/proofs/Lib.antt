@@ -1,0 +1,5 @@
+mod CutLines
+mod Least
+mod ScriptLines
+mod WhereBroken
+mod WordCounts

@@ -1,0 +1,76 @@
+-- What is said of the refused lines of an edit script: this product's own form, docs/FORMATS.md, "Reasons". The answers to
+-- lines are those of Session.antt of pd_bench.
+use Rattle.std.specs.Prelude.{ℕ, ◌+◌, not, List, [], ◌∷◌, ◌++◌, codes, decimal, Result, Ok, Err, if◌then◌else◌}
+use Rattle.std.specs.List.{flat_map}
+use Rattle.pd_scenario.specs.Scenarios.{ScenarioData}
+use Rattle.pd_scenario.specs.Limits.{is_port}
+use Rattle.pd_edit_lines.specs.Grammar.{line_of}
+use Rattle.pd_edit_lines.specs.Numbers.{number_of}
+use Rattle.pd_edit_lines.specs.declared.fault.EditFault.{EditFault}
+use Rattle.pd_edit_lines.specs.declared.fault.EditFault.TheVariants.{NoSuchPort}
+use Rattle.pd_edit_lines.specs.declared.edit.Edit.{Edit}
+use Rattle.pd_edit_lines.specs.declared.line.Line.{Line}
+use Rattle.pd_edit_lines.specs.declared.line.Line.TheVariants as line_read
+use Rattle.pd_edit_lines.specs.declared.line.Show.{Show}
+use Rattle.pd_edit_lines.specs.declared.line.Show.TheVariants.{Transcript, Contracts, Faults, Margins}
+use Rattle.pd_edit.specs.Refusals.{edited}
+use Rattle.pd_explain.specs.declared.place.Place.{Place}
+use Rattle.pd_explain.specs.declared.place.Place.TheVariants as place
+use Rattle.pd_explain.specs.Places.{causes}
+use Rattle.pd_explain.specs.Sentences.{sentence}
+use Rattle.pd_explain.specs.Stops.{syntax_text}
+
+-- where a line stands: the file's name and the line's number, from 1
+abbrev pub at_line : List ℕ → ℕ → List ℕ
+at_line name number = name ++ 58 ∷ (decimal number ++ codes ": ")
+
+-- that, and the number of the refusal
+abbrev pub front_text : List ℕ → ℕ → List ℕ
+front_text at refusal = at ++ (codes "refused " ++ (decimal refusal ++ codes ": "))
+
+-- a sentence that says why the line is refused
+unfoldable pub reason_line : List ℕ → ℕ → List ℕ → List ℕ
+reason_line at refusal text = front_text at refusal ++ (text ++ 10 ∷ [])
+
+-- a line for each of the places
+abbrev pub places_text : ℕ → List ℕ → ℕ → ScenarioData → List Place → List ℕ
+places_text refusal at n c places = flat_map (λ place. reason_line at refusal (sentence n c place)) places
+
+-- an edit that is made needs no words
+abbrev pub edit_text : List ℕ → ℕ → ScenarioData → Edit → Result ScenarioData EditFault → List ℕ
+edit_text at n c edit (Ok after) = []
+edit_text at n c edit (Err fault) = places_text (number_of fault) at n c (causes fault n c edit)
+
+-- a show is refused for its port alone
+abbrev pub show_text : List ℕ → ℕ → ScenarioData → Show → List ℕ
+show_text at n c (Transcript port) =
+    if is_port n port then [] else places_text (number_of NoSuchPort) at n c (place.Port port ∷ [])
+show_text at n c _ = []
+
+abbrev pub read_text : List ℕ → ℕ → ScenarioData → List ℕ → Result Line EditFault → List ℕ
+read_text at n c line (Ok line_read.Skip) = []
+read_text at n c line (Ok (line_read.Edit edit)) = edit_text at n c edit (edited n c edit)
+read_text at n c line (Ok (line_read.Show show)) = show_text at n c show
+read_text at n c line (Err fault) = reason_line at (number_of fault) (syntax_text line)
+
+-- why a line is refused
+unfoldable pub line_text : List ℕ → ℕ → ScenarioData → List ℕ → List ℕ
+line_text at n c line = read_text at n c line (line_of line)
+
+-- the scenario after a line
+abbrev pub kept_or : ScenarioData → Result ScenarioData EditFault → ScenarioData
+kept_or c (Ok after) = after
+kept_or c (Err fault) = c
+
+abbrev pub after_read : ℕ → ScenarioData → Result Line EditFault → ScenarioData
+after_read n c (Ok (line_read.Edit edit)) = kept_or c (edited n c edit)
+after_read n c _ = c
+
+unfoldable pub after_line : ℕ → ScenarioData → List ℕ → ScenarioData
+after_line n c line = after_read n c (line_of line)
+
+-- why lines of a script are refused, each against the scenario as edited by then; the first has this number
+unfoldable pub script_text : List ℕ → ℕ → ScenarioData → ℕ → List (List ℕ) → List ℕ
+script_text name n c number [] = []
+script_text name n c number (line ∷ lines) =
+    line_text (at_line name number) n c line ++ script_text name n (after_line n c line) (number + 1) lines

@@ -1,0 +1,187 @@
+//! Why lines of an edit script are refused.
+
+ghost use Rattle.std.specs.Prelude.{◌≡◌, ◌++◌, OnOk, IfOk};
+ghost use Rattle.std.specs.Str.Lines.{lines};
+ghost use Rattle.pd_edit_lines.specs.Numbers.{number_of};
+ghost use Rattle.pd_edit.specs.Refusals.{edited};
+ghost use Rattle.pd_explain.specs.Sentences.{sentence};
+ghost use Rattle.pd_explain.specs.Stops.{syntax_text};
+ghost use Rattle.pd_explain.specs.Script.{at_line, reason_line, places_text, edit_text, show_text, kept_or, line_text, after_line};
+ghost use Rattle.pd_explain.specs.Script.{script_text, front_text};
+
+use crate::broken::is_port;
+use crate::lines::first_line;
+use crate::texts::push_number;
+use crate::{Place, causes, push_sentence, push_syntax};
+use pd_edit::apply;
+use pd_edit_lines::{Edit, EditFault, Line, Show};
+use pd_scenario::Scenario;
+use std::alloc::{AllocError, Global};
+
+/// Writes where a line stands and the number of its refusal.
+fn push_front(text: &mut Vec<u8>, at: &[u8], fault: EditFault) -> Result<(), AllocError>
+    ensures { OnOk result (text.new.items ≡ text.old.items ++ front_text at.now (number_of fault)) }
+{
+    text.extend_from_slice(at)?;
+    text.extend_from_slice(b"refused ")?;
+    push_number(text, u64::from(fault.number()))?;
+    text.extend_from_slice(b": ")
+}
+
+/// Writes a line for a place.
+#[tactic(auto, unfolding(crate::specs::Script::reason_line))]
+fn push_place<const N: usize>(
+    text: &mut Vec<u8>,
+    at: &[u8],
+    fault: EditFault,
+    scenario: &Scenario<N>,
+    place: &Place,
+) -> Result<(), AllocError>
+    ensures { OnOk result (text.new.items ≡ text.old.items ++ reason_line at.now (number_of fault) (sentence N scenario.now place.now)) }
+{
+    push_front(text, at, fault)?;
+    push_sentence(text, scenario, place)?;
+    text.push(b'\n')?;
+    Ok(())
+}
+
+/// Writes a line for each place.
+fn push_places<const N: usize>(
+    text: &mut Vec<u8>,
+    at: &[u8],
+    fault: EditFault,
+    scenario: &Scenario<N>,
+    places: &[Place],
+) -> Result<(), AllocError>
+    ensures { OnOk result (text.new.items ≡ text.old.items ++ places_text (number_of fault) at.now N scenario.now places.now) }
+{
+    for place in places {
+        push_place(text, at, fault, scenario, place)?;
+    }
+    Ok(())
+}
+
+/// Writes why a line is none of an edit script.
+#[tactic(auto, unfolding(crate::specs::Script::reason_line))]
+fn push_no_line(
+    text: &mut Vec<u8>,
+    at: &[u8],
+    fault: EditFault,
+    line: &[u8],
+) -> Result<(), AllocError>
+    ensures { OnOk result (text.new.items ≡ text.old.items ++ reason_line at.now (number_of fault) (syntax_text line.now)) }
+{
+    push_front(text, at, fault)?;
+    push_syntax(text, line)?;
+    text.push(b'\n')?;
+    Ok(())
+}
+
+/// Writes why a show is refused.
+fn push_show<const N: usize>(
+    text: &mut Vec<u8>,
+    at: &[u8],
+    scenario: &Scenario<N>,
+    show: Show,
+) -> Result<(), AllocError>
+    ensures { OnOk result (text.new.items ≡ text.old.items ++ show_text at.now N scenario.now show) }
+{
+    match show {
+        Show::Transcript { port } if !is_port(N, port) => {
+            push_place(
+                text,
+                at,
+                EditFault::NoSuchPort,
+                scenario,
+                &Place::Port { port },
+            )
+        }
+        _ => Ok(()),
+    }
+}
+
+/// Makes an edit, or writes why it is refused.
+fn push_edit<const N: usize>(
+    alloc: Global,
+    text: &mut Vec<u8>,
+    at: &[u8],
+    scenario: &mut Scenario<N>,
+    edit: &Edit,
+) -> Result<(), AllocError>
+    ensures text { OnOk result (text.new.items
+        ≡ text.old.items ++ edit_text at.now N scenario.old edit.now (edited N scenario.old edit.now)) }
+    ensures after { OnOk result (scenario.new ≡ kept_or scenario.old (edited N scenario.old edit.now)) }
+{
+    match apply(alloc, scenario, edit) {
+        Ok(after) => {
+            *scenario = after;
+            Ok(())
+        }
+        Err(EditFault::Memory) => Err(AllocError),
+        Err(fault) => {
+            let places = causes(alloc, fault, scenario, edit)?;
+            push_places(text, at, fault, scenario, places.as_slice())
+        }
+    }
+}
+
+/// Takes in a line, and writes why it is refused, where it is: a line for each place.
+///
+/// # Errors
+/// There is no memory for it; some of it may stand in the text.
+#[tactic(auto, unfolding(crate::specs::Script::line_text, crate::specs::Script::after_line))]
+pub fn explain_line<const N: usize>(
+    alloc: Global,
+    text: &mut Vec<u8>,
+    at: &[u8],
+    scenario: &mut Scenario<N>,
+    line: &[u8],
+) -> Result<(), AllocError>
+    ensures text { OnOk result (text.new.items ≡ text.old.items ++ line_text at.now N scenario.old line.now) }
+    ensures after { OnOk result (scenario.new ≡ after_line N scenario.old line.now) }
+{
+    match Line::read(line) {
+        Ok(Line::Skip) => Ok(()),
+        Ok(Line::Edit(edit)) => push_edit(alloc, text, at, scenario, &edit),
+        Ok(Line::Show(show)) => push_show(text, at, scenario, show),
+        Err(fault) => push_no_line(text, at, fault, line),
+    }
+}
+
+/// Where a line stands.
+fn at_line(alloc: Global, name: &[u8], number: u64) -> Result<Vec<u8>, AllocError>
+    ensures { IfOk result (λ v. v.items ≡ at_line name.now number) }
+{
+    let mut at = Vec::new(alloc);
+    at.extend_from_slice(name)?;
+    at.push(b':')?;
+    push_number(&mut at, number)?;
+    at.extend_from_slice(b": ")?;
+    Ok(at)
+}
+
+/// Why lines of an edit script are refused, each against the scenario as edited by then: a line for each place that breaks
+/// the rule, behind the file's name and the line's number.
+///
+/// # Errors
+/// There is no memory for it.
+pub fn explain_script<const N: usize>(
+    alloc: Global,
+    scenario: Scenario<N>,
+    name: &[u8],
+    script: &[u8],
+) -> Result<Vec<u8>, AllocError>
+    ensures { IfOk result (λ v. v.items ≡ script_text name.now N scenario.entry 1 (lines script.now)) }
+{
+    let mut text = Vec::new(alloc);
+    let mut scenario = scenario;
+    let mut rest = script;
+    let mut number = 1;
+    while let Some((line, others)) = first_line(rest) {
+        let at = at_line(alloc, name, number)?;
+        explain_line(alloc, &mut text, at.as_slice(), &mut scenario, line)?;
+        rest = others;
+        number += 1;
+    }
+    Ok(text)
+}
