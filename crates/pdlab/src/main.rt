@@ -1,7 +1,8 @@
-//! The engineer's desk as a program: `pdlab live SCENARIO`, `pdlab show SCENARIO` and `pdlab decode [FILE]`.
+//! The engineer's desk as a program: `pdlab live`, `pdlab show`, `pdlab explain` and `pdlab decode`.
 #![tactic(auto)]
 
 mod at_keyboard;
+mod explained;
 mod fault;
 mod log;
 mod shown;
@@ -10,6 +11,7 @@ mod words;
 use at_keyboard::live;
 use clap::ArgMatches;
 use clap::error::ErrorKind;
+use explained::explained;
 use fault::tell;
 use log::decode;
 use pd_device::BenchFault;
@@ -94,6 +96,7 @@ where
     };
     match name {
         "show" => show(rt, errors, scenario, matches),
+        "explain" => explained(rt, errors, scenario, matches.get_str("EDITS")),
         _ => live(rt, errors, scenario),
     }
 }

@@ -5,18 +5,19 @@ use std::alloc::{AllocError, Global};
 
 /// What stands where the words are others.
 pub const USAGE: &str =
-    "usage: pdlab live SCENARIO | show SCENARIO [OPTIONS] | decode [--json] [FILE] | --help";
+    "usage: pdlab live SCENARIO | show SCENARIO [OPTIONS] | explain SCENARIO [EDITS] | decode [--json] [FILE] | --help";
 
 /// What `--help` prints.
 pub const HELP: &str = "pdlab: the engineer's desk
 
 usage: pdlab COMMAND ..
 
-  live SCENARIO           a session at the keyboard
-  show SCENARIO           a run as an engineer reads it, all ports in one list
-  decode [--json] [FILE]  what the lines of a log say
-  COMMAND --help          tells more of a command, with an example
-  -h, --help              prints this
+  live SCENARIO             a session at the keyboard
+  show SCENARIO             a run as an engineer reads it, all ports in one list
+  explain SCENARIO [EDITS]  why lines of an edit script are refused
+  decode [--json] [FILE]    what the lines of a log say
+  COMMAND --help            tells more of a command, with an example
+  -h, --help                prints this
 
 status: 0 all is well, 1 the input is refused, 2 the words are others,
         3 a file can't be read, or a fault
@@ -66,6 +67,28 @@ example: pdlab show --no-goodcrc --port 1 examples/charger_65w.toml
 
 status: 0 the run was shown, 1 the scenario is refused, or has no such port,
         2 the words are others, 3 a file can't be read, or a fault
+";
+
+/// What `explain --help` prints.
+pub const EXPLAIN_HELP: &str = "pdlab explain: why lines of an edit script are refused
+
+usage: pdlab explain SCENARIO [EDITS]
+
+Goes through the edit script EDITS, or standard input where it is -, against the
+charger of the file SCENARIO, and tells of each line that pdbench would refuse
+where it breaks the rule and what would be right there: a line for each place,
+behind the script's name and the number of its line. A line is held against the
+scenario as the lines before it left it. Nothing is run. Without EDITS it tells
+whether SCENARIO is refused.
+
+Numbers are those of pdbench: times in microseconds, voltages in mV, currents in
+mA, powers in mW.
+
+example: pdlab explain examples/derating.toml derating.edits
+  derating.edits:4: refused 24: no cable is named `thick`; there are thin, c5
+
+status: 0 no line is refused, 1 a line or the scenario is refused,
+        3 a file can't be read, or a fault
 ";
 
 /// What `decode --help` prints.
@@ -119,6 +142,14 @@ fn show<'a>(alloc: Global) -> Result<Command<'a>, AllocError> {
         .arg(option(alloc, "codes", ArgAction::SetTrue))
 }
 
+/// `pdlab explain SCENARIO [EDITS]`.
+fn explain<'a>(alloc: Global) -> Result<Command<'a>, AllocError> {
+    let edits = Arg::new(alloc, "EDITS").action(ArgAction::Set);
+    Command::new(alloc, "explain")
+        .arg(scenario(alloc))?
+        .arg(edits)
+}
+
 /// `pdlab decode [--json] [FILE]`.
 fn decode<'a>(alloc: Global) -> Result<Command<'a>, AllocError> {
     let file = Arg::new(alloc, "FILE").action(ArgAction::Set);
@@ -133,6 +164,7 @@ pub fn command<'a>(alloc: Global) -> Result<Command<'a>, AllocError> {
     Command::new(alloc, "pdlab")
         .subcommand(live)?
         .subcommand(show(alloc)?)?
+        .subcommand(explain(alloc)?)?
         .subcommand(decode(alloc)?)
 }
 
@@ -141,6 +173,7 @@ pub fn help_of(word: &str) -> &'static str {
     match word {
         "live" => LIVE_HELP,
         "show" => SHOW_HELP,
+        "explain" => EXPLAIN_HELP,
         "decode" => DECODE_HELP,
         _ => HELP,
     }
