@@ -101,7 +101,8 @@ pub fn event_at(version: Version, table: &Table) -> EventName
     event_named(version, word_at(table, Key::Kind))
 }
 
-fn has_key(rules: &[Rule], key: &str) -> bool
+/// Whether a rule has a key.
+pub fn has_key(rules: &[Rule], key: &str) -> bool
     ensures { result ≡ has_key rules.now key.now }
 {
     rules.iter().any(|rule| key == rule.key.text())
@@ -113,6 +114,7 @@ pub fn has_unknown_key(rules: &[Rule], table: &Table) -> bool
     table.keys().any(|key| !has_key(rules, key.as_str()))
 }
 
+/// Whether nothing may stand for a key that is absent.
 pub fn is_required(need: Need) -> bool
     ensures { result ≡ is_required need }
 {
