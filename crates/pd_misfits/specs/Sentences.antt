@@ -1,0 +1,91 @@
+-- What is said of a key of a scenario file at which a rule is broken: this product's own form, docs/FORMATS.md, "Reasons".
+use Rattle.std.specs.Prelude.{ℕ, true, false, nat_le, ◌&&◌, List, [], ◌∷◌, ◌++◌, map, codes, decimal, if◌then◌else◌}
+use Rattle.std.specs.Fmt.{signed_decimal}
+use Rattle.toml.specs.Data.{Data, string, integer, float, boolean, datetime, array, table}
+use Rattle.pd_scenario.specs.Limits.{Range, between, stepped, range_of}
+use Rattle.pd_scenario_tables.specs.declared.schema.Key.{Key}
+use Rattle.pd_scenario_tables.specs.declared.schema.Form.{Form}
+use Rattle.pd_scenario_tables.specs.declared.schema.Form.TheVariants.{Number, VersionNumber, PortNumber, RatingNumber, RevisionNumber, Name}
+use Rattle.pd_scenario_tables.specs.declared.schema.Form.TheVariants.{PlugWord, ModeWord, EventWord, Truth, Supplies, Tables}
+use Rattle.pd_scenario_tables.specs.declared.fault.ScenarioFault.{ScenarioFault}
+use Rattle.pd_scenario_tables.specs.declared.fault.ScenarioFault.TheVariants as fault
+use Rattle.pd_scenario_tables.specs.Schema.{text_of}
+
+-- ---- what stands there
+
+-- a byte as it is shown: what is no printable ASCII character is a question mark
+abbrev pub printable : ℕ → ℕ
+printable byte = if nat_le 32 byte && nat_le byte 126 then byte else 63
+
+unfoldable pub quoted : List ℕ → List ℕ
+quoted word = 96 ∷ (map printable word ++ 96 ∷ [])
+
+abbrev pub value_text : Data → List ℕ
+value_text (string s) = quoted s
+value_text (integer z) = signed_decimal z
+value_text (float x) = codes "a fraction"
+value_text (boolean true) = codes "true"
+value_text (boolean false) = codes "false"
+value_text (datetime dt) = codes "a date or a time"
+value_text (array ds) = codes "a list"
+value_text (table ms) = codes "a table"
+
+-- ---- what is wanted there
+
+abbrev pub type_text : Form → List ℕ
+type_text (Number quantity) = codes "a whole number"
+type_text VersionNumber = codes "a whole number"
+type_text PortNumber = codes "a whole number"
+type_text RatingNumber = codes "a whole number"
+type_text RevisionNumber = codes "a whole number"
+type_text Name = codes "a text"
+type_text PlugWord = codes "a text"
+type_text ModeWord = codes "a text"
+type_text EventWord = codes "a text"
+type_text Truth = codes "true or false"
+type_text Supplies = codes "a list of pairs of whole numbers"
+type_text Tables = codes "a list of tables, each under its name in double brackets"
+
+unfoldable pub from_to : ℕ → ℕ → List ℕ
+from_to low high = decimal low ++ (codes " to " ++ decimal high)
+
+unfoldable pub in_steps : ℕ → ℕ → ℕ → List ℕ
+in_steps low high step = from_to low high ++ (codes " in steps of " ++ decimal step)
+
+abbrev pub within_text : Range → List ℕ
+within_text (between low high) = from_to low high
+within_text (stepped low high step) = in_steps low high step
+
+abbrev pub range_text : ℕ → Form → List ℕ
+range_text ports (Number quantity) = within_text (range_of quantity)
+range_text ports VersionNumber = codes "1 or 2"
+range_text ports PortNumber = from_to 1 ports
+range_text ports RatingNumber = codes "3000 or 5000"
+range_text ports RevisionNumber = codes "2 or 3"
+range_text ports PlugWord = codes "one of none, ack, nak, busy, silent, drop"
+range_text ports ModeWord = codes "one of pd, plain, greedy"
+range_text ports EventWord = codes "one of attach, detach, demand, lose, damage, get_source, get_sink, and under version 2 budget"
+range_text ports Supplies = codes "pairs of a voltage of 5000 to 20000 in steps of 50 and a current of 10 to 5000 in steps of 10"
+range_text ports Name = []
+range_text ports Truth = []
+range_text ports Tables = []
+
+-- what the rule of a refusal wants of a value of a form
+abbrev pub wanted_text : ScenarioFault → ℕ → Form → List ℕ
+wanted_text fault.WrongType ports form = type_text form
+wanted_text fault.Range ports form = range_text ports form
+wanted_text fault.Name ports form = codes "1 to 16 letters and digits"
+wanted_text fault.Supplies ports form = codes "1 to 7 pairs, the first of 5000 mV, each voltage above the one before"
+wanted_text _ ports form = []
+
+-- ---- the sentences
+
+unfoldable pub value_sentence : ScenarioFault → ℕ → Key → Form → Data → List ℕ
+value_sentence refusal ports k form d =
+    quoted (text_of k) ++ (codes " is " ++ (value_text d ++ (codes ", not " ++ wanted_text refusal ports form)))
+
+unfoldable pub missing_sentence : Key → List ℕ
+missing_sentence k = quoted (text_of k) ++ codes " is missing"
+
+unfoldable pub unknown_sentence : List ℕ → List ℕ
+unknown_sentence word = quoted word ++ codes " is no key of this table; there are"

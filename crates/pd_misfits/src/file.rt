@@ -1,0 +1,142 @@
+//! Where a file breaks the rule of a refusal.
+
+ghost use Rattle.std.specs.Prelude.{◌≡◌, ◌++◌, ◌+◌, ◌<◌, ◌^◌, OnOk, IfOk, length};
+ghost use Rattle.toml.specs.View.{table_view};
+ghost use Rattle.pd_scenario_tables.specs.Seen.{views};
+ghost use Rattle.pd_scenario_text.specs.FileTables.{tables_of};
+ghost use Rattle.pd_misfits.specs.Lines.{file_front, table_front, list_text, events_text, file_text};
+
+use crate::table::{Refused, push_table};
+use crate::values::push_number;
+use pd_scenario_tables::{Key, ScenarioFault, TableKind, event_at, tables_at, version_at};
+use std::alloc::{AllocError, Global};
+use toml::Table;
+
+/// What stands before the sentence on each line of a table of a list.
+#[tactic(auto, unfolding(crate::specs::Lines::table_front))]
+fn table_front(alloc: Global, front: &[u8], word: &str, number: u64) -> Result<Vec<u8>, AllocError>
+    ensures { IfOk result (λ v. v.items ≡ table_front front.now word.now number) }
+{
+    let mut text = Vec::new(alloc);
+    text.extend_from_slice(front)?;
+    text.extend_from_slice(word.as_bytes())?;
+    text.push(b' ')?;
+    push_number(&mut text, number)?;
+    text.extend_from_slice(b": ")?;
+    Ok(text)
+}
+
+/// Writes where the tables of a kind break the rule of a refusal.
+fn push_list(
+    alloc: Global,
+    text: &mut Vec<u8>,
+    front: &[u8],
+    word: &str,
+    refused: Refused,
+    kind: TableKind,
+    tables: &[&Table],
+) -> Result<(), AllocError>
+    ensures { OnOk result (text.new.items ≡ text.old.items
+        ++ list_text front.now word.now refused.fault refused.version refused.ports kind 1 (views tables.now)) }
+{
+    let mut number = 1;
+    for table in tables {
+        let own = table_front(alloc, front, word, number)?;
+        push_table(text, own.as_slice(), refused, kind, table)?;
+        number += 1;
+    }
+    Ok(())
+}
+
+/// Writes where the events break the rule of a refusal.
+fn push_events(
+    alloc: Global,
+    text: &mut Vec<u8>,
+    front: &[u8],
+    refused: Refused,
+    tables: &[&Table],
+) -> Result<(), AllocError>
+    ensures { OnOk result (text.new.items
+        ≡ text.old.items ++ events_text front.now refused.fault refused.version refused.ports 1 (views tables.now)) }
+{
+    let mut number = 1;
+    for table in tables {
+        let own = table_front(alloc, front, "event", number)?;
+        let kind = TableKind::Event(event_at(refused.version, table));
+        push_table(text, own.as_slice(), refused, kind, table)?;
+        number += 1;
+    }
+    Ok(())
+}
+
+/// What stands before each line of a file.
+#[tactic(auto, unfolding(crate::specs::Lines::file_front))]
+fn file_front(alloc: Global, name: &[u8], fault: ScenarioFault) -> Result<Vec<u8>, AllocError>
+    ensures { IfOk result (λ v. v.items ≡ file_front name.now fault) }
+{
+    let mut text = Vec::new(alloc);
+    text.extend_from_slice(name)?;
+    text.extend_from_slice(b": refused ")?;
+    push_number(&mut text, u64::from(fault.number()))?;
+    text.extend_from_slice(b": ")?;
+    Ok(text)
+}
+
+/// A line for each place at which the tables of a scenario file break the rule of a refusal, with what stands there and what
+/// is wanted: unknown and missing keys, types, ranges, names, and supplies; none for any other refusal. Each table is told
+/// by its place among those of its kind, from 1.
+///
+/// # Errors
+/// There is no memory.
+#[tactic(auto, unfolding(crate::specs::Lines::tables_text))]
+pub fn explain_tables(
+    alloc: Global,
+    name: &[u8],
+    fault: ScenarioFault,
+    top: &Table,
+) -> Result<Vec<u8>, AllocError>
+    ensures { IfOk result (λ v. v.items ≡ file_text name.now fault (tables_of (table_view top.now))) }
+{
+    let front = file_front(alloc, name, fault)?;
+    let front = front.as_slice();
+    let ports = tables_at(alloc, top, Key::Port)?;
+    let cables = tables_at(alloc, top, Key::Cable)?;
+    let sinks = tables_at(alloc, top, Key::Sink)?;
+    let events = tables_at(alloc, top, Key::Event)?;
+    let refused = Refused {
+        fault,
+        version: version_at(top),
+        ports: ports.len() as u64,
+    };
+    let mut text = Vec::new(alloc);
+    push_table(&mut text, front, refused, TableKind::Top, top)?;
+    push_list(
+        alloc,
+        &mut text,
+        front,
+        "port",
+        refused,
+        TableKind::Port,
+        &ports,
+    )?;
+    push_list(
+        alloc,
+        &mut text,
+        front,
+        "cable",
+        refused,
+        TableKind::Cable,
+        &cables,
+    )?;
+    push_list(
+        alloc,
+        &mut text,
+        front,
+        "sink",
+        refused,
+        TableKind::Sink,
+        &sinks,
+    )?;
+    push_events(alloc, &mut text, front, refused, &events)?;
+    Ok(text)
+}

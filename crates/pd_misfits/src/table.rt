@@ -1,0 +1,236 @@
+//! Where one table breaks the rule of a refusal.
+
+ghost use Rattle.std.specs.Prelude.{◌≡◌, ◌++◌, OnOk};
+ghost use Rattle.std.specs.List.{flat_map};
+ghost use Rattle.toml.specs.View.{view, table_view};
+ghost use Rattle.pd_scenario_tables.specs.Schema.{text_of, rules_of};
+ghost use Rattle.pd_scenario_tables.specs.Tables.{value_at, keys_of};
+ghost use Rattle.pd_misfits.specs.Sentences.{value_sentence, missing_sentence, unknown_sentence};
+ghost use Rattle.pd_misfits.specs.Lines.{line, value_part, missing_part, rule_part, key_word, unknown_line, key_part, table_text};
+
+use crate::values::{push_quoted, push_value};
+use crate::wanted::push_wanted;
+use pd_scenario_tables::{
+    Form, Key, Rule, ScenarioFault, TableKind, Version, has_key, is_required, passes, rules_of,
+    value_at,
+};
+use std::alloc::AllocError;
+use toml::{Table, Value};
+
+/// A refusal, in a file of a version for so many ports.
+#[derive(Clone, Copy)]
+pub struct Refused {
+    pub fault: ScenarioFault,
+    pub version: Version,
+    pub ports: u64,
+}
+
+/// Writes what stands at a key, and what is wanted there.
+#[tactic(auto, unfolding(crate::specs::Sentences::value_sentence))]
+fn push_value_sentence(
+    text: &mut Vec<u8>,
+    refused: Refused,
+    rule: &Rule,
+    value: &Value,
+) -> Result<(), AllocError>
+    ensures { OnOk result (text.new.items
+        ≡ text.old.items ++ value_sentence refused.fault refused.ports rule.now.key rule.now.form (view value.now)) }
+{
+    push_quoted(text, rule.key.text().as_bytes())?;
+    text.extend_from_slice(b" is ")?;
+    push_value(text, value)?;
+    text.extend_from_slice(b", not ")?;
+    push_wanted(text, refused.fault, refused.ports, rule.form)
+}
+
+#[tactic(auto, unfolding(crate::specs::Lines::line))]
+fn push_value_line(
+    text: &mut Vec<u8>,
+    front: &[u8],
+    refused: Refused,
+    rule: &Rule,
+    value: &Value,
+) -> Result<(), AllocError>
+    ensures { OnOk result (text.new.items
+        ≡ text.old.items ++ line front.now (value_sentence refused.fault refused.ports rule.now.key rule.now.form (view value.now))) }
+{
+    text.extend_from_slice(front)?;
+    push_value_sentence(text, refused, rule, value)?;
+    text.push(b'\n')?;
+    Ok(())
+}
+
+/// Writes a line where what stands at a rule's key is a value to which the refusal applies.
+fn push_value_part(
+    text: &mut Vec<u8>,
+    front: &[u8],
+    refused: Refused,
+    table: &Table,
+    rule: &Rule,
+) -> Result<(), AllocError>
+    ensures { OnOk result (text.new.items ≡ text.old.items
+        ++ value_part front.now refused.fault refused.version refused.ports rule.now (value_at rule.now.key (table_view table.now))) }
+{
+    match value_at(table, rule.key) {
+        Some(value)
+            if !passes(
+                refused.fault,
+                refused.version,
+                refused.ports,
+                rule.form,
+                value,
+            ) => { push_value_line(text, front, refused, rule, value) }
+        _ => Ok(()),
+    }
+}
+
+#[tactic(auto, unfolding(crate::specs::Sentences::missing_sentence))]
+fn push_missing(text: &mut Vec<u8>, key: Key) -> Result<(), AllocError>
+    ensures { OnOk result (text.new.items ≡ text.old.items ++ missing_sentence key) }
+{
+    push_quoted(text, key.text().as_bytes())?;
+    text.extend_from_slice(b" is missing")
+}
+
+#[tactic(auto, unfolding(crate::specs::Lines::line))]
+fn push_missing_line(text: &mut Vec<u8>, front: &[u8], key: Key) -> Result<(), AllocError>
+    ensures { OnOk result (text.new.items ≡ text.old.items ++ line front.now (missing_sentence key)) }
+{
+    text.extend_from_slice(front)?;
+    push_missing(text, key)?;
+    text.push(b'\n')?;
+    Ok(())
+}
+
+/// Writes a line where a rule's key is absent and nothing stands for it.
+fn push_missing_part(
+    text: &mut Vec<u8>,
+    front: &[u8],
+    table: &Table,
+    rule: &Rule,
+) -> Result<(), AllocError>
+    ensures { OnOk result (text.new.items
+        ≡ text.old.items ++ missing_part front.now rule.now (value_at rule.now.key (table_view table.now))) }
+{
+    match value_at(table, rule.key) {
+        None if is_required(rule.need) => push_missing_line(text, front, rule.key),
+        _ => Ok(()),
+    }
+}
+
+/// Writes a line where the rule of a refusal is broken at a key.
+fn push_rule(
+    text: &mut Vec<u8>,
+    front: &[u8],
+    refused: Refused,
+    table: &Table,
+    rule: &Rule,
+) -> Result<(), AllocError>
+    ensures { OnOk result (text.new.items
+        ≡ text.old.items ++ rule_part front.now refused.fault refused.version refused.ports (table_view table.now) rule.now) }
+{
+    match refused.fault {
+        ScenarioFault::MissingKey => push_missing_part(text, front, table, rule),
+        _ => push_value_part(text, front, refused, table, rule),
+    }
+}
+
+fn push_rules(
+    text: &mut Vec<u8>,
+    front: &[u8],
+    refused: Refused,
+    table: &Table,
+    rules: &[Rule],
+) -> Result<(), AllocError>
+    ensures { OnOk result (text.new.items ≡ text.old.items
+        ++ flat_map (rule_part front.now refused.fault refused.version refused.ports (table_view table.now)) rules.now) }
+{
+    for rule in rules {
+        push_rule(text, front, refused, table, rule)?;
+    }
+    Ok(())
+}
+
+#[tactic(auto, unfolding(crate::specs::Lines::key_word))]
+fn push_key_word(text: &mut Vec<u8>, rule: &Rule) -> Result<(), AllocError>
+    ensures { OnOk result (text.new.items ≡ text.old.items ++ key_word rule.now) }
+{
+    text.push(b' ')?;
+    text.extend_from_slice(rule.key.text().as_bytes())
+}
+
+/// Writes which keys a table may have.
+fn push_key_words(text: &mut Vec<u8>, rules: &[Rule]) -> Result<(), AllocError>
+    ensures { OnOk result (text.new.items ≡ text.old.items ++ flat_map key_word rules.now) }
+{
+    for rule in rules {
+        push_key_word(text, rule)?;
+    }
+    Ok(())
+}
+
+#[tactic(auto, unfolding(crate::specs::Sentences::unknown_sentence))]
+fn push_unknown(text: &mut Vec<u8>, key: &[u8]) -> Result<(), AllocError>
+    ensures { OnOk result (text.new.items ≡ text.old.items ++ unknown_sentence key.now) }
+{
+    push_quoted(text, key)?;
+    text.extend_from_slice(b" is no key of this table; there are")
+}
+
+#[tactic(auto, unfolding(crate::specs::Lines::line, crate::specs::Lines::unknown_line))]
+fn push_unknown_line(
+    text: &mut Vec<u8>,
+    front: &[u8],
+    rules: &[Rule],
+    key: &[u8],
+) -> Result<(), AllocError>
+    ensures { OnOk result (text.new.items ≡ text.old.items ++ unknown_line front.now rules.now key.now) }
+{
+    text.extend_from_slice(front)?;
+    push_unknown(text, key)?;
+    push_key_words(text, rules)?;
+    text.push(b'\n')?;
+    Ok(())
+}
+
+/// Writes a line where no rule has a key.
+fn push_key(text: &mut Vec<u8>, front: &[u8], rules: &[Rule], key: &str) -> Result<(), AllocError>
+    ensures { OnOk result (text.new.items ≡ text.old.items ++ key_part front.now rules.now key.now) }
+{
+    if has_key(rules, key) {
+        return Ok(());
+    }
+    push_unknown_line(text, front, rules, key.as_bytes())
+}
+
+fn push_keys(
+    text: &mut Vec<u8>,
+    front: &[u8],
+    rules: &[Rule],
+    table: &Table,
+) -> Result<(), AllocError>
+    ensures { OnOk result (text.new.items ≡ text.old.items ++ flat_map (key_part front.now rules.now) (keys_of (table_view table.now))) }
+{
+    for key in table.keys() {
+        push_key(text, front, rules, key.as_str())?;
+    }
+    Ok(())
+}
+
+/// Writes a line for each key at which a table of a kind breaks the rule of a refusal.
+pub fn push_table(
+    text: &mut Vec<u8>,
+    front: &[u8],
+    refused: Refused,
+    kind: TableKind,
+    table: &Table,
+) -> Result<(), AllocError>
+    ensures { OnOk result (text.new.items
+        ≡ text.old.items ++ table_text front.now refused.fault refused.version refused.ports kind (table_view table.now)) }
+{
+    let rules = rules_of(refused.version, kind);
+    match refused.fault {
+        ScenarioFault::UnknownKey => push_keys(text, front, rules, table),
+        _ => push_rules(text, front, refused, table, rules),
+    }
+}
