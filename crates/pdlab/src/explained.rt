@@ -1,10 +1,13 @@
 //! `pdlab explain SCENARIO [EDITS]`.
 
 use crate::Ending;
-use crate::fault::{output, tell, tell_refused, tell_unread};
+use crate::fault::{output, tell, tell_unread};
+use pd_desk::tell_reason;
 use pd_device::{BenchFault, write_all};
 use pd_explain_text::{ExplainFault, explain_text};
+use pd_misfits::explain_file;
 use pd_run_text::read_whole;
+use pd_scenario_text::ScenarioFault;
 use std::alloc::Global;
 use std::io;
 use std::io::Read;
@@ -35,6 +38,36 @@ fn read_script<R: Files + Input + Alloc<A = Global>>(
     Ok(bytes)
 }
 
+/// Tells what was said of refused lines; `otherwise` where nothing was.
+fn tell_said<R: Print, E: Print>(rt: &R, errors: &E, said: &[u8], otherwise: Ending) -> Ending {
+    match write_all(&mut output(rt), said) {
+        Ok(()) if said.is_empty() => otherwise,
+        Ok(()) => Ending::Refused,
+        Err(fault) => tell(errors, fault),
+    }
+}
+
+/// Tells where the scenario of a file is refused; where no place can be told, what the rule is.
+fn tell_places<R: Print + Alloc<A = Global>, E: Print>(
+    rt: &R,
+    errors: &E,
+    file: &str,
+    text: &[u8],
+    fault: ScenarioFault,
+) -> Ending {
+    let Ok(said) = explain_file(rt.alloc(), file.as_bytes(), text, fault) else {
+        return tell(errors, BenchFault::Memory);
+    };
+    if !said.is_empty() {
+        return tell_said(rt, errors, said.as_slice(), Ending::Refused);
+    }
+    let told = print!(rt; "{file}: refused {}: ", fault.number());
+    match (told, tell_reason(&mut output(rt), fault.number())) {
+        (Ok(()), Ok(())) => Ending::Refused,
+        _ => tell(errors, BenchFault::WriteFailed),
+    }
+}
+
 /// Tells why lines of an edit script are refused, for the scenario of a file.
 pub fn explained<R: Files + Input + Print + Alloc<A = Global>, E: Print>(
     rt: &R,
@@ -58,13 +91,10 @@ pub fn explained<R: Files + Input + Print + Alloc<A = Global>, E: Print>(
         &mut said,
     );
     match answer {
-        Ok(()) => {}
-        Err(ExplainFault::Scenario(fault)) => return tell_refused(errors, scenario, fault),
-        Err(ExplainFault::Memory) => return tell(errors, BenchFault::Memory),
-    }
-    match write_all(&mut output(rt), said.as_slice()) {
-        Ok(()) if said.is_empty() => Ending::Done,
-        Ok(()) => Ending::Refused,
-        Err(fault) => tell(errors, fault),
+        Ok(()) => tell_said(rt, errors, said.as_slice(), Ending::Done),
+        Err(ExplainFault::Scenario(fault)) => {
+            tell_places(rt, errors, scenario, text.as_slice(), fault)
+        }
+        Err(ExplainFault::Memory) => tell(errors, BenchFault::Memory),
     }
 }

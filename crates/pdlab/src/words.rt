@@ -14,7 +14,7 @@ usage: pdlab COMMAND ..
 
   live SCENARIO             a session at the keyboard
   show SCENARIO             a run as an engineer reads it, all ports in one list
-  explain SCENARIO [EDITS]  why lines of an edit script are refused
+  explain SCENARIO [EDITS]  why a scenario, or lines of an edit script, are refused
   decode [--json] [FILE]    what the lines of a log say
   COMMAND --help            tells more of a command, with an example
   -h, --help                prints this
@@ -70,7 +70,8 @@ status: 0 the run was shown, 1 the scenario is refused, or has no such port,
 ";
 
 /// What `explain --help` prints.
-pub const EXPLAIN_HELP: &str = "pdlab explain: why lines of an edit script are refused
+pub const EXPLAIN_HELP: &str =
+    "pdlab explain: why a scenario, or lines of an edit script, are refused
 
 usage: pdlab explain SCENARIO [EDITS]
 
@@ -78,14 +79,16 @@ Goes through the edit script EDITS, or standard input where it is -, against the
 charger of the file SCENARIO, and tells of each line that pdbench would refuse
 where it breaks the rule and what would be right there: a line for each place,
 behind the script's name and the number of its line. A line is held against the
-scenario as the lines before it left it. Nothing is run. Without EDITS it tells
-whether SCENARIO is refused.
+scenario as the lines before it left it. Nothing is run. Where SCENARIO is refused,
+with EDITS or without, tells each of its keys that breaks the rule.
 
 Numbers are those of pdbench: times in microseconds, voltages in mV, currents in
 mA, powers in mW.
 
-example: pdlab explain examples/derating.toml derating.edits
-  derating.edits:4: refused 24: no cable is named `thick`; there are thin, c5
+example: pdlab explain mine.toml
+  mine.toml: refused 5: event 3: `at` is 130000000, not 0 to 120000000
+example: pdlab explain mine.toml mine.edits
+  mine.edits:4: refused 24: no cable is named `thick`; there are thin, c5
 
 status: 0 no line is refused, 1 a line or the scenario is refused,
         3 a file can't be read, or a fault
