@@ -12,7 +12,8 @@ use Rattle.pd_misfits.specs.Lines.{table_front, table_text, list_text, events_te
 list_first : (front word : List ℕ) (refusal : ScenarioFault) (version : Version) (ports : ℕ) (kind : TableKind) (number : ℕ) (t : Members)
     (ts : List Members)
     → list_text front word refusal version ports kind number (t ∷ ts)
-    ≡ table_text (table_front front word number) refusal version ports kind t ++ list_text front word refusal version ports kind (number + 1) ts
+    ≡ table_text (table_front front word number) refusal version ports kind t
+    ++ list_text front word refusal version ports kind (number + 1) ts
 unfolding list_text
 list_first front word refusal version ports kind number t ts = refl
 

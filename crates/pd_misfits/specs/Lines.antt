@@ -77,13 +77,15 @@ events_text front refusal version ports number (t ∷ ts) =
     table_text (table_front front (codes "event") number) refusal version ports (Event (event_at version t)) t
     ++ events_text front refusal version ports (number + 1) ts
 
+unfoldable pub lists_text : List ℕ → ScenarioFault → Version → ℕ → Tables → List ℕ
+lists_text front refusal version ports d =
+    list_text front (codes "port") refusal version ports Port 1 d.ports
+    ++ (list_text front (codes "cable") refusal version ports Cable 1 d.cables
+    ++ (list_text front (codes "sink") refusal version ports Sink 1 d.sinks ++ events_text front refusal version ports 1 d.events))
+
 unfoldable pub tables_text : List ℕ → ScenarioFault → ℕ → Tables → List ℕ
 tables_text front refusal ports d =
-    table_text front refusal d.version ports Top d.top
-    ++ (list_text front (codes "port") refusal d.version ports Port 1 d.ports
-    ++ (list_text front (codes "cable") refusal d.version ports Cable 1 d.cables
-    ++ (list_text front (codes "sink") refusal d.version ports Sink 1 d.sinks
-    ++ events_text front refusal d.version ports 1 d.events)))
+    table_text front refusal d.version ports Top d.top ++ lists_text front refusal d.version ports d
 
 -- each place of a file at which the rule of a refusal of single tables is broken, in the order of the file's tables
 abbrev pub file_text : List ℕ → ScenarioFault → Tables → List ℕ

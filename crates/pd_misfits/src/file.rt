@@ -3,8 +3,9 @@
 ghost use Rattle.std.specs.Prelude.{◌≡◌, ◌++◌, ◌+◌, ◌<◌, ◌^◌, OnOk, IfOk, length};
 ghost use Rattle.toml.specs.View.{table_view};
 ghost use Rattle.pd_scenario_tables.specs.Seen.{views};
+ghost use Rattle.pd_scenario_tables.specs.Tables.{tables_at};
 ghost use Rattle.pd_scenario_text.specs.FileTables.{tables_of};
-ghost use Rattle.pd_misfits.specs.Lines.{file_front, table_front, list_text, events_text, file_text};
+ghost use Rattle.pd_misfits.specs.Lines.{file_front, table_front, list_text, events_text, lists_text, tables_text, file_text};
 
 use crate::table::{Refused, push_table};
 use crate::values::push_number;
@@ -82,13 +83,73 @@ fn file_front(alloc: Global, name: &[u8], fault: ScenarioFault) -> Result<Vec<u8
     Ok(text)
 }
 
+/// Writes where the tables of a list of the file break the rule of a refusal.
+fn push_kind(
+    alloc: Global,
+    text: &mut Vec<u8>,
+    front: &[u8],
+    refused: Refused,
+    list: (&str, Key, TableKind),
+    top: &Table,
+) -> Result<(), AllocError>
+    ensures { OnOk result (text.new.items ≡ text.old.items
+        ++ list_text front.now list.entry.0.now refused.fault refused.version refused.ports list.entry.2 1
+        (tables_at list.entry.1 (table_view top.now))) }
+{
+    let (word, key, kind) = list;
+    let tables = tables_at(alloc, top, key)?;
+    push_list(alloc, text, front, word, refused, kind, &tables)
+}
+
+/// Writes where the tables of all lists of the file break the rule of a refusal.
+#[tactic(auto, unfolding(crate::specs::Lines::lists_text))]
+fn push_lists(
+    alloc: Global,
+    text: &mut Vec<u8>,
+    front: &[u8],
+    refused: Refused,
+    top: &Table,
+) -> Result<(), AllocError>
+    ensures { OnOk result (text.new.items
+        ≡ text.old.items ++ lists_text front.now refused.fault refused.version refused.ports (tables_of (table_view top.now))) }
+{
+    let events = tables_at(alloc, top, Key::Event)?;
+    let ports = ("port", Key::Port, TableKind::Port);
+    let cables = ("cable", Key::Cable, TableKind::Cable);
+    let sinks = ("sink", Key::Sink, TableKind::Sink);
+    push_kind(alloc, text, front, refused, ports, top)?;
+    push_kind(alloc, text, front, refused, cables, top)?;
+    push_kind(alloc, text, front, refused, sinks, top)?;
+    push_events(alloc, text, front, refused, &events)
+}
+
+/// Writes where the tables of a file of so many ports break the rule of a refusal.
+#[tactic(auto, unfolding(crate::specs::Lines::tables_text))]
+fn push_tables(
+    alloc: Global,
+    text: &mut Vec<u8>,
+    front: &[u8],
+    fault: ScenarioFault,
+    ports: u64,
+    top: &Table,
+) -> Result<(), AllocError>
+    ensures { OnOk result (text.new.items ≡ text.old.items ++ tables_text front.now fault ports (tables_of (table_view top.now))) }
+{
+    let refused = Refused {
+        fault,
+        version: version_at(top),
+        ports,
+    };
+    push_table(text, front, refused, TableKind::Top, top)?;
+    push_lists(alloc, text, front, refused, top)
+}
+
 /// A line for each place at which the tables of a scenario file break the rule of a refusal, with what stands there and what
 /// is wanted: unknown and missing keys, types, ranges, names, and supplies; none for any other refusal. Each table is told
 /// by its place among those of its kind, from 1.
 ///
 /// # Errors
 /// There is no memory.
-#[tactic(auto, unfolding(crate::specs::Lines::tables_text))]
 pub fn explain_tables(
     alloc: Global,
     name: &[u8],
@@ -98,45 +159,15 @@ pub fn explain_tables(
     ensures { IfOk result (λ v. v.items ≡ file_text name.now fault (tables_of (table_view top.now))) }
 {
     let front = file_front(alloc, name, fault)?;
-    let front = front.as_slice();
     let ports = tables_at(alloc, top, Key::Port)?;
-    let cables = tables_at(alloc, top, Key::Cable)?;
-    let sinks = tables_at(alloc, top, Key::Sink)?;
-    let events = tables_at(alloc, top, Key::Event)?;
-    let refused = Refused {
-        fault,
-        version: version_at(top),
-        ports: ports.len() as u64,
-    };
     let mut text = Vec::new(alloc);
-    push_table(&mut text, front, refused, TableKind::Top, top)?;
-    push_list(
+    push_tables(
         alloc,
         &mut text,
-        front,
-        "port",
-        refused,
-        TableKind::Port,
-        &ports,
+        front.as_slice(),
+        fault,
+        ports.len() as u64,
+        top,
     )?;
-    push_list(
-        alloc,
-        &mut text,
-        front,
-        "cable",
-        refused,
-        TableKind::Cable,
-        &cables,
-    )?;
-    push_list(
-        alloc,
-        &mut text,
-        front,
-        "sink",
-        refused,
-        TableKind::Sink,
-        &sinks,
-    )?;
-    push_events(alloc, &mut text, front, refused, &events)?;
     Ok(text)
 }

@@ -63,7 +63,8 @@ a.toml: refused 5: port 1: `identity_tries` is 21, not 0 to 20
 ",
     ),
     (
-        b"version = 2\n[[port]]\n[[cable]]\nplug = \"wide\"\nrating = 4000\n[[sink]]\nmax = 5001\ndemand = 49\nmode = \"fast\"\nrevision = 4\n",
+        b"version = 2\n[[port]]\n[[cable]]\nplug = \"wide\"\nrating = 4000\n[[sink]]\nmax = 5001\ndemand = 49\nmode = \"fast\"\n\
+revision = 4\n",
         ScenarioFault::Range,
         b"a.toml: refused 5: cable 1: `plug` is `wide`, not one of none, ack, nak, busy, silent, drop
 a.toml: refused 5: cable 1: `rating` is 4000, not 3000 or 5000
@@ -74,7 +75,8 @@ a.toml: refused 5: sink 1: `revision` is 4, not 2 or 3
 ",
     ),
     (
-        b"version = 1\n[[port]]\n[[port]]\n[[event]]\nport = 2\nkind = \"lose\"\n[[event]]\nid = 0\nat = 120000001\nport = 3\nkind = \"budget\"\n",
+        b"version = 1\n[[port]]\n[[port]]\n[[event]]\nport = 2\nkind = \"lose\"\n[[event]]\nid = 0\nat = 120000001\nport = 3\n\
+kind = \"budget\"\n",
         ScenarioFault::Range,
         b"a.toml: refused 5: event 2: `port` is 3, not 1 to 2
 a.toml: refused 5: event 2: `id` is 0, not 1 to 1000000
@@ -84,7 +86,8 @@ and under version 2 budget
 ",
     ),
     (
-        b"version = 1\n[[cable]]\nname = \"\"\n[[cable]]\nname = \"thin\"\n[[sink]]\nname = \"a b\\n\"\n[[event]]\nkind = \"attach\"\ncable = \"12345678901234567\"\nsink = \"phone\"\n",
+        b"version = 1\n[[cable]]\nname = \"\"\n[[cable]]\nname = \"thin\"\n[[sink]]\nname = \"a b\\n\"\n[[event]]\n\
+kind = \"attach\"\ncable = \"12345678901234567\"\nsink = \"phone\"\n",
         ScenarioFault::Name,
         b"a.toml: refused 6: cable 1: `name` is ``, not 1 to 16 letters and digits
 a.toml: refused 6: sink 1: `name` is `a b?`, not 1 to 16 letters and digits
@@ -92,7 +95,8 @@ a.toml: refused 6: event 1: `cable` is `12345678901234567`, not 1 to 16 letters 
 ",
     ),
     (
-        b"[[port]]\nsupplies = [[5000, 3000], [5000, 2000]]\n[[port]]\nsupplies = [[5000, 3000], [9000, 2000]]\n[[port]]\nsupplies = []\n",
+        b"[[port]]\nsupplies = [[5000, 3000], [5000, 2000]]\n[[port]]\nsupplies = [[5000, 3000], [9000, 2000]]\n[[port]]\n\
+supplies = []\n",
         ScenarioFault::Supplies,
         b"a.toml: refused 8: port 1: `supplies` is a list, not 1 to 7 pairs, the first of 5000 mV, each voltage above the one before
 a.toml: refused 8: port 3: `supplies` is a list, not 1 to 7 pairs, the first of 5000 mV, each voltage above the one before

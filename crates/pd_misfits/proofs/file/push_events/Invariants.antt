@@ -7,6 +7,7 @@ abbrev pub invariant-loop-table : goal.invariant-loop-table
 invariant-loop-table l = record {
   text :
       l.initial.text.items ++ events_text l.front l.refused.fault l.refused.version l.refused.ports 1 (views l.tables)
-      ≡ l.text.items ++ events_text l.front l.refused.fault l.refused.version l.refused.ports l.number (views (drop l.table-index l.tables));
+      ≡ l.text.items
+      ++ events_text l.front l.refused.fault l.refused.version l.refused.ports l.number (views (drop l.table-index l.tables));
   count : l.number ≡ l.table-index + 1;
 }
