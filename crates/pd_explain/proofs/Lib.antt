@@ -1,5 +1,3 @@
-mod CutLines
 mod Least
-mod ScriptLines
 mod WhereBroken
 mod WordCounts

@@ -1,5 +1,5 @@
 -- A line has no more words than bytes.
-use Rattle.std.proofs.Common.{◌≡◌, ℕ, ◌+◌, ◌≤◌, Bool, true, false, cond, eqb, List, [], ◌∷◌, length, arith}
+use Rattle.std.proofs.Common.{ℕ, ◌+◌, ◌≤◌, Bool, true, false, cond, eqb, List, [], ◌∷◌, length, arith}
 use Rattle.pd_edit_lines.specs.Words.{words, with_byte, is_apart}
 
 one_more : (c : ℕ) (apart : Bool) (ws : List (List ℕ)) (n : ℕ) → length ws ≤ n → length (with_byte c apart ws) ≤ 1 + n

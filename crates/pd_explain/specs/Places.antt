@@ -1,9 +1,8 @@
 -- Where an edit breaks a rule: this product's own, the table of numbers in docs/FORMATS.md, "Edit script". A heading below has
 -- a row's number; the rules are those of Refusals.antt of pd_edit.
-use Rattle.std.specs.Prelude.{◌≡◌, ℕ, ◌+◌, Bool, true, false, not, ◌||◌, ◌&&◌, ◌==◌, nat_le, nat_lt, List, [], ◌∷◌, length}
+use Rattle.std.specs.Prelude.{ℕ, ◌+◌, Bool, true, not, ◌||◌, ◌&&◌, ◌==◌, nat_le, nat_lt, List, [], ◌∷◌, length}
 use Rattle.std.specs.Prelude.{map, filter, is_some, if◌then◌else◌}
-use Rattle.std.specs.List.{list_any, list_all}
-use Rattle.pd_scenario.specs.declared.limits.Quantity.{Quantity}
+use Rattle.std.specs.List.{list_all}
 use Rattle.pd_scenario.specs.declared.limits.Quantity.TheVariants as quantity
 use Rattle.pd_scenario.specs.declared.event.ScenarioEvent.{ScenarioEvent}
 use Rattle.pd_setup.specs.declared.event.EventKind.TheVariants.{Attach, Demand, Damage}
@@ -22,7 +21,6 @@ use Rattle.pd_edit_lines.specs.declared.edit.Edit.TheVariants.{Insert, Remove, M
 use Rattle.pd_edit_lines.specs.declared.edit.Edit.TheVariants.{Budget, End}
 use Rattle.pd_edit.specs.Edits.{has_cable, has_sink, outcome}
 use Rattle.pd_edit.specs.Refusals.{is_on_port, names_cable, names_sink}
-use Rattle.pd_explain.specs.declared.place.NumberWord.{NumberWord}
 use Rattle.pd_explain.specs.declared.place.NumberWord.TheVariants as word
 use Rattle.pd_explain.specs.declared.place.Counted.{Counted}
 use Rattle.pd_explain.specs.declared.place.Counted.TheVariants as counted

@@ -1,5 +1,5 @@
 -- What is said of a place at which a rule is broken: this product's own form, docs/FORMATS.md, "Reasons".
-use Rattle.std.specs.Prelude.{ℕ, ◌-◌, List, [], ◌∷◌, ◌++◌, length, map, take, drop, codes, decimal, nat_lt, if◌then◌else◌}
+use Rattle.std.specs.Prelude.{ℕ, List, [], ◌∷◌, ◌++◌, map, codes, decimal, nat_lt, if◌then◌else◌}
 use Rattle.std.specs.List.{flat_map}
 use Rattle.pd_scenario.specs.declared.limits.Quantity.{Quantity}
 use Rattle.pd_scenario.specs.declared.named.NamedCable.{NamedCable}

@@ -12,7 +12,7 @@ use pd_scenario::{
 };
 
 /// Whether there is a port of this number, among so many.
-pub(crate) fn is_port(ports: usize, port: u64) -> bool
+pub fn is_port(ports: usize, port: u64) -> bool
     ensures { result ≡ is_port ports port }
 {
     1 <= port && port <= ports as u64

@@ -3,20 +3,18 @@
 
 mod broken;
 pub mod laws;
-mod lines;
 mod numbers;
 mod place;
 mod places;
 mod ranges;
 mod refused;
-mod script;
 mod sentences;
 mod stops;
 mod texts;
 
+pub use broken::is_port;
 pub use place::{Counted, NumberWord, Place};
 pub use refused::causes;
-pub use script::{explain_line, explain_script};
 pub use sentences::push_sentence;
 pub use stops::push_syntax;
 

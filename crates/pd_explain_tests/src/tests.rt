@@ -1,7 +1,7 @@
 //! Spoiled lines, each with what is said of it.
 
-use pd_explain::explain_script;
 use pd_scenario_text::scenario_from_text;
+use pd_script::explain_script;
 use std::test::*;
 
 /// Two ports with floors of 2.5 W at a budget of 60 W, two cables, one sink, an attach and a change of the budget.

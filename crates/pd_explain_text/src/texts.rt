@@ -6,8 +6,8 @@ ghost use Rattle.pd_scenario_text.specs.File.{members_of};
 ghost use Rattle.pd_run_text.specs.Texts.{ForTexts};
 ghost use Rattle.pd_explain_text.specs.Texts.{ExplainsText};
 
-use pd_explain::explain_script;
 use pd_scenario_text::{ScenarioFault, ScenarioFile};
+use pd_script::explain_script;
 use std::alloc::Global;
 
 /// Why an edit script wasn't explained.

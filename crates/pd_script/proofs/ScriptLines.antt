@@ -1,10 +1,10 @@
 -- What is said of a script, a line at a time.
-use Rattle.std.proofs.Common.{◌≡◌, ℕ, ◌+◌, List, [], ◌∷◌, ◌++◌, refl, sym, ap, ◌∙◌, append_assoc, Option, Some, None}
+use Rattle.std.proofs.Common.{◌≡◌, ℕ, ◌+◌, List, [], ◌∷◌, ◌++◌, refl, sym, ap, ◌∙◌, append_assoc, Some, None}
 use Rattle.std.proofs.lemmas.List.{append-nil}
 use Rattle.std.specs.Str.Lines.{lines}
 use Rattle.pd_scenario.specs.Scenarios.{ScenarioData}
 use Rattle.pd_edit_lines.specs.Words.{next}
-use Rattle.pd_explain.specs.Script.{at_line, line_text, after_line, script_text}
+use Rattle.pd_script.specs.Script.{at_line, line_text, after_line, script_text, followed}
 
 next_some : (ls : List (List ℕ)) (line : List ℕ) (more : List (List ℕ)) → Some (line, more) ≡ next ls → ls ≡ line ∷ more
 next_some [] line more e = absurd (cc)
@@ -44,3 +44,24 @@ pub all_said : (whole text name : List ℕ) (n : ℕ) (c : ScenarioData) (number
 all_said whole text name n c number rest so_far is =
     sym (so_far ∙ ap (λ ls. text ++ script_text name n c number ls) (next_none (lines rest) is)
     ∙ ap (λ t. text ++ t) (script_none name n c number) ∙ append-nil text)
+
+followed_first : (n : ℕ) (c : ScenarioData) (line : List ℕ) (more : List (List ℕ))
+    → followed n c (line ∷ more) ≡ followed n (after_line n c line) more
+unfolding followed
+followed_first n c line more = refl
+
+followed_none : (n : ℕ) (c : ScenarioData) → followed n c [] ≡ c
+unfolding followed
+followed_none n c = refl
+
+-- one more line is taken in
+pub more_followed : (n : ℕ) (end c c' : ScenarioData) (line rest : List ℕ) (more : List (List ℕ))
+    → end ≡ followed n c (lines rest) → Some (line, more) ≡ next (lines rest) → c' ≡ after_line n c line → end ≡ followed n c' more
+more_followed n end c c' line rest more so_far is after =
+    so_far ∙ ap (λ ls. followed n c ls) (next_some (lines rest) line more is) ∙ followed_first n c line more
+    ∙ ap (λ d. followed n d more) (sym after)
+
+-- no line any more
+pub all_followed : (n : ℕ) (end c : ScenarioData) (rest : List ℕ) → end ≡ followed n c (lines rest) → None ≡ next (lines rest) → c ≡ end
+all_followed n end c rest so_far is =
+    sym (so_far ∙ ap (λ ls. followed n c ls) (next_none (lines rest) is) ∙ followed_none n c)

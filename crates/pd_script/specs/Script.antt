@@ -1,6 +1,6 @@
 -- What is said of the refused lines of an edit script: this product's own form, docs/FORMATS.md, "Reasons". The answers to
 -- lines are those of Session.antt of pd_bench.
-use Rattle.std.specs.Prelude.{ℕ, ◌+◌, not, List, [], ◌∷◌, ◌++◌, codes, decimal, Result, Ok, Err, if◌then◌else◌}
+use Rattle.std.specs.Prelude.{ℕ, ◌+◌, List, [], ◌∷◌, ◌++◌, codes, decimal, Result, Ok, Err, if◌then◌else◌}
 use Rattle.std.specs.List.{flat_map}
 use Rattle.pd_scenario.specs.Scenarios.{ScenarioData}
 use Rattle.pd_scenario.specs.Limits.{is_port}
@@ -12,7 +12,7 @@ use Rattle.pd_edit_lines.specs.declared.edit.Edit.{Edit}
 use Rattle.pd_edit_lines.specs.declared.line.Line.{Line}
 use Rattle.pd_edit_lines.specs.declared.line.Line.TheVariants as line_read
 use Rattle.pd_edit_lines.specs.declared.line.Show.{Show}
-use Rattle.pd_edit_lines.specs.declared.line.Show.TheVariants.{Transcript, Contracts, Faults, Margins}
+use Rattle.pd_edit_lines.specs.declared.line.Show.TheVariants.{Transcript}
 use Rattle.pd_edit.specs.Refusals.{edited}
 use Rattle.pd_explain.specs.declared.place.Place.{Place}
 use Rattle.pd_explain.specs.declared.place.Place.TheVariants as place
@@ -74,3 +74,8 @@ unfoldable pub script_text : List ℕ → ℕ → ScenarioData → ℕ → List 
 script_text name n c number [] = []
 script_text name n c number (line ∷ lines) =
     line_text (at_line name number) n c line ++ script_text name n (after_line n c line) (number + 1) lines
+
+-- the scenario after the lines of a script
+unfoldable pub followed : ℕ → ScenarioData → List (List ℕ) → ScenarioData
+followed n c [] = c
+followed n c (line ∷ lines) = followed n (after_line n c line) lines

@@ -1,6 +1,6 @@
 use Rattle.std.proofs.Common.{arith, ◌∙◌}
-use Rattle.pd_explain.proofs.ScriptLines.{more_said, all_said}
-use Rattle.pd_explain.proofs.script.explain_script.Goals as goal
+use Rattle.pd_script.proofs.ScriptLines.{more_said, all_said}
+use Rattle.pd_script.proofs.script.explain_script.Goals as goal
 
 pub loop-line-preserved : goal.loop-line-preserved
 loop-line-preserved g c = record {

@@ -1,7 +1,7 @@
 use Rattle.std.proofs.Common.{◌≡◌, ◌+◌, ◌≤◌, ◌++◌, length}
 use Rattle.std.specs.Str.Lines.{lines}
-use Rattle.pd_explain.specs.Script.{script_text}
-use Rattle.pd_explain.proofs.script.explain_script.Given as goal
+use Rattle.pd_script.specs.Script.{script_text}
+use Rattle.pd_script.proofs.script.explain_script.Given as goal
 
 abbrev pub invariant-loop-line : goal.invariant-loop-line
 invariant-loop-line g l = record {

@@ -6,15 +6,14 @@ ghost use Rattle.pd_edit_lines.specs.Numbers.{number_of};
 ghost use Rattle.pd_edit.specs.Refusals.{edited};
 ghost use Rattle.pd_explain.specs.Sentences.{sentence};
 ghost use Rattle.pd_explain.specs.Stops.{syntax_text};
-ghost use Rattle.pd_explain.specs.Script.{at_line, reason_line, places_text, edit_text, show_text, kept_or, line_text, after_line};
-ghost use Rattle.pd_explain.specs.Script.{script_text, front_text};
+ghost use Rattle.pd_script.specs.Script.{at_line, reason_line, places_text, edit_text, show_text, kept_or, line_text, after_line};
+ghost use Rattle.pd_script.specs.Script.{script_text, front_text};
 
-use crate::broken::is_port;
 use crate::lines::first_line;
-use crate::texts::push_number;
-use crate::{Place, causes, push_sentence, push_syntax};
+use pd_content::push_number;
 use pd_edit::apply;
 use pd_edit_lines::{Edit, EditFault, Line, Show};
+use pd_explain::{Place, causes, is_port, push_sentence, push_syntax};
 use pd_scenario::Scenario;
 use std::alloc::{AllocError, Global};
 

@@ -1,0 +1,2 @@
+mod CutLines
+mod ScriptLines
