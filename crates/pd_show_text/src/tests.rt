@@ -59,7 +59,7 @@ const OFFERED: &[u8] = b"        0        +0 port 1 event 1 attach
 #[test]
 fn an_offer(rt: HostRuntime) -> Result<(), Fail> {
     let mut page = page(rt);
-    show_text(rt.alloc(), PHONE, &up_to(51_000), &mut page)?;
+    show_text(rt.alloc(), PHONE, b"", &up_to(51_000), &mut page)?;
     assert_eq!(rt; page.writer.as_slice(), OFFERED);
     Ok(())
 }
@@ -82,7 +82,7 @@ fn chosen(rt: HostRuntime) -> Result<(), Fail> {
         good_crc: false,
         codes: true,
     };
-    show_text(rt.alloc(), PHONE, &choice, &mut page)?;
+    show_text(rt.alloc(), PHONE, b"", &choice, &mut page)?;
     assert_eq!(rt; page.writer.as_slice(), CHOSEN);
     Ok(())
 }
@@ -93,9 +93,23 @@ fn refused(rt: HostRuntime) -> Result<(), Fail> {
     let mut choice = up_to(1);
     choice.port = Some(2);
     assert_eq!(rt;
-        show_text(rt.alloc(), PHONE, &choice, &mut page),
+        show_text(rt.alloc(), PHONE, b"", &choice, &mut page),
         Err(ShowFault::NoSuchPort)
     );
     assert_eq!(rt; page.writer.as_slice(), b"".as_slice());
+    Ok(())
+}
+
+const EDITED: &[u8] = b"       10       +10 port 1 event 1 attach
+       10        +0 port 1 state PE_SRC_Startup PE_SNK_Discovery
+";
+
+/// The attach comes later; the line that is refused, and the show, change nothing.
+#[test]
+fn as_a_script_leaves_it(rt: HostRuntime) -> Result<(), Fail> {
+    let mut page = page(rt);
+    let script = b"move 1 5\nmove 1 120000001\nshow faults\nmove 1 10\n";
+    show_text(rt.alloc(), PHONE, script, &up_to(50_009), &mut page)?;
+    assert_eq!(rt; page.writer.as_slice(), EDITED);
     Ok(())
 }

@@ -2,6 +2,7 @@
 
 use crate::Ending;
 use crate::fault::{output, tell, tell_unread};
+use crate::script_file::read_script;
 use pd_desk::tell_reason;
 use pd_device::{BenchFault, write_all};
 use pd_explain_text::{ExplainFault, explain_text};
@@ -9,34 +10,7 @@ use pd_misfits::explain_file;
 use pd_run_text::read_whole;
 use pd_scenario_text::ScenarioFault;
 use std::alloc::Global;
-use std::io;
-use std::io::Read;
 use std::rt::Files;
-
-/// The most bytes of an edit script.
-const LIMIT: usize = 1_048_576;
-
-/// The bytes of an edit script: of a file, of standard input where its name is `-`, and none where none is named.
-///
-/// # Errors
-/// It can't be read, for want of memory too, or has more bytes.
-fn read_script<R: Files + Input + Alloc<A = Global>>(
-    rt: &R,
-    edits: Option<&str>,
-) -> io::Result<Vec<u8>> {
-    let mut bytes = Vec::new(rt.alloc());
-    match edits {
-        None => {}
-        Some("-") => {
-            rt.reader().take(LIMIT as u64 + 1).read_to_end(&mut bytes)?;
-        }
-        Some(file) => return read_whole(rt, file),
-    }
-    if bytes.len() > LIMIT {
-        return Err(io::Error::from(io::ErrorKind::FileTooLarge));
-    }
-    Ok(bytes)
-}
 
 /// Tells what was said of refused lines; `otherwise` where nothing was.
 fn tell_said<R: Print, E: Print>(rt: &R, errors: &E, said: &[u8], otherwise: Ending) -> Ending {

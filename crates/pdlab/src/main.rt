@@ -5,6 +5,7 @@ mod at_keyboard;
 mod explained;
 mod fault;
 mod log;
+mod script_file;
 mod shown;
 mod words;
 
@@ -102,14 +103,14 @@ where
 }
 
 /// Shows a run, by the words behind `show`.
-fn show<R: Files + Print + Alloc<A = Global>, E: Print>(
+fn show<R: Files + Input + Print + Alloc<A = Global>, E: Print>(
     rt: &R,
     errors: &E,
     scenario: &str,
     matches: &ArgMatches<'_>,
 ) -> Ending {
     match choice_of(matches) {
-        Ok(choice) => shown(rt, errors, scenario, &choice),
+        Ok(choice) => shown(rt, errors, scenario, matches.get_str("EDITS"), &choice),
         Err(_) => answer_words(rt, errors, &[], ErrorKind::InvalidValue),
     }
 }

@@ -1,8 +1,11 @@
-//! `pdlab show SCENARIO`.
+//! `pdlab show SCENARIO [EDITS]`.
 
 use crate::Ending;
 use crate::fault::{output, tell, tell_no_port, tell_refused, tell_unread};
+use crate::script_file::read_script;
 use clap::ArgMatches;
+use pd_device::{BenchFault, write_all};
+use pd_explain_text::{ExplainFault, explain_text};
 use pd_run_text::read_whole;
 use pd_show_text::{Choice, ShowFault, show_text};
 use std::alloc::Global;
@@ -23,17 +26,49 @@ pub fn choice_of(matches: &ArgMatches<'_>) -> Result<Choice, ParseIntError> {
     })
 }
 
-/// Shows the run of the scenario of a file.
-pub fn shown<R: Files + Print + Alloc<A = Global>, E: Print>(
+/// Tells on standard error why lines of a script are refused.
+///
+/// # Errors
+/// There is no memory.
+fn tell_lines<R: Alloc<A = Global>, E: Print>(
+    rt: &R,
+    errors: &E,
+    text: &[u8],
+    name: &str,
+    script: &[u8],
+) -> Result<(), BenchFault> {
+    let mut said = Vec::new(rt.alloc());
+    match explain_text(rt.alloc(), text, name.as_bytes(), script, &mut said) {
+        Ok(()) => {
+            let _ = write_all(&mut output(errors), said.as_slice());
+            Ok(())
+        }
+        // `show_text` answers this as well.
+        Err(ExplainFault::Scenario(_)) => Ok(()),
+        Err(ExplainFault::Memory) => Err(BenchFault::Memory),
+    }
+}
+
+/// Shows the run of the scenario of a file, as the edits of a script leave it.
+pub fn shown<R: Files + Input + Print + Alloc<A = Global>, E: Print>(
     rt: &R,
     errors: &E,
     scenario: &str,
+    edits: Option<&str>,
     choice: &Choice,
 ) -> Ending {
     let Ok(text) = read_whole(rt, scenario) else {
         return tell_unread(errors, scenario);
     };
-    match show_text(rt.alloc(), text.as_slice(), choice, &mut output(rt)) {
+    let (text, name) = (text.as_slice(), edits.unwrap_or("-"));
+    let Ok(script) = read_script(rt, edits) else {
+        return tell_unread(errors, name);
+    };
+    let script = script.as_slice();
+    if let Err(fault) = tell_lines(rt, errors, text, name, script) {
+        return tell(errors, fault);
+    }
+    match show_text(rt.alloc(), text, script, choice, &mut output(rt)) {
         Ok(()) => Ending::Done,
         Err(ShowFault::Scenario(fault)) => tell_refused(errors, scenario, fault),
         Err(ShowFault::NoSuchPort) => tell_no_port(errors),

@@ -5,7 +5,7 @@ use std::alloc::{AllocError, Global};
 
 /// What stands where the words are others.
 pub const USAGE: &str =
-    "usage: pdlab live SCENARIO | show SCENARIO [OPTIONS] | explain SCENARIO [EDITS] | decode [--json] [FILE] | --help";
+    "usage: pdlab live SCENARIO | show SCENARIO [EDITS] [OPTIONS] | explain SCENARIO [EDITS] | decode [--json] [FILE] | --help";
 
 /// What `--help` prints.
 pub const HELP: &str = "pdlab: the engineer's desk
@@ -13,7 +13,7 @@ pub const HELP: &str = "pdlab: the engineer's desk
 usage: pdlab COMMAND ..
 
   live SCENARIO             a session at the keyboard
-  show SCENARIO             a run as an engineer reads it, all ports in one list
+  show SCENARIO [EDITS]     a run as an engineer reads it, all ports in one list
   explain SCENARIO [EDITS]  why a scenario, or lines of an edit script, are refused
   decode [--json] [FILE]    what the lines of a log say
   COMMAND --help            tells more of a command, with an example
@@ -49,13 +49,14 @@ status: 0 the lines were answered to their end, 1 the scenario is refused,
 /// What `show --help` prints.
 pub const SHOW_HELP: &str = "pdlab show: a run as an engineer reads it
 
-usage: pdlab show SCENARIO [OPTIONS]
+usage: pdlab show SCENARIO [EDITS] [OPTIONS]
 
-Shows the run of the charger of the file SCENARIO, a line for each thing that is
-told, in the order of time: events, faults, what is asked of the shared budget and
-answered, contracts, holds, packets with their content, and the states of source
-and sink. Each line begins with its time and the time since the line before, in
-microseconds.
+Shows the run of the charger of the file SCENARIO, as the edit script EDITS leaves
+it (- is standard input): why lines of EDITS are refused is told on standard error,
+and they change nothing. A line is shown for each thing that is told, in the order
+of time: events, faults, what is asked of the shared budget and answered, contracts,
+holds, packets with their content, and the states of source and sink. Each line
+begins with its time and the time since the line before, in microseconds.
 
   --port P       of this port alone; ports are numbered from 1
   --from T       from this time on, in microseconds
@@ -134,10 +135,16 @@ fn option<'a>(alloc: Global, name: &'a str, action: ArgAction) -> Arg<'a> {
     Arg::new(alloc, name).long(name).action(action)
 }
 
-/// `pdlab show SCENARIO`, with its options.
+/// `EDITS`, a word that may stand behind a scenario.
+fn edits<'a>(alloc: Global) -> Arg<'a> {
+    Arg::new(alloc, "EDITS").action(ArgAction::Set)
+}
+
+/// `pdlab show SCENARIO [EDITS]`, with its options.
 fn show<'a>(alloc: Global) -> Result<Command<'a>, AllocError> {
     Command::new(alloc, "show")
         .arg(scenario(alloc))?
+        .arg(edits(alloc))?
         .arg(option(alloc, "port", ArgAction::Set))?
         .arg(option(alloc, "from", ArgAction::Set))?
         .arg(option(alloc, "to", ArgAction::Set))?
