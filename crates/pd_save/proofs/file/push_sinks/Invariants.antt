@@ -1,0 +1,7 @@
+use Rattle.std.proofs.Common.{◌≡◌, ◌++◌, take}
+use Rattle.std.specs.List.{flat_map}
+use Rattle.pd_save.specs.Tables.{sink_table}
+use Rattle.pd_save.proofs.file.push_sinks.Given as goal
+
+abbrev pub invariant-loop-sink : goal.invariant-loop-sink
+invariant-loop-sink l = l.text.items ≡ l.initial.text.items ++ flat_map sink_table (take l.sink-index l.sinks)

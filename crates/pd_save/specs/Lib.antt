@@ -1,0 +1,5 @@
+pub mod Words
+pub mod Lines
+pub mod Tables
+pub mod Files
+pub mod Laws
