@@ -1,0 +1,5 @@
+pub mod Numbered
+pub mod Steps
+pub mod Keeps
+pub mod Watched
+pub mod Whys

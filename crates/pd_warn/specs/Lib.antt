@@ -1,0 +1,4 @@
+pub mod Stated
+pub mod Watch
+pub mod Warnings
+pub mod Truth

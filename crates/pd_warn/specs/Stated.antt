@@ -1,0 +1,74 @@
+-- What a scenario says that is surely not meant, its run apart.
+use Rattle.std.specs.Prelude.{ℕ, ◌+◌, ◌-◌, ◌*◌, nat_lt, Bool, false, List, [], ◌∷◌, ◌++◌, bytes_eq, if◌then◌else◌}
+use Rattle.std.specs.List.{flat_map, list_all, list_any}
+use Rattle.pd_objects.specs.Supply.{SupplyData}
+use Rattle.pd_setup.specs.Settings.{SettingsData}
+use Rattle.pd_setup.specs.declared.event.EventKind.TheVariants.{Attach}
+use Rattle.pd_scenario.specs.Events.{ScenarioEventKind}
+use Rattle.pd_scenario.specs.Scenarios.{ScenarioData, floors_mw}
+use Rattle.pd_scenario.specs.declared.event.ScenarioEvent.{ScenarioEvent}
+use Rattle.pd_scenario.specs.declared.event.ScenarioHappening.{ScenarioHappening}
+use Rattle.pd_scenario.specs.declared.event.ScenarioHappening.TheVariants.{OnPort, Budget}
+use Rattle.pd_scenario.specs.declared.named.NamedCable.{NamedCable}
+use Rattle.pd_scenario.specs.declared.named.NamedSink.{NamedSink}
+use Rattle.pd_warn.specs.declared.warning.Warning.{Warning}
+use Rattle.pd_warn.specs.declared.warning.Warning.TheVariants.{AfterEnd, SmallShare, UnusedCable, UnusedSink}
+
+-- ---- events after the end
+
+abbrev pub late_part : ℕ → ScenarioEvent → List Warning
+late_part end e = if nat_lt end e.at then AfterEnd e.id e.at end ∷ [] else []
+
+-- ---- names that no attach has
+
+abbrev pub kind_has_cable : List ℕ → ScenarioEventKind → Bool
+kind_has_cable name (Attach cable sink) = bytes_eq cable name
+kind_has_cable name _ = false
+
+abbrev pub has_cable : List ℕ → ScenarioHappening → Bool
+has_cable name (OnPort port kind) = kind_has_cable name kind
+has_cable name (Budget mw) = false
+
+abbrev pub kind_has_sink : List ℕ → ScenarioEventKind → Bool
+kind_has_sink name (Attach cable sink) = bytes_eq sink name
+kind_has_sink name _ = false
+
+abbrev pub has_sink : List ℕ → ScenarioHappening → Bool
+has_sink name (OnPort port kind) = kind_has_sink name kind
+has_sink name (Budget mw) = false
+
+abbrev pub cable_part : List ScenarioEvent → NamedCable → List Warning
+cable_part events c =
+    if list_any (λ (e : ScenarioEvent). has_cable c.name e.happening) events then [] else UnusedCable c.name ∷ []
+
+abbrev pub sink_part : List ScenarioEvent → NamedSink → List Warning
+sink_part events s =
+    if list_any (λ (e : ScenarioEvent). has_sink s.name e.happening) events then [] else UnusedSink s.name ∷ []
+
+-- ---- what is left for a port
+
+-- the share that the floors of the other ports leave, in microwatts; all floors are so many mW
+abbrev pub share_of : ℕ → ℕ → SettingsData → ℕ
+share_of budget_mw floors s = (budget_mw - (floors - s.floor_mw)) * 1000
+
+-- a supply's voltage in mV times its current in mA is its power in microwatts
+abbrev pub each_wants_more : ℕ → SettingsData → Bool
+each_wants_more share s = list_all (λ (supply : SupplyData). nat_lt share (supply.mv * supply.ma)) s.supplies
+
+abbrev pub share_part : ℕ → ℕ → ℕ → SettingsData → List Warning
+share_part budget_mw floors port s =
+    let share = share_of budget_mw floors s in
+    if each_wants_more share s then SmallShare port share ∷ [] else []
+
+-- the ports, the first of which has this number
+unfoldable pub shares_part : ℕ → ℕ → ℕ → List SettingsData → List Warning
+shares_part budget_mw floors port [] = []
+shares_part budget_mw floors port (s ∷ ss) = share_part budget_mw floors port s ++ shares_part budget_mw floors (port + 1) ss
+
+-- ---- all of it
+
+unfoldable pub stated : ScenarioData → List Warning
+stated c =
+    flat_map (late_part c.end_us) c.events
+    ++ (flat_map (cable_part c.events) c.cables
+    ++ (flat_map (sink_part c.events) c.sinks ++ shares_part c.budget_mw (floors_mw c.settings) 1 c.settings))

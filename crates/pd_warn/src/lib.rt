@@ -1,0 +1,14 @@
+//! What a scenario has that is accepted and surely not meant: events that never happen or do nothing, names that nothing uses, and
+//! ports that have too little of the shared budget.
+#![tactic(auto)]
+
+pub mod laws;
+mod names;
+mod run;
+mod scenario;
+mod shares;
+mod warning;
+mod watch;
+
+pub use scenario::warnings;
+pub use warning::{Warning, Why};
