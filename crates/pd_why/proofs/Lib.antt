@@ -1,0 +1,5 @@
+pub mod BoundLemmas
+pub mod LookLemmas
+pub mod ShareLemmas
+pub mod StoryLemmas
+pub mod TextLemmas
