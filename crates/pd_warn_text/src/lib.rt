@@ -1,0 +1,11 @@
+//! What the scenario of a text is warned of, in words.
+#![tactic(auto)]
+
+mod sentences;
+mod texts;
+
+pub use sentences::push_warning;
+pub use texts::{WarnFault, warn_text};
+
+#[cfg(test)]
+mod tests;

@@ -1,0 +1,10 @@
+//! What bounds a port, for the scenarios of texts.
+#![tactic(auto)]
+
+mod texts;
+
+pub use pd_why::Question;
+pub use texts::{WhyFault, why_text};
+
+#[cfg(test)]
+mod tests;
