@@ -9,6 +9,7 @@ use pd_explain_text::{ExplainFault, explain_text};
 use pd_misfits::explain_file;
 use pd_run_text::read_whole;
 use pd_scenario_text::ScenarioFault;
+use pd_warn_text::{WarnFault, warn_text};
 use std::alloc::Global;
 use std::rt::Files;
 
@@ -42,7 +43,29 @@ fn tell_places<R: Print + Alloc<A = Global>, E: Print>(
     }
 }
 
-/// Tells why lines of an edit script are refused, for the scenario of a file.
+/// Tells what the scenario of a file is warned of, as an edit script leaves it; the ending stays as it was.
+fn tell_warnings<R: Print + Alloc<A = Global>, E: Print>(
+    rt: &R,
+    errors: &E,
+    file: &str,
+    text: &[u8],
+    script: &[u8],
+    ending: Ending,
+) -> Ending {
+    let mut said = Vec::new(rt.alloc());
+    match warn_text(rt.alloc(), text, file.as_bytes(), script, &mut said) {
+        Ok(()) => {}
+        // `explain_text` answers this as well.
+        Err(WarnFault::Scenario(_)) => return ending,
+        Err(WarnFault::Memory) => return tell(errors, BenchFault::Memory),
+    }
+    match write_all(&mut output(rt), said.as_slice()) {
+        Ok(()) => ending,
+        Err(fault) => tell(errors, fault),
+    }
+}
+
+/// Tells why lines of an edit script are refused, for the scenario of a file, and what that is warned of.
 pub fn explained<R: Files + Input + Print + Alloc<A = Global>, E: Print>(
     rt: &R,
     errors: &E,
@@ -65,7 +88,17 @@ pub fn explained<R: Files + Input + Print + Alloc<A = Global>, E: Print>(
         &mut said,
     );
     match answer {
-        Ok(()) => tell_said(rt, errors, said.as_slice(), Ending::Done),
+        Ok(()) => match tell_said(rt, errors, said.as_slice(), Ending::Done) {
+            Ending::Fault => Ending::Fault,
+            ending => tell_warnings(
+                rt,
+                errors,
+                scenario,
+                text.as_slice(),
+                script.as_slice(),
+                ending,
+            ),
+        },
         Err(ExplainFault::Scenario(fault)) => {
             tell_places(rt, errors, scenario, text.as_slice(), fault)
         }

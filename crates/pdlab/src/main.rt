@@ -1,7 +1,8 @@
-//! The engineer's desk as a program: `pdlab live`, `pdlab show`, `pdlab explain` and `pdlab decode`.
+//! The engineer's desk as a program: `pdlab live`, `pdlab show`, `pdlab why`, `pdlab explain` and `pdlab decode`.
 #![tactic(auto)]
 
 mod at_keyboard;
+mod bounds;
 mod explained;
 mod fault;
 mod log;
@@ -10,6 +11,7 @@ mod shown;
 mod words;
 
 use at_keyboard::live;
+use bounds::{bounds, question_of};
 use clap::ArgMatches;
 use clap::error::ErrorKind;
 use explained::explained;
@@ -97,6 +99,7 @@ where
     };
     match name {
         "show" => show(rt, errors, scenario, matches),
+        "why" => why(rt, errors, scenario, matches),
         "explain" => explained(rt, errors, scenario, matches.get_str("EDITS")),
         _ => live(rt, errors, scenario),
     }
@@ -111,6 +114,19 @@ fn show<R: Files + Input + Print + Alloc<A = Global>, E: Print>(
 ) -> Ending {
     match choice_of(matches) {
         Ok(choice) => shown(rt, errors, scenario, matches.get_str("EDITS"), &choice),
+        Err(_) => answer_words(rt, errors, &[], ErrorKind::InvalidValue),
+    }
+}
+
+/// Tells what bounds a port, by the words behind `why`.
+fn why<R: Files + Input + Print + Alloc<A = Global>, E: Print>(
+    rt: &R,
+    errors: &E,
+    scenario: &str,
+    matches: &ArgMatches<'_>,
+) -> Ending {
+    match question_of(matches) {
+        Ok(question) => bounds(rt, errors, scenario, matches.get_str("EDITS"), &question),
         Err(_) => answer_words(rt, errors, &[], ErrorKind::InvalidValue),
     }
 }

@@ -30,7 +30,7 @@ pub fn choice_of(matches: &ArgMatches<'_>) -> Result<Choice, ParseIntError> {
 ///
 /// # Errors
 /// There is no memory.
-fn tell_lines<R: Alloc<A = Global>, E: Print>(
+pub fn tell_lines<R: Alloc<A = Global>, E: Print>(
     rt: &R,
     errors: &E,
     text: &[u8],

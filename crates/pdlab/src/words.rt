@@ -5,7 +5,8 @@ use std::alloc::{AllocError, Global};
 
 /// What stands where the words are others.
 pub const USAGE: &str =
-    "usage: pdlab live SCENARIO | show SCENARIO [EDITS] [OPTIONS] | explain SCENARIO [EDITS] | decode [--json] [FILE] | --help";
+    "usage: pdlab live SCENARIO | show SCENARIO [EDITS] [OPTIONS] | why SCENARIO EDITS PORT [AT] | \
+     explain SCENARIO [EDITS] | decode [--json] [FILE] | --help";
 
 /// What `--help` prints.
 pub const HELP: &str = "pdlab: the engineer's desk
@@ -14,7 +15,10 @@ usage: pdlab COMMAND ..
 
   live SCENARIO             a session at the keyboard
   show SCENARIO [EDITS]     a run as an engineer reads it, all ports in one list
-  explain SCENARIO [EDITS]  why a scenario, or lines of an edit script, are refused
+  why SCENARIO EDITS PORT [AT]
+                            what bounds a port's offers, and what came of them
+  explain SCENARIO [EDITS]  why a scenario, or lines of an edit script, are refused,
+                            and what is surely not meant
   decode [--json] [FILE]    what the lines of a log say
   COMMAND --help            tells more of a command, with an example
   -h, --help                prints this
@@ -70,6 +74,31 @@ status: 0 the run was shown, 1 the scenario is refused, or has no such port,
         2 the words are others, 3 a file can't be read, or a fault
 ";
 
+/// What `why --help` prints.
+pub const WHY_HELP: &str = "pdlab why: what bounds a port
+
+usage: pdlab why SCENARIO EDITS PORT [AT]
+
+Runs the charger of the file SCENARIO, as the edit script EDITS leaves it (- is
+standard input; /dev/null has no edits), and tells of the last offer of port PORT:
+the budget, what each other port holds of it and why, and what is free; what the
+cable carries and how that is known; of each supply what is configured, what the
+cable and what is free allow, and which of them set the current that is offered,
+all that are the least; what the sink asks for and why; and what comes of it. Why
+lines of EDITS are refused is told on standard error, and they change nothing.
+
+  PORT   the port; ports are numbered from 1
+  AT     tells of each offer up to this time, in microseconds, in place of the last
+
+Voltages are in volts, currents in amperes, in the steps of 10 mA in which offers
+state them, powers in watts.
+
+example: pdlab why examples/derating.toml /dev/null 2
+
+status: 0 it was told, 1 the scenario is refused, or has no such port,
+        2 the words are others, 3 a file can't be read, or a fault
+";
+
 /// What `explain --help` prints.
 pub const EXPLAIN_HELP: &str =
     "pdlab explain: why a scenario, or lines of an edit script, are refused
@@ -80,8 +109,13 @@ Goes through the edit script EDITS, or standard input where it is -, against the
 charger of the file SCENARIO, and tells of each line that pdbench would refuse
 where it breaks the rule and what would be right there: a line for each place,
 behind the script's name and the number of its line. A line is held against the
-scenario as the lines before it left it. Nothing is run. Where SCENARIO is refused,
-with EDITS or without, tells each of its keys that breaks the rule.
+scenario as the lines before it left it. Where SCENARIO is refused, with EDITS or
+without, tells each of its keys that breaks the rule.
+
+Else warns of what is surely not meant in the scenario, as EDITS leaves it: events
+after the end, events that do nothing and why, disturbances that meet no packet,
+cables and sinks that no event attaches, and ports that get too little power beside
+the floors of the others. The status stays as it is.
 
 Numbers are those of pdbench: times in microseconds, voltages in mV, currents in
 mA, powers in mW.
@@ -90,6 +124,7 @@ example: pdlab explain mine.toml
   mine.toml: refused 5: event 3: `at` is 130000000, not 0 to 120000000
 example: pdlab explain mine.toml mine.edits
   mine.edits:4: refused 24: no cable is named `thick`; there are thin, c5
+  mine.toml: warning: event 12 at 3000000 is after the end, 2000000: it never happens
 
 status: 0 no line is refused, 1 a line or the scenario is refused,
         3 a file can't be read, or a fault
@@ -152,6 +187,22 @@ fn show<'a>(alloc: Global) -> Result<Command<'a>, AllocError> {
         .arg(option(alloc, "codes", ArgAction::SetTrue))
 }
 
+/// A word that stands behind others, or may.
+fn word<'a>(alloc: Global, name: &'a str, is_required: bool) -> Arg<'a> {
+    Arg::new(alloc, name)
+        .required(is_required)
+        .action(ArgAction::Set)
+}
+
+/// `pdlab why SCENARIO EDITS PORT [AT]`.
+fn why<'a>(alloc: Global) -> Result<Command<'a>, AllocError> {
+    Command::new(alloc, "why")
+        .arg(scenario(alloc))?
+        .arg(word(alloc, "EDITS", true))?
+        .arg(word(alloc, "PORT", true))?
+        .arg(word(alloc, "AT", false))
+}
+
 /// `pdlab explain SCENARIO [EDITS]`.
 fn explain<'a>(alloc: Global) -> Result<Command<'a>, AllocError> {
     let edits = Arg::new(alloc, "EDITS").action(ArgAction::Set);
@@ -174,6 +225,7 @@ pub fn command<'a>(alloc: Global) -> Result<Command<'a>, AllocError> {
     Command::new(alloc, "pdlab")
         .subcommand(live)?
         .subcommand(show(alloc)?)?
+        .subcommand(why(alloc)?)?
         .subcommand(explain(alloc)?)?
         .subcommand(decode(alloc)?)
 }
@@ -183,6 +235,7 @@ pub fn help_of(word: &str) -> &'static str {
     match word {
         "live" => LIVE_HELP,
         "show" => SHOW_HELP,
+        "why" => WHY_HELP,
         "explain" => EXPLAIN_HELP,
         "decode" => DECODE_HELP,
         _ => HELP,

@@ -1,0 +1,55 @@
+//! `pdlab why SCENARIO EDITS PORT [AT]`.
+
+use crate::Ending;
+use crate::fault::{output, tell, tell_no_port, tell_refused, tell_unread};
+use crate::script_file::read_script;
+use crate::shown::tell_lines;
+use clap::ArgMatches;
+use pd_device::{BenchFault, write_all};
+use pd_run_text::read_whole;
+use pd_why_text::{Question, WhyFault, why_text};
+use std::alloc::Global;
+use std::num::ParseIntError;
+use std::rt::Files;
+
+/// What the words of the command line ask. A port that isn't named is none.
+///
+/// # Errors
+/// One of the numbers is none.
+pub fn question_of(matches: &ArgMatches<'_>) -> Result<Question, ParseIntError> {
+    Ok(Question {
+        port: matches.try_get_one("PORT")?.unwrap_or(0),
+        to: matches.try_get_one("AT")?,
+    })
+}
+
+/// Tells what bounds a port in the run of the scenario of a file, as the edits of a script leave it.
+pub fn bounds<R: Files + Input + Print + Alloc<A = Global>, E: Print>(
+    rt: &R,
+    errors: &E,
+    scenario: &str,
+    edits: Option<&str>,
+    question: &Question,
+) -> Ending {
+    let Ok(text) = read_whole(rt, scenario) else {
+        return tell_unread(errors, scenario);
+    };
+    let (text, name) = (text.as_slice(), edits.unwrap_or("-"));
+    let Ok(script) = read_script(rt, edits) else {
+        return tell_unread(errors, name);
+    };
+    let script = script.as_slice();
+    if let Err(fault) = tell_lines(rt, errors, text, name, script) {
+        return tell(errors, fault);
+    }
+    let mut said = Vec::new(rt.alloc());
+    match why_text(rt.alloc(), text, script, question, &mut said) {
+        Ok(()) => match write_all(&mut output(rt), said.as_slice()) {
+            Ok(()) => Ending::Done,
+            Err(fault) => tell(errors, fault),
+        },
+        Err(WhyFault::Scenario(fault)) => tell_refused(errors, scenario, fault),
+        Err(WhyFault::NoSuchPort) => tell_no_port(errors),
+        Err(WhyFault::Memory) => tell(errors, BenchFault::Memory),
+    }
+}
