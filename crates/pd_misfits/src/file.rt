@@ -13,9 +13,18 @@ use pd_scenario_tables::{Key, ScenarioFault, TableKind, event_at, tables_at, ver
 use std::alloc::{AllocError, Global};
 use toml::Table;
 
-/// What stands before the sentence on each line of a table of a list.
+/// What stands before the sentence on each line of a table of a list: what stands before all lines, and the table by its
+/// place among those of its kind, from 1.
+///
+/// # Errors
+/// There is no memory.
 #[tactic(auto, unfolding(crate::specs::Lines::table_front))]
-fn table_front(alloc: Global, front: &[u8], word: &str, number: u64) -> Result<Vec<u8>, AllocError>
+pub fn table_front(
+    alloc: Global,
+    front: &[u8],
+    word: &str,
+    number: u64,
+) -> Result<Vec<u8>, AllocError>
     ensures { IfOk result (λ v. v.items ≡ table_front front.now word.now number) }
 {
     let mut text = Vec::new(alloc);
@@ -70,9 +79,12 @@ fn push_events(
     Ok(())
 }
 
-/// What stands before each line of a file.
+/// What stands before each line of a file: its name and the number of a refusal.
+///
+/// # Errors
+/// There is no memory.
 #[tactic(auto, unfolding(crate::specs::Lines::file_front))]
-fn file_front(alloc: Global, name: &[u8], fault: ScenarioFault) -> Result<Vec<u8>, AllocError>
+pub fn file_front(alloc: Global, name: &[u8], fault: ScenarioFault) -> Result<Vec<u8>, AllocError>
     ensures { IfOk result (λ v. v.items ≡ file_front name.now fault) }
 {
     let mut text = Vec::new(alloc);

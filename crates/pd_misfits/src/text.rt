@@ -34,8 +34,11 @@ fn push_line_place(text: &mut Vec<u8>, name: &[u8], line: u64) -> Result<(), All
 }
 
 /// Writes words behind what stands before them on their line.
+///
+/// # Errors
+/// There is no memory; some of the line may stand there.
 #[tactic(auto, unfolding(crate::specs::Lines::line))]
-fn push_line(text: &mut Vec<u8>, front: &[u8], words: &[u8]) -> Result<(), AllocError>
+pub fn push_line(text: &mut Vec<u8>, front: &[u8], words: &[u8]) -> Result<(), AllocError>
     ensures { OnOk result (text.new.items ≡ text.old.items ++ line front.now words.now) }
 {
     text.extend_from_slice(front)?;

@@ -10,6 +10,9 @@ use std::alloc::AllocError;
 use toml::Value;
 
 /// Writes a number in decimal digits.
+///
+/// # Errors
+/// There is no memory; some of the digits may stand there.
 pub fn push_number(text: &mut Vec<u8>, number: u64) -> Result<(), AllocError>
     ensures { OnOk result (text.new.items ≡ text.old.items ++ decimal number) }
 {
@@ -53,7 +56,10 @@ fn push_printable(text: &mut Vec<u8>, word: &[u8]) -> Result<(), AllocError>
     Ok(())
 }
 
-/// Writes a word in quotes.
+/// Writes a word in quotes; what is no printable ASCII character is shown as a question mark.
+///
+/// # Errors
+/// There is no memory; some of the word may stand there.
 #[tactic(auto, unfolding(crate::specs::Sentences::quoted))]
 pub fn push_quoted(text: &mut Vec<u8>, word: &[u8]) -> Result<(), AllocError>
     ensures { OnOk result (text.new.items ≡ text.old.items ++ quoted word.now) }

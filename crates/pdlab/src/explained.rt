@@ -6,7 +6,7 @@ use crate::script_file::read_script;
 use pd_desk::tell_reason;
 use pd_device::{BenchFault, write_all};
 use pd_explain_text::{ExplainFault, explain_text};
-use pd_misfits::explain_file;
+use pd_places::explain_places;
 use pd_run_text::read_whole;
 use pd_scenario_text::ScenarioFault;
 use pd_warn_text::{WarnFault, warn_text};
@@ -22,7 +22,7 @@ fn tell_said<R: Print, E: Print>(rt: &R, errors: &E, said: &[u8], otherwise: End
     }
 }
 
-/// Tells where the scenario of a file is refused; where no place can be told, what the rule is.
+/// Tells where the scenario of a file breaks rules; where no place can be told, what the rule of its refusal is.
 fn tell_places<R: Print + Alloc<A = Global>, E: Print>(
     rt: &R,
     errors: &E,
@@ -30,7 +30,7 @@ fn tell_places<R: Print + Alloc<A = Global>, E: Print>(
     text: &[u8],
     fault: ScenarioFault,
 ) -> Ending {
-    let Ok(said) = explain_file(rt.alloc(), file.as_bytes(), text, fault) else {
+    let Ok(said) = explain_places(rt.alloc(), file.as_bytes(), text) else {
         return tell(errors, BenchFault::Memory);
     };
     if !said.is_empty() {

@@ -110,7 +110,8 @@ charger of the file SCENARIO, and tells of each line that pdbench would refuse
 where it breaks the rule and what would be right there: a line for each place,
 behind the script's name and the number of its line. A line is held against the
 scenario as the lines before it left it. Where SCENARIO is refused, with EDITS or
-without, tells each of its keys that breaks the rule.
+without, tells each place at which it breaks a rule, those of the least refusal
+first: 20 of them at most, and how many more there are.
 
 Else warns of what is surely not meant in the scenario, as EDITS leaves it: events
 after the end, events that do nothing and why, disturbances that meet no packet,
@@ -122,6 +123,7 @@ mA, powers in mW.
 
 example: pdlab explain mine.toml
   mine.toml: refused 5: event 3: `at` is 130000000, not 0 to 120000000
+  mine.toml: refused 10: event 1: `sink` is `fone`, the name of no sink; there are `phone`
 example: pdlab explain mine.toml mine.edits
   mine.edits:4: refused 24: no cable is named `thick`; there are thin, c5
   mine.toml: warning: event 12 at 3000000 is after the end, 2000000: it never happens

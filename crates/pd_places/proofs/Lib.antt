@@ -1,0 +1,3 @@
+mod NumberedTexts
+mod Found
+mod NoToml

@@ -1,0 +1,6 @@
+pub mod Counts
+pub mod Funds
+pub mod Known
+pub mod Numbered
+pub mod Places
+pub mod Same

@@ -1,0 +1,78 @@
+-- Each place at which a scenario file breaks a rule: this product's own form, docs/FORMATS.md, "Reasons".
+use Rattle.std.specs.Prelude.{◌≡◌, ◌⊎◌, ℕ, ◌+◌, ◌-◌, ◌≤◌, ◌<◌, ◌==◌, List, [], ◌∷◌, ◌++◌, length, take, drop, map, filter, slice_index}
+use Rattle.std.specs.Prelude.{codes, decimal, Result, Ok, Err, if◌then◌else◌}
+use Rattle.std.specs.List.{flat_map}
+use Rattle.toml.specs.Data.{Members}
+use Rattle.pd_scenario_tables.specs.declared.fault.ScenarioFault.{ScenarioFault}
+use Rattle.pd_scenario_tables.specs.declared.fault.ScenarioFault.TheVariants as fault
+use Rattle.pd_scenario_tables.specs.Ports.{counted}
+use Rattle.pd_scenario_text.specs.FileTables.{Tables, tables_of}
+use Rattle.pd_scenario_text.specs.Reading.{IsTextOf}
+use Rattle.pd_scenario_text.specs.Refusals.{refusals}
+use Rattle.pd_misfits.specs.Lines.{file_front, file_text}
+use Rattle.pd_misfits.specs.Texts.{ends_line, TellsSyntax}
+use Rattle.pd_places.specs.Same.{same_text}
+use Rattle.pd_places.specs.Funds.{funds_text}
+use Rattle.pd_places.specs.Known.{known_text}
+use Rattle.pd_places.specs.Counts.{counts_text}
+
+-- ---- a line for each place
+
+-- the places at which a refusal applies
+abbrev pub refusal_text : List ℕ → ScenarioFault → Tables → List ℕ
+refusal_text name fault.Duplicate d = same_text (file_front name fault.Duplicate) d
+refusal_text name fault.Floors d = funds_text (file_front name fault.Floors) d
+refusal_text name fault.UnknownName d = known_text (file_front name fault.UnknownName) d
+refusal_text name fault.Limit d = counts_text (file_front name fault.Limit) d
+refusal_text name refusal d = file_text name refusal d
+
+-- the refusals that are told: where the ports can't be counted, that alone
+abbrev pub told_refusals : Result ℕ ScenarioFault → List ScenarioFault
+told_refusals (Ok ports) = refusals
+told_refusals (Err refusal) = refusal ∷ []
+
+-- the least refusal first, then in the order of the file's tables
+abbrev pub places_text : List ℕ → Members → List ℕ
+places_text name t = flat_map (λ refusal. refusal_text name refusal (tables_of t)) (told_refusals (counted t))
+
+-- ---- twenty of them
+
+abbrev pub line_count : List ℕ → ℕ
+line_count text = length (filter ends_line text)
+
+-- so many bytes of a text are its first lines, at most so many, or all of them
+pub record IsCut (most : ℕ) (text : List ℕ) (cut : ℕ) : Type 0 where
+  pub within : cut ≤ length text
+  pub few : line_count (take cut text) ≤ most
+  pub full : cut < length text → (line_count (take cut text) ≡ most) × (slice_index text (cut - 1) ≡ 10)
+
+unfoldable pub more_words : ℕ → List ℕ
+more_words count = if count == 1 then codes " more place\n" else codes " more places\n"
+
+unfoldable pub more_line : List ℕ → ℕ → List ℕ
+more_line name count = name ++ (codes ": " ++ (decimal count ++ more_words count))
+
+-- how many more lines there are, where there are any
+abbrev pub more_text : List ℕ → ℕ → List ℕ
+more_text name count = if count == 0 then [] else more_line name count
+
+-- the first lines of a text, and how many more there are
+abbrev pub IsShort : ℕ → List ℕ → List ℕ → List ℕ → Type 0
+IsShort most name text said = (cut : ℕ) × IsCut most text cut × (said ≡ take cut text ++ more_text name (line_count (drop cut text)))
+
+abbrev pub most_places : ℕ
+most_places = 20
+
+-- ---- a text
+
+-- a file's name, on one line
+abbrev pub one_line_byte : ℕ → ℕ
+one_line_byte byte = if byte == 10 then 63 else byte
+
+abbrev pub one_line : List ℕ → List ℕ
+one_line name = map one_line_byte name
+
+-- twenty of the places of the tables that the text is; where it is no TOML, where that begins
+abbrev pub TellsPlaces : List ℕ → List ℕ → List ℕ → Type 0
+TellsPlaces name text said =
+    ((t : Members) × IsTextOf text t × IsShort most_places name (places_text name t) said) ⊎ TellsSyntax name text said

@@ -1,0 +1,86 @@
+//! Refusal 9: budgets below what the floors add to.
+
+ghost use Rattle.std.specs.Prelude.{◌≡◌, ◌++◌, OnOk};
+ghost use Rattle.toml.specs.View.{table_view};
+ghost use Rattle.pd_scenario_tables.specs.Seen.{views};
+ghost use Rattle.pd_misfits.specs.Lines.{line};
+ghost use Rattle.pd_places.specs.Numbered.{numbered};
+ghost use Rattle.pd_places.specs.Funds.{low_sentence, low_part, event_low_part};
+
+use pd_misfits::{push_line, push_number, push_quoted, table_front};
+use pd_scenario_tables::{EventName, Key, Version, event_at, number_at};
+use std::alloc::{AllocError, Global};
+use toml::Table;
+
+/// Writes a budget, and what the floors add to, in mW.
+#[tactic(auto, unfolding(crate::specs::Funds::low_sentence))]
+fn push_low_sentence(text: &mut Vec<u8>, key: Key, mw: u64, floors: u64) -> Result<(), AllocError>
+    ensures { OnOk result (text.new.items ≡ text.old.items ++ low_sentence key mw floors) }
+{
+    push_quoted(text, key.text().as_bytes())?;
+    text.extend_from_slice(b" is ")?;
+    push_number(text, mw)?;
+    text.extend_from_slice(b", below ")?;
+    push_number(text, floors)?;
+    text.extend_from_slice(b", what the floors add to")
+}
+
+/// Writes a line for a budget that is too low.
+pub fn push_low(
+    alloc: Global,
+    text: &mut Vec<u8>,
+    front: &[u8],
+    key: Key,
+    mw: u64,
+    floors: u64,
+) -> Result<(), AllocError>
+    ensures { OnOk result (text.new.items ≡ text.old.items ++ low_part front.now key mw floors) }
+{
+    if mw == 0 || mw >= floors {
+        return Ok(());
+    }
+    let mut sentence = Vec::new(alloc);
+    push_low_sentence(&mut sentence, key, mw, floors)?;
+    push_line(text, front, sentence.as_slice())
+}
+
+/// Writes a line for an event that changes the budget to one that is too low.
+fn push_event_low(
+    alloc: Global,
+    text: &mut Vec<u8>,
+    front: &[u8],
+    version: Version,
+    floors: u64,
+    number: u64,
+    table: &Table,
+) -> Result<(), AllocError>
+    ensures { OnOk result (text.new.items ≡ text.old.items ++ event_low_part front.now version floors number (table_view table.now)) }
+{
+    match event_at(version, table) {
+        EventName::Budget => {
+            let own = table_front(alloc, front, "event", number)?;
+            let mw = u64::from(number_at(table, Key::Mw));
+            push_low(alloc, text, own.as_slice(), Key::Mw, mw, floors)
+        }
+        EventName::OnPort(_) | EventName::Unknown => Ok(()),
+    }
+}
+
+/// Writes a line for each event that changes the budget to one that is too low.
+pub fn push_events_low(
+    alloc: Global,
+    text: &mut Vec<u8>,
+    front: &[u8],
+    version: Version,
+    floors: u64,
+    tables: &[&Table],
+) -> Result<(), AllocError>
+    ensures { OnOk result (text.new.items ≡ text.old.items ++ numbered (event_low_part front.now version floors) 1 (views tables.now)) }
+{
+    let mut number = 1;
+    for table in tables {
+        push_event_low(alloc, text, front, version, floors, number, table)?;
+        number += 1;
+    }
+    Ok(())
+}

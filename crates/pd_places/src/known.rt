@@ -1,0 +1,179 @@
+//! Refusal 10: an attach by a name that no cable, or no sink, has.
+
+ghost use Rattle.std.specs.Prelude.{◌≡◌, ◌++◌, OnOk, bytes_eq};
+ghost use Rattle.std.specs.List.{list_any, flat_map};
+ghost use Rattle.toml.specs.View.{table_view};
+ghost use Rattle.pd_scenario_tables.specs.Seen.{views};
+ghost use Rattle.pd_scenario_text.specs.Names.{texts};
+ghost use Rattle.pd_misfits.specs.Lines.{line};
+ghost use Rattle.pd_places.specs.Numbered.{numbered};
+ghost use Rattle.pd_places.specs.Known.{name_word, names_text, stranger_words, stranger_sentence, stranger_part, attach_part};
+ghost use Rattle.pd_places.specs.Known.{event_known_part};
+
+use crate::collect::word_at;
+use pd_misfits::{push_line, push_quoted, table_front};
+use pd_scenario_tables::{EventName, Key, Version, event_at};
+use pd_setup::EventKind;
+use std::alloc::{AllocError, Global};
+use toml::Table;
+
+#[tactic(auto, unfolding(crate::specs::Known::name_word))]
+fn push_name_word(text: &mut Vec<u8>, name: &str) -> Result<(), AllocError>
+    ensures { OnOk result (text.new.items ≡ text.old.items ++ name_word name.now) }
+{
+    text.push(b' ')?;
+    push_quoted(text, name.as_bytes())
+}
+
+fn push_name_words(text: &mut Vec<u8>, names: &[&str]) -> Result<(), AllocError>
+    ensures { OnOk result (text.new.items ≡ text.old.items ++ flat_map name_word (texts names.now)) }
+{
+    for name in names {
+        push_name_word(text, name)?;
+    }
+    Ok(())
+}
+
+/// Writes the names that there are.
+fn push_names(text: &mut Vec<u8>, names: &[&str]) -> Result<(), AllocError>
+    ensures { OnOk result (text.new.items ≡ text.old.items ++ names_text (texts names.now)) }
+{
+    if names.is_empty() {
+        text.extend_from_slice(b" none")
+    } else {
+        push_name_words(text, names)
+    }
+}
+
+/// Writes that a name is none of those that there are.
+#[tactic(auto, unfolding(crate::specs::Known::stranger_words))]
+fn push_stranger_words(text: &mut Vec<u8>, key: Key, names: &[&str]) -> Result<(), AllocError>
+    ensures { OnOk result (text.new.items ≡ text.old.items ++ stranger_words key (texts names.now)) }
+{
+    text.extend_from_slice(b", the name of no ")?;
+    text.extend_from_slice(key.text().as_bytes())?;
+    text.extend_from_slice(b"; there are")?;
+    push_names(text, names)
+}
+
+/// Writes a name that no table has, and those that there are.
+#[tactic(auto, unfolding(crate::specs::Known::stranger_sentence))]
+fn push_stranger_sentence(
+    text: &mut Vec<u8>,
+    key: Key,
+    names: &[&str],
+    name: &str,
+) -> Result<(), AllocError>
+    ensures { OnOk result (text.new.items ≡ text.old.items ++ stranger_sentence key (texts names.now) name.now) }
+{
+    push_quoted(text, key.text().as_bytes())?;
+    text.extend_from_slice(b" is ")?;
+    push_quoted(text, name.as_bytes())?;
+    push_stranger_words(text, key, names)
+}
+
+/// Whether a name is one of some.
+fn is_one_of(names: &[&str], name: &str) -> bool
+    ensures { result ≡ list_any (λ other. bytes_eq other.now name.now) names.now }
+{
+    names.iter().any(|other| *other == name)
+}
+
+/// Whether a table has a name.
+fn has_name(names: &[&str], name: &str) -> bool
+    ensures { result ≡ list_any (λ other. bytes_eq other name.now) (texts names.now) }
+{
+    is_one_of(names, name)
+}
+
+/// Writes a line for a name that no table has.
+fn push_stranger(
+    alloc: Global,
+    text: &mut Vec<u8>,
+    front: &[u8],
+    key: Key,
+    names: &[&str],
+    name: &str,
+) -> Result<(), AllocError>
+    ensures { OnOk result (text.new.items ≡ text.old.items ++ stranger_part front.now key (texts names.now) name.now) }
+{
+    if name.is_empty() || has_name(names, name) {
+        return Ok(());
+    }
+    let mut sentence = Vec::new(alloc);
+    push_stranger_sentence(&mut sentence, key, names, name)?;
+    push_line(text, front, sentence.as_slice())
+}
+
+/// Writes a line for each name of an attach that no table has.
+#[tactic(auto, unfolding(crate::specs::Known::attach_part))]
+fn push_attach(
+    alloc: Global,
+    text: &mut Vec<u8>,
+    front: &[u8],
+    cables: &[&str],
+    sinks: &[&str],
+    table: &Table,
+) -> Result<(), AllocError>
+    ensures { OnOk result (text.new.items
+        ≡ text.old.items ++ attach_part front.now (texts cables.now) (texts sinks.now) (table_view table.now)) }
+{
+    push_stranger(
+        alloc,
+        text,
+        front,
+        Key::Cable,
+        cables,
+        word_at(table, Key::Cable),
+    )?;
+    push_stranger(
+        alloc,
+        text,
+        front,
+        Key::Sink,
+        sinks,
+        word_at(table, Key::Sink),
+    )
+}
+
+/// Writes a line for each name of an event that no table has.
+fn push_event_known(
+    alloc: Global,
+    text: &mut Vec<u8>,
+    front: &[u8],
+    version: Version,
+    names: (&[&str], &[&str]),
+    number: u64,
+    table: &Table,
+) -> Result<(), AllocError>
+    ensures { OnOk result (text.new.items ≡ text.old.items
+        ++ event_known_part front.now version (texts names.entry.0.now) (texts names.entry.1.now) number (table_view table.now)) }
+{
+    match event_at(version, table) {
+        EventName::OnPort(EventKind::Attach { .. }) => {
+            let own = table_front(alloc, front, "event", number)?;
+            push_attach(alloc, text, own.as_slice(), names.0, names.1, table)
+        }
+        _ => Ok(()),
+    }
+}
+
+/// Writes a line for each name of the events that no table has: the names of the cables, and of the sinks.
+pub fn push_events_known(
+    alloc: Global,
+    text: &mut Vec<u8>,
+    front: &[u8],
+    version: Version,
+    names: (&[&str], &[&str]),
+    tables: &[&Table],
+) -> Result<(), AllocError>
+    ensures { OnOk result (text.new.items ≡ text.old.items
+        ++ numbered (event_known_part front.now version (texts names.entry.0.now) (texts names.entry.1.now)) 1 (views tables.now)) }
+{
+    let mut number = 1;
+    for table in tables {
+        push_event_known(alloc, text, front, version, names, number, table)?;
+        number += 1;
+    }
+    Ok(())
+}

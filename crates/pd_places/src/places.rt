@@ -1,0 +1,206 @@
+//! Each place at which the tables of a file break a rule.
+
+ghost use Rattle.std.specs.Prelude.{◌≡◌, ◌≤◌, ◌++◌, OnOk, length};
+ghost use Rattle.std.specs.List.{flat_map};
+ghost use Rattle.toml.specs.View.{table_view};
+ghost use Rattle.pd_scenario_tables.specs.Seen.{views};
+ghost use Rattle.pd_scenario_tables.specs.Ports.{counted};
+ghost use Rattle.pd_scenario_text.specs.FileTables.{tables_of};
+ghost use Rattle.pd_scenario_text.specs.Refusals.{refusals};
+ghost use Rattle.pd_misfits.specs.Lines.{file_front, file_text};
+ghost use Rattle.pd_places.specs.Same.{same_text};
+ghost use Rattle.pd_places.specs.Funds.{budgets_text, funds_text};
+ghost use Rattle.pd_places.specs.Known.{known_text};
+ghost use Rattle.pd_places.specs.Counts.{counts_text};
+ghost use Rattle.pd_places.specs.Places.{refusal_text, places_text};
+
+use crate::collect::{floors_of, ids_of, names_of};
+use crate::counts::push_count;
+use crate::funds::{push_events_low, push_low};
+use crate::known::push_events_known;
+use crate::same::{push_same_ids, push_same_names};
+use pd_misfits::{explain_tables, file_front};
+use pd_scenario_tables::{Key, ScenarioFault, counted, number_at, tables_at, version_at};
+use std::alloc::{AllocError, Global};
+use toml::Table;
+
+/// The refusals of tables, the least number first.
+const REFUSALS: [ScenarioFault; 10] = [
+    ScenarioFault::UnknownKey,
+    ScenarioFault::WrongType,
+    ScenarioFault::MissingKey,
+    ScenarioFault::Range,
+    ScenarioFault::Name,
+    ScenarioFault::Duplicate,
+    ScenarioFault::Supplies,
+    ScenarioFault::Floors,
+    ScenarioFault::UnknownName,
+    ScenarioFault::Limit,
+];
+
+/// Writes where names and ids stand twice.
+#[tactic(auto, unfolding(crate::specs::Same::same_text))]
+fn push_duplicates(
+    alloc: Global,
+    text: &mut Vec<u8>,
+    front: &[u8],
+    top: &Table,
+) -> Result<(), AllocError>
+    ensures { OnOk result (text.new.items ≡ text.old.items ++ same_text front.now (tables_of (table_view top.now))) }
+{
+    let cables = tables_at(alloc, top, Key::Cable)?;
+    let cable_names = names_of(alloc, &cables)?;
+    let sinks = tables_at(alloc, top, Key::Sink)?;
+    let sink_names = names_of(alloc, &sinks)?;
+    let events = tables_at(alloc, top, Key::Event)?;
+    let ids = ids_of(alloc, &events)?;
+    push_same_names(alloc, text, front, "cable", &cable_names)?;
+    push_same_names(alloc, text, front, "sink", &sink_names)?;
+    push_same_ids(alloc, text, front, &ids)
+}
+
+/// Writes which budgets are too low for the floors of at most eight ports.
+#[tactic(auto, unfolding(crate::specs::Funds::budgets_text))]
+fn push_budgets(
+    alloc: Global,
+    text: &mut Vec<u8>,
+    front: &[u8],
+    ports: &[&Table],
+    top: &Table,
+) -> Result<(), AllocError>
+    requires ports { views ports.now ≡ (tables_of (table_view top.now)).ports }
+    requires few { length ports.now ≤ 8 }
+    ensures { OnOk result (text.new.items ≡ text.old.items ++ budgets_text front.now (tables_of (table_view top.now))) }
+{
+    let floors = floors_of(ports);
+    let events = tables_at(alloc, top, Key::Event)?;
+    let mw = u64::from(number_at(top, Key::Budget));
+    push_low(alloc, text, front, Key::Budget, mw, floors)?;
+    push_events_low(alloc, text, front, version_at(top), floors, &events)
+}
+
+/// Writes which budgets are too low, where there are no more ports than there may be.
+fn push_funds(
+    alloc: Global,
+    text: &mut Vec<u8>,
+    front: &[u8],
+    top: &Table,
+) -> Result<(), AllocError>
+    ensures { OnOk result (text.new.items ≡ text.old.items ++ funds_text front.now (tables_of (table_view top.now))) }
+{
+    let ports = tables_at(alloc, top, Key::Port)?;
+    if ports.len() > 8 {
+        return Ok(());
+    }
+    push_budgets(alloc, text, front, &ports, top)
+}
+
+/// Writes which names of events no table has.
+fn push_known(
+    alloc: Global,
+    text: &mut Vec<u8>,
+    front: &[u8],
+    top: &Table,
+) -> Result<(), AllocError>
+    ensures { OnOk result (text.new.items ≡ text.old.items ++ known_text front.now (tables_of (table_view top.now))) }
+{
+    let cables = tables_at(alloc, top, Key::Cable)?;
+    let cable_names = names_of(alloc, &cables)?;
+    let sinks = tables_at(alloc, top, Key::Sink)?;
+    let sink_names = names_of(alloc, &sinks)?;
+    let events = tables_at(alloc, top, Key::Event)?;
+    let names = (cable_names.as_slice(), sink_names.as_slice());
+    push_events_known(alloc, text, front, version_at(top), names, &events)
+}
+
+/// Writes of which tables there are too many, or too few.
+#[tactic(auto, unfolding(crate::specs::Counts::counts_text))]
+fn push_counts(
+    alloc: Global,
+    text: &mut Vec<u8>,
+    front: &[u8],
+    top: &Table,
+) -> Result<(), AllocError>
+    ensures { OnOk result (text.new.items ≡ text.old.items ++ counts_text front.now (tables_of (table_view top.now))) }
+{
+    let ports = tables_at(alloc, top, Key::Port)?;
+    let cables = tables_at(alloc, top, Key::Cable)?;
+    let sinks = tables_at(alloc, top, Key::Sink)?;
+    let events = tables_at(alloc, top, Key::Event)?;
+    push_count(alloc, text, front, "ports", 1, 8, ports.len() as u64)?;
+    push_count(alloc, text, front, "cables", 0, 64, cables.len() as u64)?;
+    push_count(alloc, text, front, "sinks", 0, 64, sinks.len() as u64)?;
+    push_count(alloc, text, front, "events", 0, 4_096, events.len() as u64)
+}
+
+/// Writes where a refusal of single tables applies.
+fn push_misfits(
+    alloc: Global,
+    text: &mut Vec<u8>,
+    name: &[u8],
+    fault: ScenarioFault,
+    top: &Table,
+) -> Result<(), AllocError>
+    ensures { OnOk result (text.new.items ≡ text.old.items ++ file_text name.now fault (tables_of (table_view top.now))) }
+{
+    let said = explain_tables(alloc, name, fault, top)?;
+    text.extend_from_slice(said.as_slice())
+}
+
+/// Writes where a refusal applies.
+fn push_refusal(
+    alloc: Global,
+    text: &mut Vec<u8>,
+    name: &[u8],
+    fault: ScenarioFault,
+    top: &Table,
+) -> Result<(), AllocError>
+    ensures { OnOk result (text.new.items ≡ text.old.items ++ refusal_text name.now fault (tables_of (table_view top.now))) }
+{
+    let front = file_front(alloc, name, fault)?;
+    let front = front.as_slice();
+    match fault {
+        ScenarioFault::Duplicate => push_duplicates(alloc, text, front, top),
+        ScenarioFault::Floors => push_funds(alloc, text, front, top),
+        ScenarioFault::UnknownName => push_known(alloc, text, front, top),
+        ScenarioFault::Limit => push_counts(alloc, text, front, top),
+        _ => push_misfits(alloc, text, name, fault, top),
+    }
+}
+
+/// Writes where each of some refusals applies.
+fn push_refusals(
+    alloc: Global,
+    text: &mut Vec<u8>,
+    name: &[u8],
+    faults: &[ScenarioFault],
+    top: &Table,
+) -> Result<(), AllocError>
+    ensures { OnOk result (text.new.items
+        ≡ text.old.items ++ flat_map (λ refusal. refusal_text name.now refusal (tables_of (table_view top.now))) faults.now) }
+{
+    for fault in faults {
+        push_refusal(alloc, text, name, *fault, top)?;
+    }
+    Ok(())
+}
+
+/// Writes a line for each place at which the tables of a scenario file break a rule, with what stands there and what is
+/// wanted: those of the least refusal first, then in the order of the file. Each table is told by its place among those of
+/// its kind, from 1. Where the ports can't be counted, that alone is told.
+///
+/// # Errors
+/// There is no memory; some of the lines may stand there.
+pub fn push_places(
+    alloc: Global,
+    text: &mut Vec<u8>,
+    name: &[u8],
+    top: &Table,
+) -> Result<(), AllocError>
+    ensures { OnOk result (text.new.items ≡ text.old.items ++ places_text name.now (table_view top.now)) }
+{
+    match counted(top) {
+        Ok(_) => push_refusals(alloc, text, name, &REFUSALS, top),
+        Err(fault) => push_refusals(alloc, text, name, &[fault], top),
+    }
+}
