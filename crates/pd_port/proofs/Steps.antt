@@ -1,5 +1,5 @@
 -- How a step of a port is put together.
-use Rattle.std.proofs.Common.{◌≡◌, List, [], Option, Some, None, refl, ap, sym, subst, ◌∙◌}
+use Rattle.std.proofs.Common.{◌≡◌, Option, Some, None, refl, ap, sym, subst, ◌∙◌}
 use Rattle.pd_objects.specs.declared.query.Answer.{Answer}
 use Rattle.pd_objects.specs.declared.query.Query.{Query}
 use Rattle.pd_objects.specs.declared.contract.Contract.{Contract}
@@ -10,14 +10,13 @@ use Rattle.pd_line.specs.declared.notes.Start.{Start}
 use Rattle.pd_line.specs.declared.port_parts.PortParts.{PortParts}
 use Rattle.pd_line.specs.declared.port_step.PortStep.{PortStep}
 use Rattle.pd_line.specs.Record.{PortRecord, with_settings, without_settings}
-use Rattle.pd_line.specs.Lines.{line_starts}
 use Rattle.pd_port.specs.declared.due.Due.{Due}
 use Rattle.pd_port.specs.declared.entry.ContractChange.{ContractChange}
 use Rattle.pd_port.specs.declared.entry.Entry.{Entry}
 use Rattle.pd_setup.specs.Settings.{SettingsData}
 use Rattle.pd_port.proofs.Later.{portstep-settings}
 use Rattle.pd_port.specs.Changes.{contract_change}
-use Rattle.pd_port.specs.Port.{PortData, earlier, begun, happens, portstep, whole, source_settings, ask, record_after, entry_of}
+use Rattle.pd_port.specs.Port.{PortData, earlier, begun, portstep, whole, source_settings, ask, record_after, entry_of}
 
 -- the later of nothing
 pub earlier-None : (d : Option Due) → earlier d None ≡ d
@@ -28,21 +27,7 @@ earlier-None (Some d) = refl
 pub with_settings-without : (s : SourceSettings) (r : PortParts) → r.source.settings ≡ s → with_settings s (without_settings r) ≡ r
 with_settings-without s r e = rw (sym e) refl
 
--- a step begins with no faults and nothing started
-begun_is : (p : PortParts) (given : Option Answer) (faults : List Fault) (start : Option Start) → faults ≡ [] → start ≡ None →
-    begun p given ≡ record { port = p; answer = given; faults = record { items = faults }; start = start }
-begun_is p given faults start e f = rw (e, f) refl
-
--- what a port's step does, from the two calls that it makes
-pub portstep_is : (old : PortParts) (d : Due) (given : Option Answer) (w v u : PortStep) → w.port ≡ old →
-    w.answer ≡ given → w.faults.items ≡ [] → w.start ≡ None →
-    v ≡ happens d.what d.time w → u ≡ line_starts d.time v → u ≡ portstep old d given
-unfolding portstep
-portstep_is old d given w v u same answered faults start first second =
-    let e : begun old given ≡ w = rw (sym same, sym answered) (begun_is w.port w.answer w.faults.items w.start faults start) in
-    rw (second, first, e) refl
-
-abbrev port_data : SettingsData → PortRecord → PortData
+abbrev pub port_data : SettingsData → PortRecord → PortData
 port_data s r = record { settings = s; port_record = r }
 
 -- a port of these settings, with this step at rest, is seen as p
@@ -53,26 +38,15 @@ SeenAs p settings w = port_data settings (without_settings w.port) ≡ p
 abbrev pub LedTo : PortData → Due → Option Answer → PortStep → Type 0
 LedTo p d given u = u ≡ portstep (whole p.settings p.port_record) d given
 
--- what a step has led to, from what a port was before it
-pub led : (p : PortData) (settings : SettingsData) (w v u : PortStep) (d : Due) (given : Option Answer) → SeenAs p settings w →
-    w.faults.items ≡ [] → w.start ≡ None → w.port.source.settings ≡ source_settings settings →
-    v ≡ happens d.what d.time (record w { answer = given }) → u ≡ line_starts d.time v → LedTo p d given u
-led p settings w v u d given view faults start set first second =
-    let a = portstep_is w.port d given (record w { answer = given }) v u refl refl faults start first second in
-    let b : with_settings (source_settings settings) (without_settings w.port) ≡ w.port =
-    with_settings-without (source_settings settings) w.port set in
-    let c : u ≡ portstep (with_settings (source_settings settings) (without_settings w.port)) d given =
-    a ∙ ap (λ (r : PortParts). portstep r d given) (sym b) in
-    subst (λ (q : PortData). u ≡ portstep (whole q.settings q.port_record) d given) view c
-
--- the same of a step that owns the port's parts
-pub led_from : (p : PortData) (settings : SettingsData) (r s : PortParts) (w v u : PortStep) (d : Due) (given : Option Answer) →
-    SeenAs p settings (begun r None) → r.source.settings ≡ source_settings settings → s ≡ r → w ≡ begun s None →
-    v ≡ happens d.what d.time (record w { answer = given }) → u ≡ line_starts d.time v → LedTo p d given u
-led_from p settings r s w v u d given view set same is first second =
-    let w_is : w ≡ begun r None = is ∙ ap (λ (x : PortParts). begun x None) same in
-    led p settings (begun r None) v u d given view refl refl set
-    (first ∙ ap (λ (x : PortStep). happens d.what d.time (record x { answer = given })) w_is) second
+-- the step of a port's parts is that of the port
+pub led_whole : (p : PortData) (settings : SettingsData) (r : PortParts) (d : Due) (given : Option Answer) →
+    SeenAs p settings (begun r None) → r.source.settings ≡ source_settings settings → LedTo p d given (portstep r d given)
+led_whole p settings r d given view set =
+    let same : with_settings (source_settings settings) (without_settings r) ≡ r =
+    with_settings-without (source_settings settings) r set in
+    let led : portstep r d given ≡ portstep (with_settings (source_settings settings) (without_settings r)) d given =
+    ap (λ (x : PortParts). portstep x d given) (sym same) in
+    subst (λ (q : PortData). portstep r d given ≡ portstep (whole q.settings q.port_record) d given) view led
 
 -- what a port is after it
 pub after_is : (p : PortData) (settings : SettingsData) (w u : PortStep) (d : Due) (given : Option Answer) → SeenAs p settings w →

@@ -87,6 +87,17 @@ impl TimedPort {
         })
     }
 
+    fn copy(&self) -> TimedPort
+        ensures { result ≡ self.now }
+    {
+        TimedPort {
+            hold: self.hold,
+            asks: self.asks,
+            own: self.own,
+            port: self.port.copy(),
+        }
+    }
+
     fn step(&mut self, due: &Due, answer: Option<Answer>, meter: &mut Meter) -> Entry
         requires { due.now.time ≤ LAST_TIME }
         ensures after { self.new ≡ record self.old {
@@ -204,9 +215,13 @@ impl SharedPort {
         if let Some(port) = Rc::get_mut(&mut self.port) {
             return Ok(port.step(due, answer, meter));
         }
-        let mut port = self.port.port.copy();
+        // It is stepped where it is to stay, so that it needn't be moved there.
+        let mut stepped = Rc::new(alloc, self.port.copy())?;
+        let Some(port) = Rc::get_mut(&mut stepped) else {
+            return Err(AllocError);
+        };
         let entry = port.step(due, answer, meter);
-        self.port = Rc::new(alloc, TimedPort::new(port))?;
+        self.port = stepped;
         Ok(entry)
     }
 }
