@@ -143,6 +143,27 @@ impl KeptMoves {
         }
     }
 
+    /// The same, with room for so many moves from the start.
+    ///
+    /// # Errors
+    /// There is no memory.
+    pub fn with_room(
+        alloc: Global,
+        first: Vec<SharedPort>,
+        room: usize,
+    ) -> Result<KeptMoves, AllocError>
+        ensures { IfOk result (λ moves. moves ≡ record { to = 0; first = first.items; moves = [] }) }
+    {
+        Ok(KeptMoves {
+            to: 0,
+            first,
+            moves: Vec::with_capacity(alloc, room)?,
+            marks: Vec::with_capacity(alloc, room)?,
+            links: Vec::with_capacity(alloc, room)?,
+            stirs: Vec::with_capacity(alloc, room)?,
+        })
+    }
+
     /// Up to which time these are the moves of a run, in microseconds.
     pub fn to(&self) -> u64
         ensures { result ≡ self.now.to }

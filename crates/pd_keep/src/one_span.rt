@@ -23,6 +23,9 @@ use std::alloc::{AllocError, Global};
 /// So many moves are enough for a span.
 const ENOUGH: usize = 64;
 
+/// Most spans have no more moves than these.
+const ROOM: usize = 160;
+
 /// A span that has enough moves ends at a multiple of this time, in microseconds, so that there aren't ever more spans than
 /// these.
 pub const STRIDE: u64 = 131_072;
@@ -68,7 +71,7 @@ pub fn run_span<const N: usize>(
 {
     let _end = plan.end();
     let _count = meter.count();
-    let mut span = KeptMoves::new(alloc, live.ports(alloc)?);
+    let mut span = KeptMoves::with_room(alloc, live.ports(alloc)?, ROOM)?;
     let mut places = [NOWHERE; 8];
     let mut from = 0;
     while let Some((port, due)) = next_before(live, plan, to) {

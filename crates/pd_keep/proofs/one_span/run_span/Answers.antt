@@ -84,8 +84,8 @@ push-requires g c =
 
 pub loop-port-init : goal.loop-port-init
 loop-port-init g c =
-    let nothing : c.new-span.result.moves ≡ [] = ap (λ (r : RunData). r.moves) c.new-span.ensures in
-    let first = ap (λ (r : RunData). r.first) c.new-span.ensures in
+    let nothing : c.in_ok-span.span.moves ≡ [] = ap (λ (r : RunData). r.moves) c.in_ok-span.ensures in
+    let first = ap (λ (r : RunData). r.first) c.in_ok-span.ensures in
     rw nothing (record {
       stands = λ past s. subst (λ (l : List Move). StandsAfter c.args.plan.now l c.args.live.now) (sym (append-nil past)) s;
       within = omega arith;
