@@ -1,5 +1,3 @@
 pub mod Numbered
 pub mod Steps
-pub mod Keeps
-pub mod Watched
 pub mod Whys

@@ -4,7 +4,8 @@ use Rattle.std.proofs.lemmas.List.{append-nil, at_drop_more}
 use Rattle.pd_setup.specs.Settings.{SettingsData}
 use Rattle.pd_warn.specs.declared.warning.Warning.{Warning}
 use Rattle.pd_warn.specs.Stated.{share_part, shares_part}
-use Rattle.pd_warn.specs.Watch.{WatchData, unmet}
+use Rattle.pd_watch.specs.Watch.{WatchData}
+use Rattle.pd_warn.specs.Watch.{unmet}
 use Rattle.pd_warn.specs.Warnings.{left_part}
 
 shares_first : (budget floors port : ℕ) (s : SettingsData) (ss : List SettingsData)

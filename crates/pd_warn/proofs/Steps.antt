@@ -1,11 +1,11 @@
 -- What one more step of a run adds.
-use Rattle.std.proofs.Common.{◌≡◌, ℕ, List, [], ◌∷◌, ◌++◌, refl, sym, ap, ◌∙◌, append_assoc, length, map}
-use Rattle.std.proofs.lemmas.List.{append-nil, length-set, map-append}
+use Rattle.std.proofs.Common.{◌≡◌, ℕ, List, [], ◌∷◌, ◌++◌, refl, sym, ap, ◌∙◌, append_assoc, map}
+use Rattle.std.proofs.lemmas.List.{append-nil, map-append}
 use Rattle.pd_port.specs.declared.entry.Entry.{Entry}
 use Rattle.pd_run.specs.Run.{Move, shown}
 use Rattle.pd_warn.specs.declared.warning.Warning.{Warning}
-use Rattle.pd_warn.specs.Watch.{WatchData}
-use Rattle.pd_warn.specs.Warnings.{after_step, after_steps, step_part, steps_part}
+use Rattle.pd_watch.specs.Watch.{WatchData, after_step, after_steps}
+use Rattle.pd_warn.specs.Warnings.{step_part, steps_part}
 
 pub steps_push : (ws : List WatchData) (steps : List (ℕ × Entry)) (s : ℕ × Entry)
     → steps_part ws (steps ++ s ∷ []) ≡ steps_part ws steps ++ step_part (after_steps ws steps) s
@@ -18,11 +18,6 @@ pub watches_push : (ws : List WatchData) (steps : List (ℕ × Entry)) (s : ℕ 
     → after_steps ws (steps ++ s ∷ []) ≡ after_step (after_steps ws steps) s
 watches_push ws [] s = refl
 watches_push ws (x ∷ xs) s = watches_push (after_step ws x) xs s
-
--- there are as many ports as before
-pub step_length : (ws : List WatchData) (s : ℕ × Entry) → length (after_step ws s) ≡ length ws
-unfolding after_step
-step_length ws (port, e) = length-set ws _ _
 
 -- what is warned of along some moves, with one more
 pub parts_more : (old out out' : List Warning) (ws now : List WatchData) (moves : List Move) (m : Move) (s : ℕ × Entry) → s ≡ shown m

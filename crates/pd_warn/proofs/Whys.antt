@@ -21,9 +21,10 @@ use Rattle.pd_port.specs.declared.due.What.TheVariants as what
 use Rattle.pd_port.specs.Happens.{detaches, disturbs, gets_source, gets_sink, happens_attached, happens_detached}
 use Rattle.pd_port.specs.Port.{PortRecord, begun, entry_of, portstep, whole}
 use Rattle.pd_scenario.specs.Plan.{settings_of}
-use Rattle.pd_warn.specs.Watch.{is_ignored, why_of}
+use Rattle.pd_watch.specs.Watch.{is_ignored}
+use Rattle.pd_warn.specs.Watch.{why_of}
 use Rattle.pd_warn.specs.Truth.{Tells, WhysAreTrue}
-use Rattle.pd_warn.proofs.Keeps.{View, view, Took, attach_view, sink_same, source_same, starts_took}
+use Rattle.pd_watch.proofs.Keeps.{View, view, Took, attach_view, sink_same, source_same, starts_took}
 
 abbrev first : SettingsData → PortRecord → Option Answer → PortStep
 first s r given = begun (whole s r) given

@@ -1,30 +1,17 @@
--- That the warnings of a run are true of its ports.
-use Rattle.std.specs.Prelude.{◌≡◌, ℕ, ◌+◌, ◌<◌, ◌≤◌, true, false, List, [], length, map, is_some}
+-- That the reasons of warnings are true of the ports of a run.
+use Rattle.std.specs.Prelude.{◌≡◌, ℕ, ◌≤◌, true, false, List, length, is_some}
 use Rattle.pd_setup.specs.Events.{PortEventKind}
 use Rattle.pd_setup.specs.declared.event.Happening.TheVariants.{Port}
 use Rattle.pd_source.specs.Step as source
 use Rattle.pd_sink.specs.Step as sink
 use Rattle.pd_port.specs.Port.{PortRecord}
 use Rattle.pd_port.specs.declared.due.What.TheVariants as what
-use Rattle.pd_scenario.specs.Plan.{Plan, count}
-use Rattle.pd_run.specs.Order.{EachAfter}
-use Rattle.pd_run.specs.Run.{GoesOn, Move, shown, standing}
+use Rattle.pd_scenario.specs.Plan.{Plan}
+use Rattle.pd_run.specs.Run.{GoesOn, Move}
+use Rattle.pd_watch.specs.Watch.{is_ignored}
 use Rattle.pd_warn.specs.declared.warning.Why.{Why}
 use Rattle.pd_warn.specs.declared.warning.Why.TheVariants.{Attached, Detached, Full, SinkNotReady, SourceNotReady}
-use Rattle.pd_warn.specs.Watch.{WatchData, is_ignored, why_of}
-use Rattle.pd_warn.specs.Warnings.{after_steps, all_at_rest, watch_at}
-
--- a port is watched as its record has it: something is attached or nothing, and as many disturbances wait
-pub record IsWatched (w : WatchData) (r : PortRecord) : Type 0 where
-  pub attached : w.attached ≡ is_some r.cable
-  pub as_many : length w.waiting ≡ length r.disturbances
-
--- After moves of which each goes on from those before it, each port is watched as these moves have left it. So a disturbance that is
--- told to meet no packet still waits on its port, at the run's end or as the cable is pulled out.
-abbrev pub PortsAreWatched : Type 0
-PortsAreWatched =
-    (plan : Plan) (moves : List Move) → EachAfter (GoesOn plan) [] moves → (p : ℕ) → p < count plan
-    → IsWatched (watch_at (after_steps (all_at_rest (count plan)) (map shown moves)) (p + 1)) (standing plan moves p).state
+use Rattle.pd_warn.specs.Watch.{why_of}
 
 -- why an event is ignored, by the record of its port before it
 abbrev pub Tells : Why → PortRecord → Type 0

@@ -1,5 +1,5 @@
 -- All that a scenario is warned of: what it says, and what comes of its run.
-use Rattle.std.specs.Prelude.{◌≡◌, ℕ, ◌+◌, ◌-◌, List, [], ◌∷◌, ◌++◌, map, None, replicate, slice_index_or, slice_set}
+use Rattle.std.specs.Prelude.{◌≡◌, ℕ, ◌+◌, List, [], ◌∷◌, ◌++◌, map, None}
 use Rattle.pd_port.specs.declared.entry.Entry.{Entry}
 use Rattle.pd_scenario.specs.Plan.{Plan}
 use Rattle.pd_scenario.specs.Plans.{plan_of}
@@ -8,19 +8,8 @@ use Rattle.pd_run.specs.Run.{Move, shown}
 use Rattle.pd_run.specs.Shown.{SafeRun}
 use Rattle.pd_warn.specs.declared.warning.Warning.{Warning}
 use Rattle.pd_warn.specs.Stated.{stated}
-use Rattle.pd_warn.specs.Watch.{WatchData, after_entry, at_rest, entry_part, unmet}
-
--- what is watched of a port, the ports being numbered from 1 here
-abbrev pub watch_at : List WatchData → ℕ → WatchData
-watch_at ws port = slice_index_or ws (port - 1) at_rest
-
--- what is watched of the ports after a step of one of them
-unfoldable pub after_step : List WatchData → ℕ × Entry → List WatchData
-after_step ws (port, e) = slice_set ws (port - 1) (after_entry (watch_at ws port) e)
-
-abbrev pub after_steps : List WatchData → List (ℕ × Entry) → List WatchData
-after_steps ws [] = ws
-after_steps ws (s ∷ steps) = after_steps (after_step ws s) steps
+use Rattle.pd_watch.specs.Watch.{WatchData, after_step, after_steps, all_at_rest, watch_at}
+use Rattle.pd_warn.specs.Watch.{entry_part, unmet}
 
 -- what is warned of along a run
 unfoldable pub step_part : List WatchData → ℕ × Entry → List Warning
@@ -34,10 +23,6 @@ steps_part ws (s ∷ steps) = step_part ws s ++ steps_part (after_step ws s) ste
 unfoldable pub left_part : ℕ → List WatchData → List Warning
 left_part port [] = []
 left_part port (w ∷ ws) = map (unmet port None) w.waiting ++ left_part (port + 1) ws
-
--- so many ports at the start
-abbrev pub all_at_rest : ℕ → List WatchData
-all_at_rest n = replicate n at_rest
 
 -- all that is warned of in a run of n ports, of which these are the steps
 unfoldable pub run_part : ℕ → List (ℕ × Entry) → List Warning

@@ -1,27 +1,18 @@
 //! What is warned of along a run.
 
-ghost use Rattle.std.specs.Prelude.{◌≡◌, ◌++◌, ◌≤◌, OnOk, IfOk, length};
-ghost use Rattle.pd_warn.specs.Warnings.{Warned, after_step, all_at_rest, left_part, run_part, step_part};
+ghost use Rattle.std.specs.Prelude.{◌≡◌, ◌++◌, ◌≤◌, OnOk, length};
+ghost use Rattle.pd_watch.specs.Watch.{after_step};
+ghost use Rattle.pd_warn.specs.Warnings.{Warned, left_part, run_part, step_part};
 
 use crate::Warning;
-use crate::watch::Watch;
+use crate::watch::{push_entry, push_unmet};
 use pd_port::{Entry, Meter};
 use pd_run::{Live, Plan};
+use pd_watch::{Watch, at_rest};
 use std::alloc::{AllocError, Global};
 
-/// So many ports at the start.
-fn all_at_rest(alloc: Global, ports: usize) -> Result<Vec<Watch>, AllocError>
-    ensures { IfOk result (λ v. v.items ≡ all_at_rest ports) }
-{
-    let mut watches = Vec::new(alloc);
-    for _ in 0..ports {
-        watches.push(Watch::new(alloc))?;
-    }
-    Ok(watches)
-}
-
 /// Warns of a step of a port, and takes it in.
-#[tactic(auto, unfolding(crate::specs::Warnings::after_step, crate::specs::Warnings::step_part))]
+#[tactic(auto, unfolding(pd_watch::specs::Watch::after_step, crate::specs::Warnings::step_part))]
 fn push_step(
     out: &mut Vec<Warning>,
     watches: &mut Vec<Watch>,
@@ -34,8 +25,9 @@ fn push_step(
     ensures watches { OnOk result (watches.new.items ≡ after_step watches.old.items (port, entry.now)) }
 {
     let watch = &mut watches[port - 1];
-    watch.push_entry(out, port, entry)?;
-    watch.take_entry(entry)
+    push_entry(out, port, watch, entry)?;
+    let _by = watch.take_entry(entry)?;
+    Ok(())
 }
 
 /// Warns of what waits at the end of a run.
@@ -44,7 +36,7 @@ fn push_left(out: &mut Vec<Warning>, watches: &[Watch]) -> Result<(), AllocError
 {
     let mut port = 1;
     for watch in watches {
-        watch.push_unmet(out, port, None)?;
+        push_unmet(out, port, watch, None)?;
         port += 1;
     }
     Ok(())
@@ -62,7 +54,7 @@ pub(crate) fn push_run<const N: usize>(
     ensures { OnOk result (Warned N plan.now out.old.items out.new.items) }
 {
     let mut live = Live::new(alloc, plan)?;
-    let mut watches = all_at_rest(alloc, N)?;
+    let mut watches = at_rest(alloc, N)?;
     let mut meter = Meter::new();
     while let Some((port, due)) = live.next(plan) {
         let answer = live.reply(plan, port, &due);

@@ -5,9 +5,10 @@ use Rattle.pd_run.specs.Run.{Move, shown}
 use Rattle.pd_run.specs.Live.{LiveData, next_move}
 use Rattle.pd_run.specs.StepsLeft.{steps_left}
 use Rattle.pd_warn.specs.declared.warning.Warning.{Warning}
-use Rattle.pd_warn.specs.Watch.{WatchData}
-use Rattle.pd_warn.specs.Warnings.{after_steps, all_at_rest, left_part, run_part, steps_part}
-use Rattle.pd_warn.proofs.Steps.{parts_more, watched_more, step_length}
+use Rattle.pd_watch.specs.Watch.{WatchData, after_steps, all_at_rest}
+use Rattle.pd_watch.proofs.Watched.{step_length}
+use Rattle.pd_warn.specs.Warnings.{left_part, run_part, steps_part}
+use Rattle.pd_warn.proofs.Steps.{parts_more, watched_more}
 use Rattle.pd_warn.proofs.run.push_run.Goals as goal
 
 pub step-requires : goal.step-requires

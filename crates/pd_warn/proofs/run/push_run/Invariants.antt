@@ -2,7 +2,8 @@ use Rattle.std.proofs.Common.{◌≡◌, ◌++◌, List, length, map}
 use Rattle.pd_run.specs.Run.{Move, shown}
 use Rattle.pd_run.specs.Live.{StandsAfter}
 use Rattle.pd_run.specs.StepsLeft.{steps_left}
-use Rattle.pd_warn.specs.Warnings.{after_steps, all_at_rest, steps_part}
+use Rattle.pd_watch.specs.Watch.{after_steps, all_at_rest}
+use Rattle.pd_warn.specs.Warnings.{steps_part}
 use Rattle.pd_warn.proofs.run.push_run.Given as goal
 
 abbrev pub invariant-loop-port : goal.invariant-loop-port

@@ -1,6 +1,6 @@
 -- What the rules of a line do to what is watched of a port: they leave it as it is, but for a packet that starts and takes the first
 -- disturbance.
-use Rattle.std.proofs.Common.{◌≡◌, ℕ, ◌+◌, Bool, true, false, ◌||◌, if◌then◌else◌, ◌⊎◌, inl, inr, List, [], ◌∷◌, ◌++◌, drop, Option}
+use Rattle.std.proofs.Common.{◌≡◌, ℕ, ◌+◌, Bool, true, false, ◌||◌, if◌then◌else◌, ◌⊎◌, inl, inr, List, [], ◌∷◌, ◌++◌, drop, map, Option}
 use Rattle.std.proofs.Common.{None, Some, Result, Ok, Err, refl, sym, ap, ◌∙◌, subst}
 use Rattle.std.specs.List.{list_any}
 use Rattle.pd_symbols.specs.declared.channel.Channel.{Channel}
@@ -13,6 +13,7 @@ use Rattle.pd_identity.specs.declared.Cable.{Cable}
 use Rattle.pd_packet.specs.Contents.{Contents}
 use Rattle.pd_packet.specs.Hearing.{heard}
 use Rattle.pd_packet.specs.declared.fate.Fate.{Fate}
+use Rattle.pd_packet.specs.declared.fate.Fate.TheVariants.{Undisturbed}
 use Rattle.pd_protocol.specs.Messages.{MessageData, acknowledges}
 use Rattle.pd_protocol.specs.Layer as layer
 use Rattle.pd_protocol.specs.LayerRecord.{LayerRecord}
@@ -63,7 +64,7 @@ use Rattle.pd_line.specs.Lines.{told_sent, acknowledged, told_message, goes_up, 
 use Rattle.pd_line.specs.Lines.{is_side, waiting_dropped, layers_reset, hears_reset, all_hear_reset, hard_reset_ends}
 use Rattle.pd_line.specs.Lines.{line_ends, line_ends_at, submitted, message_starts, hard_reset_starts, waiting_starts, waiting_on}
 use Rattle.pd_line.specs.Lines.{side_starts, is_idle, is_waiting, line_starts, channel_for}
-use Rattle.pd_warn.specs.Watch.{ignores, is_disturbed}
+use Rattle.pd_watch.specs.Watch.{ignores, is_disturbed}
 
 -- what is watched of a step under way
 pub record View : Type 0 where
@@ -85,11 +86,22 @@ abbrev pub left : Option Start → List Disturbance → List Disturbance
 left (Some (start.Packet side packet fate)) row = if is_disturbed fate then drop 1 row else row
 left _ row = row
 
+-- the first of what disturbances that wait make of packets
+abbrev pub first_fate : List Fate → Fate
+first_fate [] = Undisturbed
+first_fate (fate ∷ rest) = fate
+
+-- what starts has the first of these fates
+abbrev pub IsFated : Option Start → List Fate → Type 0
+IsFated (Some (start.Packet side packet fate)) fates = fate ≡ first_fate fates
+IsFated _ fates = Unit
+
 -- something starts or nothing, and takes its disturbance; all else stays
 pub record Took (v v' : View) : Type 0 where
   pub cable_is : v'.cable ≡ v.cable
   pub ignored_is : v'.ignored ≡ v.ignored
   pub row_is : v'.row ≡ left v'.start v.row
+  pub fated : IsFated v'.start (map fate_of v.row)
 
 -- all stays, or something has started and the line is busy
 abbrev pub Outcome : PortStep → PortStep → Type 0
@@ -244,6 +256,7 @@ same_took v v' none e = record {
   cable_is = ap (λ (x : View). x.cable) e;
   ignored_is = ap (λ (x : View). x.ignored) e;
   row_is = ap (λ (x : View). x.row) e ∙ ap (λ s. left s v.row) (sym (ap (λ (x : View). x.start) e ∙ none));
+  fated = subst (λ s. IsFated s (map fate_of v.row)) (sym (ap (λ (x : View). x.start) e ∙ none)) tt;
 }
 
 one_less : (d : Disturbance) (side : Side) (p : Contents) (row : List Disturbance)
@@ -258,11 +271,17 @@ unfolding taken started with_line
 drew side p line w = by_row w.port.disturbances.items refl where
   by_row : (row : List Disturbance) → w.port.disturbances.items ≡ row
       → let r = taken_from row w in Took (view w) (view (started (start.Packet side p r.1) (with_line (line r.1) r.0)))
-  by_row [] e = record { cable_is = refl; ignored_is = refl; row_is = refl }
+  by_row [] e = record {
+    cable_is = refl;
+    ignored_is = refl;
+    row_is = refl;
+    fated = ap (λ (ds : List Disturbance). first_fate (map fate_of ds)) (sym e);
+  }
   by_row (d ∷ rest) e = record {
     cable_is = refl;
     ignored_is = refl;
     row_is = ap (drop 1) (sym e) ∙ sym (one_less d side p w.port.disturbances.items);
+    fated = ap (λ (ds : List Disturbance). first_fate (map fate_of ds)) (sym e);
   }
 
 packet_out : (side : Side) (p : Contents) (t : ℕ) (w : PortStep) → Outcome w (packet_starts side p t w)
@@ -399,7 +418,7 @@ message_starts_out side m t w =
 
 hard_reset_starts_out : (side : Side) (t : ℕ) (w : PortStep) → Outcome w (hard_reset_starts side t w)
 unfolding hard_reset_starts started with_line
-hard_reset_starts_out side t w = inr (record { cable_is = refl; ignored_is = refl; row_is = refl }, refl)
+hard_reset_starts_out side t w = inr (record { cable_is = refl; ignored_is = refl; row_is = refl; fated = tt }, refl)
 
 waiting_starts_out : (side : Side) (t : ℕ) (x : Waiting) (w : PortStep) → Outcome w (waiting_starts side t x w)
 waiting_starts_out side t waits.Nothing w = inl refl

@@ -1,12 +1,15 @@
 -- A port is watched as its record has it, along a run.
 use Rattle.std.proofs.Common.{◌≡◌, ◌≢◌, ℕ, ◌+◌, ◌-◌, ◌<◌, Bool, true, false, if◌then◌else◌, List, [], ◌∷◌, ◌++◌, length, drop, map}
 use Rattle.std.proofs.Common.{◌⊎◌, inl, inr, Option, None, Some, is_some, refl, sym, ap, ◌∙◌, subst, arith, append_assoc, get_or}
-use Rattle.std.proofs.lemmas.List.{append-nil, length-drop, length_push, length-replicate, get_or-replicate}
+use Rattle.std.proofs.lemmas.List.{append-nil, length-replicate, length-set, get_or-replicate, map-append}
 use Rattle.std.proofs.lemmas.List.{get_or-set_same, get_or-set_other}
 use Rattle.std.proofs.lemmas.Bool.{cases_eq}
 use Rattle.pd_objects.specs.declared.query.Answer.{Answer}
 use Rattle.pd_objects.specs.declared.query.Answer.TheVariants as answer
+use Rattle.pd_packet.specs.Contents.{Contents}
+use Rattle.pd_packet.specs.declared.fate.Fate.{Fate}
 use Rattle.pd_packet.specs.declared.fate.Fate.TheVariants.{Undisturbed, Lost, Damaged}
+use Rattle.pd_header.specs.declared.side.Side.{Side}
 use Rattle.pd_setup.specs.Settings.{SettingsData}
 use Rattle.pd_setup.specs.Events.{PortEventKind}
 use Rattle.pd_setup.specs.declared.event.EventKind.TheVariants.{Attach, Detach, Demand, Lose, Damage, GetSource, GetSink}
@@ -22,7 +25,7 @@ use Rattle.pd_line.specs.declared.port_parts.Disturbance.TheVariants as disturba
 use Rattle.pd_line.specs.declared.port_step.PortStep.{PortStep}
 use Rattle.pd_line.specs.PortStep.{noted}
 use Rattle.pd_line.specs.Record.{nothing_attached}
-use Rattle.pd_line.specs.Lines.{line_starts}
+use Rattle.pd_line.specs.Lines.{fate_of, line_starts}
 use Rattle.pd_port.specs.declared.due.What.{What}
 use Rattle.pd_port.specs.declared.due.What.TheVariants as what
 use Rattle.pd_port.specs.declared.due.Due.{Due}
@@ -34,19 +37,26 @@ use Rattle.pd_scenario.specs.Plan.{Plan, count, settings_of}
 use Rattle.pd_run.specs.Order.{EachAfter}
 use Rattle.pd_run.specs.Run.{GoesOn, Move, Standing, shown, standing, after as left_by}
 use Rattle.pd_run.proofs.Moves.{standing-same, standing-other}
-use Rattle.pd_warn.specs.Watch.{WatchData, after_entry, after_happening, after_kind, after_start, after_what, at_rest}
-use Rattle.pd_warn.specs.Warnings.{after_step, after_steps, all_at_rest, watch_at}
-use Rattle.pd_warn.specs.Truth.{IsWatched, PortsAreWatched}
-use Rattle.pd_warn.proofs.Keeps.{View, view, left, Took, took_on, line_ends_out, timer_same, sink_same, source_same, attach_view}
-use Rattle.pd_warn.proofs.Keeps.{starts_took, step_took}
-use Rattle.pd_warn.proofs.Steps.{step_length}
+use Rattle.pd_watch.specs.declared.watch.Disturber.{Disturber}
+use Rattle.pd_watch.specs.Watch.{WatchData, after_entry, after_happening, after_kind, after_start, after_what, at_rest}
+use Rattle.pd_watch.specs.Watch.{after_step, after_steps, all_at_rest, disturber_of, first_of, is_disturbed, is_ignored}
+use Rattle.pd_watch.specs.Watch.{taken_by, watch_at, with_disturber}
+use Rattle.pd_watch.specs.Truth.{IsWatched, PortsAreWatched, TakersAreNamed, made_by}
+use Rattle.pd_watch.proofs.Keeps.{IsFated, first_fate, View, view, left, Took, took_on, line_ends_out, timer_same}
+use Rattle.pd_watch.proofs.Keeps.{sink_same, source_same, attach_view}
+use Rattle.pd_watch.proofs.Keeps.{starts_took, step_took}
 
 -- ---- what starts
 
 -- a port is watched as a step under way has it
 record IsSeen (y : WatchData) (v : View) : Type 0 where
   attached : y.attached ≡ is_some v.cable
-  as_many : length y.waiting ≡ length v.row
+  in_step : map made_by y.waiting ≡ map fate_of v.row
+
+-- what starts has the fate that the first event that waits makes of it; after it, a port is watched as the step has it
+record Leaves (y : WatchData) (v : View) : Type 0 where
+  seen : IsSeen (after_start y v.start) v
+  fated : IsFated v.start (map made_by y.waiting)
 
 start_attached : (y : WatchData) (s : Option Start) → (after_start y s).attached ≡ y.attached
 start_attached y None = refl
@@ -55,30 +65,36 @@ start_attached y (Some (start.Packet side p Undisturbed)) = refl
 start_attached y (Some (start.Packet side p Lost)) = refl
 start_attached y (Some (start.Packet side p (Damaged harm))) = refl
 
-drop_many : {A B : Type 0} (xs : List A) (ys : List B) → length xs ≡ length ys → length (drop 1 xs) ≡ length (drop 1 ys)
-drop_many xs ys e = length-drop 1 xs ∙ ap (λ n. n - 1) e ∙ sym (length-drop 1 ys)
+drop_first : {A B : Type 0} (f : A → B) (xs : List A) → map f (drop 1 xs) ≡ drop 1 (map f xs)
+drop_first f [] = refl
+drop_first f (x ∷ xs) = refl
 
-start_many : (y : WatchData) (s : Option Start) (row : List Disturbance) → length y.waiting ≡ length row
-    → length (after_start y s).waiting ≡ length (left s row)
-start_many y None row h = h
-start_many y (Some (start.HardReset side)) row h = h
-start_many y (Some (start.Packet side p Undisturbed)) row h = h
-start_many y (Some (start.Packet side p Lost)) row h = drop_many y.waiting row h
-start_many y (Some (start.Packet side p (Damaged harm))) row h = drop_many y.waiting row h
+drop_put : (ds : List Disturber) (row : List Disturbance) → map made_by ds ≡ map fate_of row
+    → map made_by (drop 1 ds) ≡ map fate_of (drop 1 row)
+drop_put ds row e = drop_first made_by ds ∙ ap (drop 1) e ∙ sym (drop_first fate_of row)
 
-start_seen : (y : WatchData) (v v' : View) → Took v v' → IsSeen y v → IsSeen (after_start y v'.start) v'
+start_in_step : (y : WatchData) (s : Option Start) (row : List Disturbance) → map made_by y.waiting ≡ map fate_of row
+    → map made_by (after_start y s).waiting ≡ map fate_of (left s row)
+start_in_step y None row h = h
+start_in_step y (Some (start.HardReset side)) row h = h
+start_in_step y (Some (start.Packet side p Undisturbed)) row h = h
+start_in_step y (Some (start.Packet side p Lost)) row h = drop_put y.waiting row h
+start_in_step y (Some (start.Packet side p (Damaged harm))) row h = drop_put y.waiting row h
+
+start_seen : (y : WatchData) (v v' : View) → Took v v' → IsSeen y v → Leaves y v'
 start_seen y v v' k f = record {
-  attached = start_attached y v'.start ∙ f.attached ∙ ap is_some (sym k.cable_is);
-  as_many = start_many y v'.start v.row f.as_many ∙ ap length (sym k.row_is);
+  seen = record {
+    attached = start_attached y v'.start ∙ f.attached ∙ ap is_some (sym k.cable_is);
+    in_step = start_in_step y v'.start v.row f.in_step ∙ ap (map fate_of) (sym k.row_is);
+  };
+  fated = subst (IsFated v'.start) (sym f.in_step) k.fated;
 }
 
 -- ---- an event
 
 -- a port is watched as it is at the end of a step, after an event that has led to this step under way
 abbrev Ends : WatchData → ℕ → Happening → PortStep → Type 0
-Ends y t h w =
-    let v = view (line_starts t w) in
-    IsSeen (after_start (after_happening y t v.ignored h) v.start) v
+Ends y t h w = let v = view (line_starts t w) in Leaves (after_happening y t v.ignored h) v
 
 either : (y : WatchData) (t : ℕ) (h : Happening) (b : Bool) (f g : PortStep) → Ends y t h f → Ends y t h g → Ends y t h (if b then f else g)
 either y t h true f g p q = p
@@ -91,7 +107,7 @@ ends y z t h w v e none is seen =
     let v' : View = view (line_starts t w) in
     let took : Took v v' = took_on (view w) v v' e (starts_took t w (ap (λ (x : View). x.start) e ∙ none)) in
     let same : after_happening y t v'.ignored h ≡ z = ap (λ b. after_happening y t b h) took.ignored_is ∙ is in
-    subst (λ (q : WatchData). IsSeen (after_start q v'.start) v') (sym same) (start_seen z v v' took seen)
+    subst (λ (q : WatchData). Leaves q v') (sym same) (start_seen z v v' took seen)
 
 -- ---- from the step's beginning
 
@@ -104,28 +120,33 @@ view_of r = record { cable = r.cable; row = r.disturbances; ignored = false; sta
 -- nothing is seen of it
 kept : (r : PortRecord) (y : WatchData) (t : ℕ) (h : Happening) (w : PortStep) → IsWatched y r → view w ≡ view_of r
     → after_happening y t false h ≡ y → Ends y t h w
-kept r y t h w f e is = ends y y t h w (view_of r) e refl is (record { attached = f.attached; as_many = f.as_many })
+kept r y t h w f e is = ends y y t h w (view_of r) e refl is (record { attached = f.attached; in_step = f.in_step })
 
 ignored_ends : (s : SettingsData) (r : PortRecord) (given : Option Answer) (y : WatchData) (t id : ℕ) (h : Happening) → IsWatched y r
     → Ends y t h (noted (Ignored id) (first s r given))
 unfolding noted
 ignored_ends s r given y t id h f =
-    ends y y t h _ (record (view_of r) { ignored = true }) refl refl refl (record { attached = f.attached; as_many = f.as_many })
+    ends y y t h _ (record (view_of r) { ignored = true }) refl refl refl (record { attached = f.attached; in_step = f.in_step })
 
-one_more : {A B : Type 0} (xs : List A) (ys : List B) (x : A) (y : B) → length xs ≡ length ys
-    → length (xs ++ x ∷ []) ≡ length (ys ++ y ∷ [])
-one_more xs ys x y e = length_push xs x ∙ ap (λ n. n + 1) e ∙ sym (length_push ys y)
+one_more : (ds : List Disturber) (row : List Disturbance) (d : Disturber) (x : Disturbance) → map made_by ds ≡ map fate_of row
+    → d.fate ≡ fate_of x → map made_by (ds ++ d ∷ []) ≡ map fate_of (row ++ x ∷ [])
+one_more ds row d x e same =
+    map-append made_by ds (d ∷ []) ∙ ap (λ (v : List Fate). v ++ d.fate ∷ []) e
+    ∙ ap (λ (f : Fate). map fate_of row ++ f ∷ []) same ∙ sym (map-append fate_of row (x ∷ []))
 
 disturbs_ends : (s : SettingsData) (r : PortRecord) (given : Option Answer) (y : WatchData) (t id : ℕ) (d : Disturbance)
     (kind : PortEventKind) → IsWatched y r
-    → after_kind y t id kind ≡ record y { waiting = y.waiting ++ record { id = id; at = t } ∷ [] }
+    → after_kind y t id kind ≡ with_disturber y t id (fate_of d)
     → Ends y t (happening.Port id kind) (disturbs id d (first s r given))
 unfolding disturbs
 disturbs_ends s r given y t id d kind f is =
     either y t (happening.Port id kind) _ _ _
-    (ends y (record y { waiting = y.waiting ++ record { id = id; at = t } ∷ [] }) t (happening.Port id kind) _
+    (ends y (with_disturber y t id (fate_of d)) t (happening.Port id kind) _
     (record (view_of r) { row = r.disturbances ++ d ∷ [] }) refl refl is
-    (record { attached = f.attached; as_many = one_more y.waiting r.disturbances _ d f.as_many }))
+    (record {
+      attached = f.attached;
+      in_step = one_more y.waiting r.disturbances (record { id = id; at = t; fate = fate_of d }) d f.in_step refl;
+    }))
     (ignored_ends s r given y t id (happening.Port id kind) f)
 
 attached_ends : (s : SettingsData) (r : PortRecord) (given : Option Answer) (y : WatchData) (t id : ℕ) (kind : PortEventKind)
@@ -134,7 +155,7 @@ unfolding detaches nothing_attached gets_source gets_sink
 attached_ends s r given y t id (Attach cable device) f = ignored_ends s r given y t id _ f
 attached_ends s r given y t id Detach f =
     ends y at_rest t (happening.Port id Detach) _ (record { cable = None; row = []; ignored = false; start = None }) refl refl refl
-    (record { attached = refl; as_many = refl })
+    (record { attached = refl; in_step = refl })
 attached_ends s r given y t id (Demand mw) f = kept r y t _ _ f (sink_same t (sink_told.Demand mw) (first s r given)) refl
 attached_ends s r given y t id Lose f = disturbs_ends s r given y t id disturbance.Lost Lose f refl
 attached_ends s r given y t id (Damage harm) f = disturbs_ends s r given y t id (disturbance.Damaged harm) (Damage harm) f refl
@@ -149,7 +170,7 @@ detached_ends : (s : SettingsData) (r : PortRecord) (given : Option Answer) (y :
     → IsWatched y r → Ends y t (happening.Port id kind) (happens_detached id kind t (first s r given))
 detached_ends s r given y t id (Attach cable device) f =
     ends y (record y { attached = true }) t (happening.Port id (Attach cable device)) _ (record (view_of r) { cable = Some cable })
-    (attach_view cable device t (first s r given)) refl refl (record { attached = refl; as_many = f.as_many })
+    (attach_view cable device t (first s r given)) refl refl (record { attached = refl; in_step = f.in_step })
 detached_ends s r given y t id kind f = ignored_ends s r given y t id (happening.Port id kind) f
 
 shed_same : (a : Option Answer) (t : ℕ) (w : PortStep) → view (shed a t w) ≡ view w
@@ -172,7 +193,7 @@ happening_ends s r given y t happening.Budget f =
 abbrev SeesStep : SettingsData → PortRecord → Option Answer → WatchData → ℕ → What → Type 0
 SeesStep s r given y t x =
     let v = view (portstep (whole s r) (record { time = t; what = x }) given) in
-    IsSeen (after_start (after_what y t v.ignored x) v.start) v
+    Leaves (after_what y t v.ignored x) v
 
 sees_step : (s : SettingsData) (r : PortRecord) (given : Option Answer) (y : WatchData) (t : ℕ) (x : What) → IsWatched y r
     → SeesStep s r given y t x
@@ -180,19 +201,40 @@ unfolding portstep
 sees_step s r given y t (what.Event e) f = happening_ends s r given y t e.happening f
 sees_step s r given y t what.Line f =
     start_seen y (view_of r) _ (step_took t (first s r given) _ refl (line_ends_out t (first s r given)))
-    (record { attached = f.attached; as_many = f.as_many })
+    (record { attached = f.attached; in_step = f.in_step })
 sees_step s r given y t (what.Timer side timer) f =
     start_seen y (view_of r) _ (step_took t (first s r given) _ refl (inl (timer_same side timer t (first s r given))))
-    (record { attached = f.attached; as_many = f.as_many })
+    (record { attached = f.attached; in_step = f.in_step })
 
 -- what is watched of a port after a step is what its record has then
 watched_after : (s : SettingsData) (r : PortRecord) (given : Option Answer) (y : WatchData) (d : Due) → IsWatched y r
     → IsWatched (after_entry y (entry_of s r d given)) (record_after s r d given)
 unfolding after_entry entry_of record_after
 watched_after s r given y d f =
-    let seen = sees_step s r given y d.time d.what f in record { attached = seen.attached; as_many = seen.as_many }
+    let seen = (sees_step s r given y d.time d.what f).seen in record { attached = seen.attached; in_step = seen.in_step }
+
+-- and what starts has the fate that the first event makes of it
+fated_after : (s : SettingsData) (r : PortRecord) (given : Option Answer) (y : WatchData) (d : Due) → IsWatched y r
+    → let e = entry_of s r d given in IsFated e.start (map made_by (after_what y e.at (is_ignored e) e.due.what).waiting)
+unfolding entry_of
+fated_after s r given y d f = (sees_step s r given y d.time d.what f).fated
+
+-- so where it is lost or damaged, that event is named
+named : (y : WatchData) (side : Side) (packet : Contents) (fate : Fate) → is_disturbed fate ≡ true
+    → fate ≡ first_fate (map made_by y.waiting)
+    → (d : Disturber) × (taken_by y (Some (start.Packet side packet fate)) ≡ Some d) × (d.fate ≡ fate)
+named y side packet fate hit is = by_waiting y.waiting is where
+  by_waiting : (ds : List Disturber) → fate ≡ first_fate (map made_by ds)
+      → (d : Disturber) × ((if is_disturbed fate then first_of ds else None) ≡ Some d) × (d.fate ≡ fate)
+  by_waiting [] is = let never : false ≡ true = sym (ap is_disturbed is) ∙ hit in absurd (cc)
+  by_waiting (d ∷ ds) is = (d, ap (λ b. if b then Some d else None) hit, sym is)
 
 -- ---- along a run
+
+-- there are as many ports as before
+pub step_length : (ws : List WatchData) (s : ℕ × Entry) → length (after_step ws s) ≡ length ws
+unfolding after_step
+step_length ws (port, e) = length-set ws _ _
 
 -- each port is watched as these moves have left it
 record AreWatched (plan : Plan) (moves : List Move) (ws : List WatchData) : Type 0 where
@@ -209,7 +251,7 @@ none_moved plan = record {
   each = λ p known.
       subst (λ (w : WatchData). IsWatched w (standing plan [] p).state)
       (sym (watch_number (all_at_rest (count plan)) p ∙ get_or-replicate (count plan) p at_rest at_rest known))
-      (record { attached = refl; as_many = refl });
+      (record { attached = refl; in_step = refl });
 }
 
 -- the port that moves
@@ -265,6 +307,27 @@ all_moved plan past [] ws a h = subst (λ (x : List Move). AreWatched plan x ws)
 all_moved plan past (m ∷ ms) ws a h =
     subst (λ (x : List Move). AreWatched plan x (after_steps (after_step ws (shown m)) (map shown ms))) (append_assoc past (m ∷ []) ms)
     (all_moved plan (past ++ m ∷ []) ms (after_step ws (shown m)) (one_moved plan past ws m a h.0) h.1)
+
+taker_named : (y : WatchData) (e : Entry) (side : Side) (packet : Contents) (fate : Fate) → e.start ≡ Some (start.Packet side packet fate)
+    → is_disturbed fate ≡ true → IsFated e.start (map made_by (after_what y e.at (is_ignored e) e.due.what).waiting)
+    → (d : Disturber) × (disturber_of y e ≡ Some d) × (d.fate ≡ fate)
+unfolding disturber_of
+taker_named y e side packet fate is hit fated =
+    let z : WatchData = after_what y e.at (is_ignored e) e.due.what in
+    subst (λ s. (d : Disturber) × (taken_by z s ≡ Some d) × (d.fate ≡ fate)) (sym is)
+    (named z side packet fate hit (subst (λ s. IsFated s (map made_by z.waiting)) is fated))
+
+pub takers_are_named : TakersAreNamed
+takers_are_named plan past m h g side packet fate is hit =
+    let ws : List WatchData = after_steps (all_at_rest (count plan)) (map shown past) in
+    let s = settings_of plan m.port in
+    let before : IsWatched (watch_at ws (m.port + 1)) m.before =
+    subst (λ (r : PortRecord). IsWatched (watch_at ws (m.port + 1)) r) (sym g.before_is)
+    ((all_moved plan [] past (all_at_rest (count plan)) (none_moved plan) h).each m.port g.known) in
+    let y : WatchData = watch_at ws (m.port + 1) in
+    taker_named y m.entry side packet fate is hit
+    (subst (λ (e : Entry). IsFated e.start (map made_by (after_what y e.at (is_ignored e) e.due.what).waiting)) (sym g.entry_is)
+    (fated_after s m.before m.answer y m.due before))
 
 pub ports_are_watched : PortsAreWatched
 ports_are_watched plan moves h = (all_moved plan [] moves (all_at_rest (count plan)) (none_moved plan) h).each
