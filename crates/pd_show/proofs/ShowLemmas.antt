@@ -1,17 +1,17 @@
 -- Facts on a shown run that is written page by page.
-use Rattle.std.proofs.Common.{◌≡◌, ℕ, List, [], ◌∷◌, ◌++◌, Option, refl, sym, ap, ◌∙◌, append_assoc}
-use Rattle.std.specs.List.{flat_map}
-use Rattle.std.proofs.lemmas.List.{append-nil}
-use Rattle.std.proofs.lemmas.List.Concat.{flat_map-append}
+use Rattle.std.proofs.Common.{◌≡◌, ℕ, List, [], ◌∷◌, ◌++◌, Option, refl, sym, ap, ◌∙◌, append_assoc, map}
+use Rattle.std.proofs.lemmas.List.{append-nil, map-append}
 use Rattle.std.specs.Io.KnownBytes.{Appends}
 use Rattle.std.proofs.KnownBytes.{Appends-nil, Appends-trans}
 use Rattle.pd_device.specs.Device.{WrotePart}
 use Rattle.pd_device.proofs.DeviceLemmas.{WrotePart-after}
-use Rattle.pd_scenario.specs.Plan.{Plan}
-use Rattle.pd_run.specs.Run.{Move}
+use Rattle.pd_port.specs.declared.entry.Entry.{Entry}
+use Rattle.pd_scenario.specs.Plan.{Plan, count}
+use Rattle.pd_run.specs.Run.{Move, shown}
 use Rattle.pd_run.specs.Live.{RunsTo}
+use Rattle.pd_watch.specs.Watch.{WatchData, after_step, after_steps, all_at_rest}
 use Rattle.pd_show.specs.declared.choice.Choice.{Choice}
-use Rattle.pd_show.specs.Lines.{Line, chosen_lines, lines_of}
+use Rattle.pd_show.specs.Lines.{Line, chosen_lines, lines_from, lines_of}
 use Rattle.pd_show.specs.Pages.{PageData, last_at, text_from, written}
 use Rattle.pd_show.specs.Seen.{seen_of}
 use Rattle.pd_show.specs.Show.{Passed, show_text}
@@ -37,20 +37,43 @@ progress_none plan choice page a e = record {
   before_is = rw e refl;
 }
 
+-- what is watched of the ports after some moves from the start
+abbrev pub watched : Plan → List Move → List WatchData
+watched plan moves = after_steps (all_at_rest (count plan)) (map shown moves)
+
+lines_from-push : (plan : Plan) (choice : Choice) (ws : List WatchData) (moves : List Move) (m : Move)
+    → lines_from plan choice ws (moves ++ m ∷ [])
+    ≡ lines_from plan choice ws moves ++ chosen_lines choice (seen_of plan (after_steps ws (map shown moves)) m)
+lines_from-push plan choice ws [] m = append-nil (chosen_lines choice (seen_of plan ws m))
+lines_from-push plan choice ws (x ∷ xs) m =
+    let here : List Line = chosen_lines choice (seen_of plan ws x) in
+    let next : List WatchData = after_step ws (shown x) in
+    ap (λ v. here ++ v) (lines_from-push plan choice next xs m)
+    ∙ sym (append_assoc here (lines_from plan choice next xs) (chosen_lines choice (seen_of plan (after_steps next (map shown xs)) m)))
+
 lines_push : (plan : Plan) (choice : Choice) (moves : List Move) (m : Move)
-    → lines_of plan choice (moves ++ m ∷ []) ≡ lines_of plan choice moves ++ chosen_lines choice (seen_of plan m)
-lines_push plan choice moves m =
-    flat_map-append (λ x. chosen_lines choice (seen_of plan x)) moves (m ∷ [])
-    ∙ ap (λ v. lines_of plan choice moves ++ v) (append-nil (chosen_lines choice (seen_of plan m)))
+    → lines_of plan choice (moves ++ m ∷ []) ≡ lines_of plan choice moves ++ chosen_lines choice (seen_of plan (watched plan moves) m)
+lines_push plan choice moves m = lines_from-push plan choice (all_at_rest (count plan)) moves m
+
+steps-push : (ws : List WatchData) (steps : List (ℕ × Entry)) (s : ℕ × Entry)
+    → after_steps ws (steps ++ s ∷ []) ≡ after_step (after_steps ws steps) s
+steps-push ws [] s = refl
+steps-push ws (x ∷ xs) s = steps-push (after_step ws x) xs s
+
+-- what is watched after one more move
+pub watched_push : (plan : Plan) (moves : List Move) (m : Move) → watched plan (moves ++ m ∷ []) ≡ after_step (watched plan moves) (shown m)
+watched_push plan moves m =
+    ap (after_steps (all_at_rest (count plan))) (map-append shown moves (m ∷ []))
+    ∙ steps-push (all_at_rest (count plan)) (map shown moves) (shown m)
 
 -- the lines of one more move on the page
 pub progress_more : (plan : Plan) (choice : Choice) (moves : List Move) (m : Move) (page page' : PageData) (a b : Option (List ℕ)) →
-    Progress plan choice moves page a b → page' ≡ written page (chosen_lines choice (seen_of plan m))
+    Progress plan choice moves page a b → page' ≡ written page (chosen_lines choice (seen_of plan (watched plan moves) m))
     → Progress plan choice (moves ++ m ∷ []) page' a b
 unfolding written
 progress_more plan choice moves m page page' a b p e =
     let all : List Line = lines_of plan choice moves in
-    let more : List Line = chosen_lines choice (seen_of plan m) in
+    let more : List Line = chosen_lines choice (seen_of plan (watched plan moves) m) in
     rw e (record {
       out = p.out;
       appends = p.appends;

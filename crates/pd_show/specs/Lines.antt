@@ -1,7 +1,6 @@
 -- The lines of a shown run: what each move says, in this order: what fell due from outside, what went wrong, what was asked of
 -- the shared budget, what became of the contract and of the hold, what starts on the line, and the states of the engines.
 use Rattle.std.specs.Prelude.{ℕ, ◌==◌, ◌&&◌, Bool, if◌then◌else◌, List, [], ◌∷◌, ◌++◌, map, codes, bytes_eq, Option, Some, None}
-use Rattle.std.specs.List.{flat_map}
 use Rattle.pd_objects.specs.declared.query.Query.{Query}
 use Rattle.pd_line.specs.declared.notes.Fault.{Fault}
 use Rattle.pd_line.specs.declared.notes.Start.{Start}
@@ -9,8 +8,9 @@ use Rattle.pd_port.specs.declared.due.What.{What}
 use Rattle.pd_port.specs.declared.due.What.TheVariants as what
 use Rattle.pd_port.specs.declared.entry.ContractChange.{ContractChange}
 use Rattle.pd_port.specs.declared.entry.ContractChange.TheVariants.{Made, Lost}
-use Rattle.pd_scenario.specs.Plan.{Plan}
-use Rattle.pd_run.specs.Run.{Move}
+use Rattle.pd_scenario.specs.Plan.{Plan, count}
+use Rattle.pd_run.specs.Run.{Move, shown}
+use Rattle.pd_watch.specs.Watch.{WatchData, after_step, all_at_rest}
 use Rattle.pd_report.specs.FaultLines.{fault_words}
 use Rattle.pd_tell.specs.Words.{asked_words, contract_words, event_words, hold_words, sink_name, source_name, start_words, state_words}
 use Rattle.pd_show.specs.declared.choice.Choice.{Choice}
@@ -61,7 +61,7 @@ hold_lines seen =
 -- what starts on the line, where it isn't passed over
 abbrev pub start_lines : Choice → Seen → Option Start → List Line
 start_lines choice seen None = []
-start_lines choice seen (Some start) = if hides choice start then [] else line_of seen (start_words choice.codes start) ∷ []
+start_lines choice seen (Some start) = if hides choice start then [] else line_of seen (start_words choice.codes seen.by start) ∷ []
 
 -- both states have the names that they had
 abbrev pub has_same_states : Glance → Glance → Bool
@@ -83,6 +83,11 @@ all_lines choice seen =
 unfoldable pub chosen_lines : Choice → Seen → List Line
 chosen_lines choice seen = if is_chosen choice seen.port seen.entry.at then all_lines choice seen else []
 
--- what is shown of the moves of a plan, in their order
+-- what is shown of moves of a plan, in their order, before which so much is watched of the ports
+abbrev pub lines_from : Plan → Choice → List WatchData → List Move → List Line
+lines_from plan choice ws [] = []
+lines_from plan choice ws (m ∷ ms) = chosen_lines choice (seen_of plan ws m) ++ lines_from plan choice (after_step ws (shown m)) ms
+
+-- what is shown of the moves of a plan from its start
 abbrev pub lines_of : Plan → Choice → List Move → List Line
-lines_of plan choice moves = flat_map (λ m. chosen_lines choice (seen_of plan m)) moves
+lines_of plan choice moves = lines_from plan choice (all_at_rest (count plan)) moves

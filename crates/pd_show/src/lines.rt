@@ -133,7 +133,7 @@ fn push_start_line(
         return Ok(());
     }
     let mut words = Vec::new(alloc);
-    push_start(&mut words, choice.codes, start)?;
+    push_start(&mut words, choice.codes, seen.by, start)?;
     push_words(page, seen, words.as_slice())
 }
 

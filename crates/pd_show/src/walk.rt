@@ -9,6 +9,7 @@ use crate::seen::step_seen;
 use pd_device::{BenchFault, TextOut};
 use pd_port::Meter;
 use pd_run::{Live, Plan};
+use pd_watch::at_rest;
 use std::alloc::Global;
 
 /// Runs a plan, and writes what is chosen of each of its moves.
@@ -28,10 +29,14 @@ pub fn show<const N: usize, W: TextOut>(
     let Ok(mut live) = Live::new(alloc, plan) else {
         return Err(BenchFault::Memory);
     };
+    let Ok(mut watches) = at_rest(alloc, N) else {
+        return Err(BenchFault::Memory);
+    };
     let mut page = Page::new(alloc);
     let mut meter = Meter::new();
     while let Some((port, due)) = live.next(plan) {
-        let Ok(seen) = step_seen(alloc, plan, &mut live, port, &due, &mut meter) else {
+        let Ok(seen) = step_seen(alloc, plan, &mut live, &mut watches, port, &due, &mut meter)
+        else {
             return Err(BenchFault::Memory);
         };
         let Ok(()) = push_lines(alloc, &mut page, choice, &seen) else {

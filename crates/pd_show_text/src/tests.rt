@@ -113,3 +113,23 @@ fn as_a_script_leaves_it(rt: HostRuntime) -> Result<(), Fail> {
     assert_eq!(rt; page.writer.as_slice(), EDITED);
     Ok(())
 }
+
+const LOST: &[u8] = b"        0        +0 port 1 event 1 attach
+        0        +0 port 1 state PE_SRC_Startup PE_SNK_Discovery
+        1        +1 port 1 event 9 lose
+        2        +1 port 1 event 3 lose
+    50000    +49998 port 1 offer, cable 3.00 A | 5.00 V 3.00 A of 3.00 A
+    50000        +0 port 1 hold 2.5000 W to 15.0000 W
+    50000        +0 port 1 src SOP Source_Capabilities id 0 source dfp rev 3.0 | 1 fixed 5.00 V 3.00 A lost by event 9
+    50000        +0 port 1 state PE_SRC_Send_Capabilities PE_SNK_Wait_for_Capabilities
+";
+
+/// Of two disturbances the offer's packet takes that which was put first.
+#[test]
+fn lost_by_an_event(rt: HostRuntime) -> Result<(), Fail> {
+    let mut page = page(rt);
+    let script = b"insert 9 1 1 lose\ninsert 3 2 1 lose\n";
+    show_text(rt.alloc(), PHONE, script, &up_to(50_500), &mut page)?;
+    assert_eq!(rt; page.writer.as_slice(), LOST);
+    Ok(())
+}

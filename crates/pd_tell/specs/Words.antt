@@ -98,22 +98,28 @@ fate_words Undisturbed = []
 fate_words Lost = codes " lost"
 fate_words (Damaged harm) = codes " damaged"
 
+-- the event whose disturbance it is
+abbrev pub by_words : Option ℕ → List ℕ
+by_words None = []
+by_words (Some id) = codes " by event " ++ decimal id
+
 -- the codes, where they are wanted, as a transcript shows them
 abbrev pub codes_words : Bool → List ℕ → List ℕ
 codes_words true cs = codes " :" ++ flat_map code_text cs
 codes_words false cs = []
 
--- a packet with its side, its content, and what becomes of it
-abbrev pub packet_words : Bool → Side → Contents → Fate → List ℕ
-packet_words with_codes side packet fate =
-    side_words side ++ (32 ∷ (packet_text packet ++ (fate_words fate ++ codes_words with_codes (shown packet fate))))
+-- a packet with its side, its content, what becomes of it, and the event that does it
+abbrev pub packet_words : Bool → Option ℕ → Side → Contents → Fate → List ℕ
+packet_words with_codes by side packet fate =
+    side_words side ++ (32 ∷ (packet_text packet
+    ++ (fate_words fate ++ (by_words by ++ codes_words with_codes (shown packet fate)))))
 
 abbrev pub hard_reset_words : Bool → Side → List ℕ
 hard_reset_words with_codes side = side_words side ++ (codes " Hard_Reset" ++ codes_words with_codes (set_codes ordered.HardReset))
 
-abbrev pub start_words : Bool → Start → List ℕ
-start_words with_codes (start.Packet side packet fate) = packet_words with_codes side packet fate
-start_words with_codes (start.HardReset side) = hard_reset_words with_codes side
+abbrev pub start_words : Bool → Option ℕ → Start → List ℕ
+start_words with_codes by (start.Packet side packet fate) = packet_words with_codes by side packet fate
+start_words with_codes by (start.HardReset side) = hard_reset_words with_codes side
 
 -- ---- the states, by the standard's names (USB Power Delivery 3.0, section 8.3.3); those of this product's profile begin otherwise
 

@@ -3,9 +3,10 @@
 ghost use Rattle.std.specs.Prelude.{◌≡◌, ◌++◌, OnOk};
 ghost use Rattle.std.specs.List.{flat_map};
 ghost use Rattle.pd_device.specs.Text.{code_text};
-ghost use Rattle.pd_tell.specs.Words.{codes_words, fate_words, hard_reset_words, packet_words, side_words};
+ghost use Rattle.pd_tell.specs.Words.{by_words, codes_words, fate_words, hard_reset_words, packet_words, side_words};
 ghost use Rattle.pd_tell.specs.Words.{start_words};
 
+use crate::push_number;
 use pd_content::push_packet;
 use pd_header::Side;
 use pd_line::Start;
@@ -64,20 +65,35 @@ fn push_wanted(text: &mut Vec<u8>, wanted: bool, codes: &[u8]) -> Result<(), All
     push_codes(text, codes)
 }
 
-/// Writes a packet with its side, its content and what becomes of it, and its codes where they are wanted.
+/// Writes the event whose disturbance it is.
+fn push_by(text: &mut Vec<u8>, by: Option<u32>) -> Result<(), AllocError>
+    ensures { OnOk result (text.new.items ≡ text.old.items ++ by_words by) }
+{
+    match by {
+        None => Ok(()),
+        Some(id) => {
+            text.extend_from_slice(b" by event ")?;
+            push_number(text, u64::from(id))
+        }
+    }
+}
+
+/// Writes a packet with its side, its content, what becomes of it and by which event, and its codes where they are wanted.
 fn push_packet_start(
     text: &mut Vec<u8>,
     with_codes: bool,
+    by: Option<u32>,
     side: Side,
     packet: &Packet,
     fate: Fate,
 ) -> Result<(), AllocError>
-    ensures { OnOk result (text.new.items ≡ text.old.items ++ packet_words with_codes side packet.now fate) }
+    ensures { OnOk result (text.new.items ≡ text.old.items ++ packet_words with_codes by side packet.now fate) }
 {
     text.extend_from_slice(side_text(side))?;
     text.push(b' ')?;
     push_packet(text, packet)?;
     text.extend_from_slice(fate_text(&fate))?;
+    push_by(text, by)?;
     push_wanted(text, with_codes, codes_of(packet, fate).as_slice())
 }
 
@@ -91,17 +107,22 @@ fn push_hard_reset(text: &mut Vec<u8>, with_codes: bool, side: Side) -> Result<(
     push_wanted(text, with_codes, &codes)
 }
 
-/// Writes what starts on the line: a packet with its content and what becomes of it, or a Hard Reset; and its codes where they
-/// are wanted.
+/// Writes what starts on the line: a packet with its content, what becomes of it and the event that does it, by its id, or a
+/// Hard Reset; and its codes where they are wanted.
 ///
 /// # Errors
 /// There is no memory for it; some of it may stand in the text.
-pub fn push_start(text: &mut Vec<u8>, with_codes: bool, start: &Start) -> Result<(), AllocError>
-    ensures { OnOk result (text.new.items ≡ text.old.items ++ start_words with_codes start.now) }
+pub fn push_start(
+    text: &mut Vec<u8>,
+    with_codes: bool,
+    by: Option<u32>,
+    start: &Start,
+) -> Result<(), AllocError>
+    ensures { OnOk result (text.new.items ≡ text.old.items ++ start_words with_codes by start.now) }
 {
     match start {
         Start::Packet { side, packet, fate } => {
-            push_packet_start(text, with_codes, *side, packet, *fate)
+            push_packet_start(text, with_codes, by, *side, packet, *fate)
         }
         Start::HardReset { side } => push_hard_reset(text, with_codes, *side),
     }

@@ -92,11 +92,16 @@ fn starts(rt: HostRuntime) -> Result<(), Fail> {
     let mut text = Vec::new(rt.alloc());
     let packet = Packet::new(Channel::Sop, 0x0081, ArrayVec::new());
     let (side, fate) = (Side::Sink, Fate::Lost);
-    push_start(&mut text, true, &Start::Packet { side, packet, fate })?;
-    push_start(&mut text, true, &Start::HardReset { side })?;
-    push_start(&mut text, false, &Start::HardReset { side })?;
+    push_start(
+        &mut text,
+        true,
+        Some(12),
+        &Start::Packet { side, packet, fate },
+    )?;
+    push_start(&mut text, true, None, &Start::HardReset { side })?;
+    push_start(&mut text, false, None, &Start::HardReset { side })?;
     let words =
-        b"snk SOP GoodCRC id 0 sink ufp rev 3.0 lost : 18 18 18 11 09 12 1E 1E 0B 1D 17 17 09 0A 15 0E 0D\
+        b"snk SOP GoodCRC id 0 sink ufp rev 3.0 lost by event 12 : 18 18 18 11 09 12 1E 1E 0B 1D 17 17 09 0A 15 0E 0D\
         snk Hard_Reset : 07 07 07 19snk Hard_Reset";
     assert_eq!(rt; text.as_slice(), words.as_slice());
     Ok(())
