@@ -26,13 +26,17 @@ use std::alloc::Global;
 
 /// What a session has come to: the scenario as edited, and what became of the lines.
 #[derive(Drop)]
-pub(crate) struct State<const N: usize> {
+pub struct State<const N: usize> {
+    /// As the edits so far left it.
     pub scenario: Scenario<N>,
     pub tally: Tally,
 }
 
-/// Answers a line. All is as after the answer, also where the writer fails.
-pub(crate) fn answer<const N: usize, T: Runner<N>, W: TextOut>(
+/// Answers a line, without the line feed that ends it. All is as after the answer, also where the writer fails.
+///
+/// # Errors
+/// `WriteFailed` where the writer failed or took no byte; the first bytes of the answer have gone out.
+pub fn answer<const N: usize, T: Runner<N>, W: TextOut>(
     alloc: Global,
     line: &[u8],
     state: &mut State<N>,
@@ -145,8 +149,11 @@ fn write_show<const N: usize, T: Runner<N>, W: TextOut>(
     }
 }
 
-/// Refuses a line.
-fn refuse<const N: usize, W: TextOut>(
+/// Refuses a line: answers it by the fault's number, and counts it.
+///
+/// # Errors
+/// `WriteFailed` where the writer failed or took no byte; the first bytes of the answer have gone out.
+pub fn refuse<const N: usize, W: TextOut>(
     fault: EditFault,
     state: &mut State<N>,
     writer: &mut W,
@@ -173,7 +180,10 @@ fn refused(number: u8) -> Text<32>
 }
 
 /// Writes the last line.
-pub(crate) fn write_done<W: TextOut>(tally: Tally, writer: &mut W) -> Result<(), BenchFault>
+///
+/// # Errors
+/// `WriteFailed` where the writer failed or took no byte; the first bytes of the line have gone out.
+pub fn write_done<W: TextOut>(tally: Tally, writer: &mut W) -> Result<(), BenchFault>
     ensures text { Writes (W.taken writer.old) (W.taken writer.new) result (done_text tally) }
     ensures counts { CountsFailure (W.failures writer.old) (W.failures writer.new) result }
 {

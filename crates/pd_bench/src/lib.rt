@@ -7,6 +7,8 @@ pub mod laws;
 mod pending;
 mod tally;
 
+pub use answer::{State, answer as answer_line, refuse, write_done};
 pub use bench::session;
 pub use pd_device::TextIn;
+pub use pending::Pending;
 pub use tally::{Outcome, Tally};

@@ -12,7 +12,7 @@ const ROOM: usize = 258;
 
 /// The bytes of a line so far, or 258 bytes that stand for them where there are more.
 #[derive(Drop)]
-pub(crate) struct Pending {
+pub struct Pending {
     bytes: ArrayVec<u8, ROOM>,
 }
 
@@ -25,7 +25,8 @@ impl Model for Pending {
 }
 
 impl Pending {
-    pub(crate) fn new() -> Self
+    /// A line of no bytes.
+    pub fn new() -> Self
         ensures { result ≡ [] }
     {
         Pending {
@@ -34,7 +35,7 @@ impl Pending {
     }
 
     /// Takes one more byte of the line.
-    pub(crate) fn push(&mut self, byte: u8)
+    pub fn push(&mut self, byte: u8)
         ensures { self.new ≡ kept_after self.old byte }
     {
         if self.bytes.len() < ROOM {
@@ -47,7 +48,7 @@ impl Pending {
     }
 
     /// Ends the line before a line feed.
-    pub(crate) fn end(&mut self)
+    pub fn end(&mut self)
         ensures { self.new ≡ strip_carriage_return self.old }
     {
         let count = self.bytes.len();
@@ -56,19 +57,22 @@ impl Pending {
         }
     }
 
-    pub(crate) fn is_empty(&self) -> bool
+    /// Whether the line has no byte yet.
+    pub fn is_empty(&self) -> bool
         ensures { result ≡ (length self.now == 0) }
     {
         self.bytes.is_empty()
     }
 
-    pub(crate) fn clear(&mut self)
+    /// Begins the next line.
+    pub fn clear(&mut self)
         ensures { self.new ≡ [] }
     {
         self.bytes.clear();
     }
 
-    pub(crate) fn as_slice(&self) -> &[u8]
+    /// The line's bytes, or those that stand for them.
+    pub fn as_slice(&self) -> &[u8]
         ensures { result.now ≡ self.now }
     {
         self.bytes.as_slice()

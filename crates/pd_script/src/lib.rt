@@ -6,6 +6,7 @@ mod lines;
 mod script;
 
 pub use followed::follow;
+pub use lines::first_line;
 pub use script::{explain_line, explain_script};
 
 #[cfg(test)]

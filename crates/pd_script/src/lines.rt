@@ -29,7 +29,7 @@ fn without_return(line: &[u8]) -> &[u8]
 }
 
 /// The first line of a text and what stands behind it, or none where the text is over.
-pub(crate) fn first_line(text: &[u8]) -> Option<(&[u8], &[u8])>
+pub fn first_line(text: &[u8]) -> Option<(&[u8], &[u8])>
     ensures lines { option_map (λ x. (x.0.now, lines x.1.now)) result ≡ next (lines text.now) }
     ensures shorter { IfSome result (λ x. length x.1.now < length text.now) }
 {

@@ -1,0 +1,4 @@
+pub mod Commands
+pub mod Diff
+pub mod Reasons
+pub mod Reports

@@ -1,0 +1,116 @@
+//! Why a line of a session is refused.
+
+ghost use Rattle.std.specs.Prelude.{◌≡◌, ◌++◌, OnOk};
+ghost use Rattle.std.specs.List.{flat_map};
+ghost use Rattle.pd_edit.specs.Refusals.{edited};
+ghost use Rattle.pd_colon.specs.Reasons.{edit_reasons, no_line_text, place_line, reasons_text, show_reasons};
+
+use pd_edit::apply;
+use pd_edit_lines::{Edit, EditFault, Line, Show};
+use pd_explain::{Place, causes, is_port, push_sentence, push_syntax};
+use pd_scenario::Scenario;
+use std::alloc::{AllocError, Global};
+
+/// The most bytes of a line.
+const LONGEST_LINE: usize = 256;
+
+/// Writes a line for a place.
+#[tactic(auto, unfolding(crate::specs::Reasons::place_line))]
+fn push_place<const N: usize>(
+    text: &mut Vec<u8>,
+    scenario: &Scenario<N>,
+    place: &Place,
+) -> Result<(), AllocError>
+    ensures { OnOk result (text.new.items ≡ text.old.items ++ place_line N scenario.now place.now) }
+{
+    push_sentence(text, scenario, place)?;
+    text.push(b'\n')?;
+    Ok(())
+}
+
+/// Writes a line for each place.
+fn push_places<const N: usize>(
+    text: &mut Vec<u8>,
+    scenario: &Scenario<N>,
+    places: &[Place],
+) -> Result<(), AllocError>
+    ensures { OnOk result (text.new.items ≡ text.old.items ++ flat_map (λ place. place_line N scenario.now place) places.now) }
+{
+    for place in places {
+        push_place(text, scenario, place)?;
+    }
+    Ok(())
+}
+
+/// Writes why an edit is refused, where it is.
+fn push_edit<const N: usize>(
+    alloc: Global,
+    text: &mut Vec<u8>,
+    scenario: &Scenario<N>,
+    edit: &Edit,
+) -> Result<(), AllocError>
+    ensures { OnOk result (text.new.items
+        ≡ text.old.items ++ edit_reasons N scenario.now edit.now (edited N scenario.now edit.now)) }
+{
+    match apply(alloc, scenario, edit) {
+        Ok(_) => Ok(()),
+        Err(EditFault::Memory) => Err(AllocError),
+        Err(fault) => {
+            let places = causes(alloc, fault, scenario, edit)?;
+            push_places(text, scenario, places.as_slice())
+        }
+    }
+}
+
+/// Writes why a show is refused, where it is.
+fn push_show<const N: usize>(
+    text: &mut Vec<u8>,
+    scenario: &Scenario<N>,
+    show: Show,
+) -> Result<(), AllocError>
+    ensures { OnOk result (text.new.items ≡ text.old.items ++ show_reasons N scenario.now show) }
+{
+    match show {
+        Show::Transcript { port } if !is_port(N, port) => push_place(
+            text,
+            scenario,
+            &Place::Port { port },
+        ),
+        _ => Ok(()),
+    }
+}
+
+/// Writes why a line is none of an edit script.
+#[tactic(auto, unfolding(crate::specs::Reasons::no_line_text))]
+fn push_no_line(text: &mut Vec<u8>, line: &[u8]) -> Result<(), AllocError>
+    ensures { OnOk result (text.new.items ≡ text.old.items ++ no_line_text line.now) }
+{
+    if line.len() > LONGEST_LINE {
+        return text.extend_from_slice(b"the line has more than 256 bytes\n");
+    }
+    push_syntax(text, line)?;
+    text.push(b'\n')?;
+    Ok(())
+}
+
+/// Writes why a line is refused, with the scenario as it stands: a line for each place that breaks the rule. A line that
+/// isn't refused for its own sake needs no words.
+///
+/// # Errors
+/// There is no memory for it; some of it may stand in the text.
+#[tactic(auto, unfolding(crate::specs::Reasons::reasons_text))]
+pub fn push_reasons<const N: usize>(
+    alloc: Global,
+    text: &mut Vec<u8>,
+    scenario: &Scenario<N>,
+    line: &[u8],
+) -> Result<(), AllocError>
+    ensures { OnOk result (text.new.items ≡ text.old.items ++ reasons_text N scenario.now line.now) }
+{
+    match Line::read(line) {
+        Ok(Line::Skip) => Ok(()),
+        Ok(Line::Edit(edit)) => push_edit(alloc, text, scenario, &edit),
+        Ok(Line::Show(show)) => push_show(text, scenario, show),
+        Err(_) => push_no_line(text, line),
+    }
+}
