@@ -1,0 +1,115 @@
+-- What the desk writes for the lines that it reads: a session's answers, and those to its own lines.
+use Rattle.std.specs.Prelude.{◌≡◌, ◌⊎◌, ℕ, Bool, true, false, nat_lt, List, [], ◌∷◌, ◌++◌, length, drop, codes, Option, Some, None}
+use Rattle.std.specs.Prelude.{Result, Ok, if◌then◌else◌}
+use Rattle.pd_scenario.specs.Scenarios.{ScenarioData}
+use Rattle.pd_scenario.specs.Plans.{plan_of}
+use Rattle.pd_scenario_text.specs.Reading.{Reads}
+use Rattle.pd_save.specs.Files.{file_text}
+use Rattle.pd_list.specs.Lines.{Lists}
+use Rattle.pd_why.specs.Story.{TellsWhy}
+use Rattle.pd_why.specs.declared.question.Question.{Question}
+use Rattle.pd_edit_lines.specs.Grammar.{line_of}
+use Rattle.pd_edit_lines.specs.Words.{words}
+use Rattle.pd_edit_lines.specs.declared.line.Line.{Line}
+use Rattle.pd_edit_lines.specs.declared.fault.EditFault.{EditFault}
+use Rattle.pd_bench.specs.declared.tally.Tally.{Tally}
+use Rattle.pd_bench.specs.declared.tally.Outcome.{Outcome}
+use Rattle.pd_bench.specs.declared.tally.Outcome.TheVariants.{Skipped, Accepted, Refused, Shown}
+use Rattle.pd_bench.specs.Session.{Reply, counted, no_lines, done_text}
+use Rattle.pd_colon.specs.declared.colon.Colon.{Colon}
+use Rattle.pd_colon.specs.declared.colon.Colon.TheVariants as colon
+use Rattle.pd_colon.specs.Commands.{is_colon, colon_of, second}
+use Rattle.pd_colon.specs.Diff.{diff_text}
+use Rattle.pd_colon.specs.Reports.{TellsDiff}
+
+-- what the desk has come to: the scenario that stands, those that stood before the last accepted edits, the latest last, and
+-- the counts
+pub record Standing : Type 0 where
+  pub scenario : ScenarioData
+  pub earlier : List ScenarioData
+  pub tally : Tally
+
+abbrev pub standing : ScenarioData → List ScenarioData → Tally → Standing
+standing s earlier tally = record { scenario = s; earlier = earlier; tally = tally }
+
+abbrev pub at_first : ScenarioData → Standing
+at_first s = standing s [] no_lines
+
+-- ---- a line of a session
+
+-- one more, and at most a hundred
+abbrev pub with_last : List ScenarioData → ScenarioData → List ScenarioData
+with_last earlier s = (if nat_lt (length earlier) 100 then earlier else drop 1 earlier) ++ s ∷ []
+
+-- An accepted edit can be taken back; without memory for that, none can.
+abbrev pub Remembers : Outcome → ScenarioData → List ScenarioData → List ScenarioData → Type 0
+Remembers Accepted s earlier earlier' = (earlier' ≡ with_last earlier s) ⊎ (earlier' ≡ [])
+Remembers Skipped s earlier earlier' = earlier' ≡ earlier
+Remembers Refused s earlier earlier' = earlier' ≡ earlier
+Remembers Shown s earlier earlier' = earlier' ≡ earlier
+
+-- the session's reply to what a line says
+abbrev pub LineReply : ℕ → Standing → Result Line EditFault → List ℕ → Standing → Type 0
+LineReply n d r reply d' = (outcome : Outcome) × Reply n d.scenario r reply d'.scenario outcome × (d'.tally ≡ counted d.tally outcome)
+    × Remembers outcome d.scenario d.earlier d'.earlier
+
+-- ---- a line of the desk's own
+
+-- The last scenario of the earlier ones stands again; the text says which lines of the scenario that changes.
+pub record Undoes (d : Standing) (text : List ℕ) (d' : Standing) : Type 0 where
+  pub back : ScenarioData
+  pub front : List ScenarioData
+  pub earlier_are : d.earlier ≡ front ++ back ∷ []
+  pub after_is : d' ≡ standing back front d.tally
+  pub listed : List ℕ
+  pub listed_back : List ℕ
+  pub lists : Lists d.scenario listed
+  pub lists_back : Lists back listed_back
+  pub text_is : text ≡ codes "= undo\n" ++ diff_text listed listed_back
+
+-- what the last accepted edit that can be taken back changed
+pub record Differs (d : Standing) (text : List ℕ) : Type 0 where
+  pub before : ScenarioData
+  pub front : List ScenarioData
+  pub earlier_are : d.earlier ≡ front ++ before ∷ []
+  pub diff : List ℕ
+  pub tells : TellsDiff before d.scenario diff
+  pub text_is : text ≡ codes "= diff\n" ++ diff
+
+abbrev pub saved_text : List ℕ → List ℕ
+saved_text file = codes "saved " ++ (file ++ codes "\n")
+
+-- the text that was saved reads back as the scenario that stands
+abbrev pub Saves : ℕ → Standing → Option (List ℕ) → List ℕ → Type 0
+Saves n d None text = ⊥
+Saves n d (Some file) text = Reads n (file_text d.scenario) (Ok d.scenario) × (text ≡ saved_text file)
+
+-- what is told for such a line, where nothing fails
+abbrev pub Tells : ℕ → Standing → Option Colon → Option (List ℕ) → List ℕ → Standing → Type 0
+Tells n d None file text d' = ⊥
+Tells n d (Some colon.Help) file text d' = d' ≡ d
+Tells n d (Some colon.Listing) file text d' = Lists d.scenario text × (d' ≡ d)
+Tells n d (Some colon.Undo) file text d' = Undoes d text d'
+Tells n d (Some colon.Diff) file text d' = Differs d text × (d' ≡ d)
+Tells n d (Some colon.Save) file text d' = Saves n d file text × (d' ≡ d)
+Tells n d (Some (colon.Why port to)) file text d' =
+    TellsWhy (plan_of d.scenario) (record { port = port; to = to }) [] text × (d' ≡ d)
+
+-- What such a line writes. Where it can't be done, nothing is written, and all is as it was.
+abbrev pub OwnReply : ℕ → Standing → Option Colon → Option (List ℕ) → List ℕ → Standing → Type 0
+OwnReply n d own file reply d' = Tells n d own file reply d' ⊎ ((reply ≡ []) × (d' ≡ d))
+
+-- ---- any line
+
+abbrev pub ReplyBy : Bool → ℕ → Standing → List ℕ → List ℕ → Standing → Type 0
+ReplyBy true n d line reply d' = OwnReply n d (colon_of line) (second (words line)) reply d'
+ReplyBy false n d line reply d' = LineReply n d (line_of line) reply d'
+
+abbrev pub DeskReply : ℕ → Standing → List ℕ → List ℕ → Standing → Type 0
+DeskReply n d line reply d' = ReplyBy (is_colon line) n d line reply d'
+
+-- the replies to these lines in their order, and what the desk has come to after them
+abbrev pub DeskReplies : ℕ → Standing → List (List ℕ) → List ℕ → Standing → Type 0
+DeskReplies n d [] text d' = (text ≡ []) × (d' ≡ d)
+DeskReplies n d (line ∷ more) text d' = (reply : List ℕ) × (rest : List ℕ) × (next : Standing)
+    × DeskReply n d line reply next × (text ≡ reply ++ rest) × DeskReplies n next more rest d'
