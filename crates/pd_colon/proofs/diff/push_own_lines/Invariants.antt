@@ -5,7 +5,8 @@ use Rattle.pd_colon.proofs.diff.push_own_lines.Given as goal
 
 abbrev pub invariant-loop-line : goal.invariant-loop-line
 invariant-loop-line l =
-    l.said.items ++ own_lines l.sign (lines l.other) (lines l.rest) ≡ l.initial.said.items ++ own_lines l.sign (lines l.other) (lines l.text)
+    l.said.items ++ own_lines l.sign (lines l.other) (lines l.rest)
+    ≡ l.initial.said.items ++ own_lines l.sign (lines l.other) (lines l.text)
 
 abbrev pub decreases-loop-line : goal.decreases-loop-line
 decreases-loop-line l = length l.rest
