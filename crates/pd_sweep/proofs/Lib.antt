@@ -1,0 +1,6 @@
+mod FoldLemmas
+mod HitLemmas
+mod IdLemmas
+mod JoinLemmas
+mod QuietLemmas
+mod SweepLemmas

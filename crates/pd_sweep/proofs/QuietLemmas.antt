@@ -1,0 +1,28 @@
+-- Entries that leave nothing to be told.
+use Rattle.std.proofs.Common.{◌≡◌, ℕ, ◌+◌, ◌<◌, List, [], ◌∷◌, length, Option, Some, None, refl, ap, ◌∙◌, add-zero, arith}
+use Rattle.std.specs.Prelude.{IsSome, count_by}
+use Rattle.pd_line.specs.declared.notes.Fault.{Fault}
+use Rattle.pd_port.specs.declared.entry.ContractChange.{ContractChange}
+use Rattle.pd_port.specs.declared.entry.Entry.{Entry}
+use Rattle.pd_run.specs.declared.note.Note.TheVariants as note
+use Rattle.pd_run.specs.Notes.{Leaves}
+use Rattle.pd_sweep.specs.Summaries.{changed, is_hard_reset, mishaps_after, stands_after}
+use Rattle.pd_sweep.specs.declared.summary.Mishaps.{Mishaps}
+use Rattle.pd_sweep.specs.declared.summary.Standing.{Standing}
+
+no_change : (s : Standing) (port at : ℕ) (change : Option ContractChange) → ¬ IsSome change → changed s port at change ≡ s
+no_change s port at None h = refl
+no_change s port at (Some change) h = absurd (h refl)
+
+pub quiet_contract : (s : Standing) (m : ℕ × Entry) → ¬ Leaves note.Contract m → stands_after s m ≡ s
+quiet_contract s m h = no_change s m.0 m.1.at m.1.contract h
+
+no_fault : (m : Mishaps) (faults : List Fault) → ¬ (0 < length faults) →
+    record { faults = m.faults + length faults; hard_resets = m.hard_resets + count_by is_hard_reset faults } ≡ m
+no_fault m [] h =
+    let make : ℕ → ℕ → Mishaps = λ x y. record { faults = x; hard_resets = y } in
+    ap (λ x. make x (m.hard_resets + 0)) (add-zero m.faults) ∙ ap (make m.faults) (add-zero m.hard_resets)
+no_fault m (fault ∷ faults) h = absurd (h (omega arith))
+
+pub quiet_fault : (s : Mishaps) (m : ℕ × Entry) → ¬ Leaves note.Fault m → mishaps_after s m ≡ s
+quiet_fault s m h = no_fault s m.1.faults.items h

@@ -1,0 +1,57 @@
+-- What is told of a whole run.
+use Rattle.std.specs.Prelude.{ℕ, ◌+◌, ◌-◌, Bool, true, false, List, length, fold, count_by, replicate, slice_set, Option, Some, None}
+use Rattle.pd_objects.specs.declared.contract.Contract.{Contract}
+use Rattle.pd_line.specs.declared.notes.Fault.{Fault}
+use Rattle.pd_line.specs.declared.notes.Fault.TheVariants.{HardReset}
+use Rattle.pd_port.specs.declared.entry.ContractChange.{ContractChange}
+use Rattle.pd_port.specs.declared.entry.ContractChange.TheVariants.{Made, Lost}
+use Rattle.pd_port.specs.declared.entry.Entry.{Entry}
+use Rattle.pd_sweep.specs.declared.summary.Mishaps.{Mishaps}
+use Rattle.pd_sweep.specs.declared.summary.Standing.{Standing}
+use Rattle.pd_sweep.specs.declared.summary.Summary.{Summary}
+
+-- ---- contracts
+
+-- before the run no port has a contract
+abbrev pub nothing_stands : Standing
+nothing_stands = record { contracts = replicate 8 None; settled = 0 }
+
+-- the contract that a change leaves
+abbrev pub contract_left : ContractChange → Option Contract
+contract_left (Made c) = Some c
+contract_left Lost = None
+
+-- a change of a port's contract, the ports being numbered from 1, and its time
+abbrev pub changed : Standing → ℕ → ℕ → Option ContractChange → Standing
+changed s port at None = s
+changed s port at (Some change) = record { contracts = slice_set s.contracts (port - 1) (contract_left change); settled = at }
+
+abbrev pub stands_after : Standing → ℕ × Entry → Standing
+stands_after s move = changed s move.0 move.1.at move.1.contract
+
+-- the contracts at the end, and the time of the last change of one, 0 where there is none
+abbrev pub standing_of : List (ℕ × Entry) → Standing
+standing_of moves = fold stands_after nothing_stands moves
+
+-- ---- faults
+
+abbrev pub is_hard_reset : Fault → Bool
+is_hard_reset (HardReset side) = true
+is_hard_reset _ = false
+
+abbrev pub no_mishap : Mishaps
+no_mishap = record { faults = 0; hard_resets = 0 }
+
+abbrev pub mishaps_after : Mishaps → ℕ × Entry → Mishaps
+mishaps_after m move = record {
+  faults = m.faults + length move.1.faults.items;
+  hard_resets = m.hard_resets + count_by is_hard_reset move.1.faults.items;
+}
+
+-- how many faults there are, and how many of them are Hard Resets that a side begins
+abbrev pub mishaps_of : List (ℕ × Entry) → Mishaps
+mishaps_of moves = fold mishaps_after no_mishap moves
+
+-- ---- both
+abbrev pub summary_of : List (ℕ × Entry) → Summary
+summary_of moves = record { standing = standing_of moves; mishaps = mishaps_of moves }

@@ -1,0 +1,48 @@
+-- What losing a packet leads to.
+use Rattle.std.specs.Prelude.{◌≡◌, ℕ, ◌==◌, ◌&&◌, Bool, true, false, List, MatchBool, Option, Some, None, Result, Ok, Err}
+use Rattle.std.specs.List.{list_any}
+use Rattle.pd_line.specs.declared.notes.Start.{Start}
+use Rattle.pd_line.specs.declared.notes.Start.TheVariants.{Packet, HardReset}
+use Rattle.pd_port.specs.declared.entry.Entry.{Entry}
+use Rattle.pd_run.specs.Shown.{Shows}
+use Rattle.pd_scenario.specs.Plans.{plan_of}
+use Rattle.pd_scenario.specs.Scenarios.{ScenarioData}
+use Rattle.pd_sweep.specs.Choices.{is_disturbed}
+use Rattle.pd_sweep.specs.Summaries.{summary_of}
+use Rattle.pd_sweep.specs.Variants.{variant}
+use Rattle.pd_sweep.specs.declared.choice.Loss.{Loss}
+use Rattle.pd_sweep.specs.declared.target.Target.{Target}
+use Rattle.pd_sweep.specs.declared.trial.Outcome.{Outcome}
+use Rattle.pd_sweep.specs.declared.trial.Outcome.TheVariants.{Ran, Missed, Disturbed, Barred}
+use Rattle.pd_sweep.specs.declared.trial.Trial.{Trial}
+use Rattle.pd_sweep.specs.declared.variant.Obstacle.{Obstacle}
+
+-- what starts is a packet that doesn't arrive as it was sent
+abbrev pub starts_disturbed : Option Start → Bool
+starts_disturbed None = false
+starts_disturbed (Some (Packet side packet fate)) = is_disturbed fate
+starts_disturbed (Some (HardReset side)) = false
+
+-- an entry is of the packet's port and time, and the packet that starts is disturbed
+abbrev pub hits : Target → ℕ × Entry → Bool
+hits target move = (move.0 == target.port && move.1.at == target.at) && starts_disturbed move.1.start
+
+abbrev pub is_hit : Target → List (ℕ × Entry) → Bool
+is_hit target moves = list_any (hits target) moves
+
+-- what the run of a scenario comes to, which is safe: its summary where the packet is hit in it
+abbrev pub IsRunOf : ScenarioData → Target → Outcome → Type 0
+IsRunOf c target (Ran summary) =
+    (moves : List (ℕ × Entry)) × Shows (plan_of c) moves × (is_hit target moves ≡ true) × (summary ≡ summary_of moves)
+IsRunOf c target Missed = (moves : List (ℕ × Entry)) × Shows (plan_of c) moves × (is_hit target moves ≡ false)
+IsRunOf c target Disturbed = ⊥
+IsRunOf c target (Barred obstacle) = ⊥
+
+abbrev pub IsOfVariant : Result ScenarioData Obstacle → Target → Outcome → Type 0
+IsOfVariant (Ok c) target outcome = IsRunOf c target outcome
+IsOfVariant (Err obstacle) target outcome = outcome ≡ Barred obstacle
+
+-- the run in which the packet is lost; a packet that the scenario itself disturbs has none
+abbrev pub IsTrial : ℕ → ScenarioData → Loss → Trial → Type 0
+IsTrial n c loss trial =
+    MatchBool trial.target.disturbed (trial.outcome ≡ Disturbed) (IsOfVariant (variant n c loss trial.target) trial.target trial.outcome)

@@ -1,0 +1,19 @@
+//! Each packet of a run lost in turn, and what that leads to.
+#![tactic(auto)]
+
+mod choice;
+mod summary;
+mod tally;
+mod target;
+mod trial;
+mod variant;
+mod walk;
+mod words;
+
+pub use choice::{Choice, Loss};
+pub use summary::{Mishaps, Standing, Summary, summary_of};
+pub use tally::{Tally, Worst};
+pub use target::Target;
+pub use trial::{Outcome, Trial, try_packet};
+pub use variant::Obstacle;
+pub use walk::sweep;

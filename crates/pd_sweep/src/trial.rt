@@ -1,0 +1,135 @@
+//! What losing a packet leads to.
+
+ghost use Rattle.std.specs.Prelude.{◌≡◌, ◌<◌, IfErr, IfOk, MatchOption, length, slice_get};
+ghost use Rattle.pd_device.specs.declared.fault.BenchFault.TheVariants.{Memory as no_memory};
+ghost use Rattle.pd_sweep.specs.Trials.{IsOfVariant, IsTrial, hits, is_hit, starts_disturbed};
+ghost use Rattle.pd_sweep.specs.Variants.{variant};
+
+use crate::summary::{Summary, summary_of};
+use crate::target::is_disturbed;
+use crate::variant::{Obstacle, variant};
+use crate::{Loss, Target};
+use pd_device::BenchFault;
+use pd_line::Start;
+use pd_port::{Entry, Meter};
+use pd_run::{Note, Runner};
+use pd_scenario::Scenario;
+use std::alloc::Global;
+
+/// What comes of losing a packet.
+#[derive(Clone, Copy, Debug)]
+pub enum Outcome {
+    /// The run in which it is lost.
+    Ran(Summary),
+    /// The event doesn't hit the packet.
+    Missed,
+    /// The scenario disturbs the packet already.
+    Disturbed,
+    /// There is no such scenario.
+    Barred(Obstacle),
+}
+
+/// A packet, and what comes of losing it.
+#[derive(Clone, Copy, Debug)]
+pub struct Trial {
+    pub target: Target,
+    pub outcome: Outcome,
+}
+
+/// Whether what starts is a packet that doesn't arrive as it was sent.
+fn starts_disturbed(start: &Option<Start>) -> bool
+    ensures { result ≡ starts_disturbed start.now }
+{
+    match start {
+        Some(Start::Packet { fate, .. }) => is_disturbed(fate),
+        _ => false,
+    }
+}
+
+/// Whether an entry of a port is that of a packet that is hit.
+fn hits(target: &Target, port: usize, entry: &Entry) -> bool
+    ensures { result ≡ hits target.now (port, entry.now) }
+{
+    port == target.port && entry.at == target.at && starts_disturbed(&entry.start)
+}
+
+/// Whether the entry at an index is that of a packet that is hit.
+fn hits_at<const N: usize, T: Runner<N>>(target: &Target, run: &T, index: usize) -> bool
+    requires { index < length (T.entries run.now) }
+    ensures { MatchOption (slice_get (T.entries run.now) index) ⊥ (λ move. result ≡ hits target.now move) }
+{
+    match run.entry(index) {
+        Some((port, entry)) => hits(target, port, entry),
+        None => false,
+    }
+}
+
+/// Whether a packet is hit in a run.
+fn is_hit<const N: usize, T: Runner<N>>(target: &Target, run: &T) -> bool
+    ensures { result ≡ is_hit target.now (T.entries run.now) }
+{
+    let note = Note::Packet { port: target.port };
+    let mut index = run.next_with(note, 0);
+    let mut hit = false;
+    while index < run.len() && !hit {
+        hit = hits_at(target, run, index);
+        index = run.next_with(note, index + 1);
+    }
+    hit
+}
+
+/// What comes of losing a packet that the scenario doesn't disturb.
+fn outcome_of<const N: usize, T: Runner<N>>(
+    alloc: Global,
+    run: &mut T,
+    scenario: &Scenario<N>,
+    loss: Loss,
+    target: &Target,
+    meter: &mut Meter,
+) -> Result<Outcome, BenchFault>
+    ensures value { IfOk result (λ outcome. IsOfVariant (variant N scenario.now loss target.now) target.now outcome) }
+    ensures memory { IfErr result (λ fault. fault ≡ no_memory) }
+{
+    let variant = match variant(alloc, scenario, loss, target) {
+        Ok(Ok(variant)) => variant,
+        Ok(Err(obstacle)) => return Ok(Outcome::Barred(obstacle)),
+        Err(fault) => return Err(fault),
+    };
+    let Ok(()) = run.replace(alloc, &variant, meter) else {
+        return Err(BenchFault::Memory);
+    };
+    if is_hit(target, run) {
+        Ok(Outcome::Ran(summary_of(run)))
+    } else {
+        Ok(Outcome::Missed)
+    }
+}
+
+/// Loses a packet of the run of a scenario. The runner, which may stand for any scenario, stands for the one in which the packet
+/// is lost from then on, where there is one.
+///
+/// # Errors
+/// `Memory`: there is none.
+pub fn try_packet<const N: usize, T: Runner<N>>(
+    alloc: Global,
+    run: &mut T,
+    scenario: &Scenario<N>,
+    loss: Loss,
+    target: Target,
+    meter: &mut Meter,
+) -> Result<Trial, BenchFault>
+    ensures packet { IfOk result (λ trial. trial.target ≡ target) }
+    ensures value { IfOk result (λ trial. IsTrial N scenario.now loss trial) }
+    ensures memory { IfErr result (λ fault. fault ≡ no_memory) }
+{
+    if target.disturbed {
+        return Ok(Trial {
+            target,
+            outcome: Outcome::Disturbed,
+        });
+    }
+    match outcome_of(alloc, run, scenario, loss, &target, meter) {
+        Ok(outcome) => Ok(Trial { target, outcome }),
+        Err(fault) => Err(fault),
+    }
+}

@@ -1,0 +1,81 @@
+//! Each packet of a run lost in turn.
+
+ghost use Rattle.std.specs.Prelude.{◌≡◌, IfOk};
+ghost use Rattle.pd_device.specs.Device.{CountsFailure, Writes};
+ghost use Rattle.pd_device.specs.declared.fault.BenchFault.TheVariants.{Memory as no_memory};
+ghost use Rattle.pd_sweep.specs.Sweeps.{CountsSweep, Sweeps};
+ghost use Rattle.pd_sweep.specs.Tallies.{tally_words};
+ghost use Rattle.pd_sweep.specs.Words.{trial_line};
+
+use crate::summary::{Summary, summary_of};
+use crate::tally::{Tally, push_tally};
+use crate::target::chosen;
+use crate::trial::{Trial, try_packet};
+use crate::words::push_trial;
+use crate::{Choice, Loss};
+use pd_device::{BenchFault, TextOut, write_all};
+use pd_port::Meter;
+use pd_run::Runner;
+use pd_scenario::Scenario;
+use std::alloc::{AllocError, Global};
+
+/// The line of a trial.
+fn trial_text(alloc: Global, old: &Summary, trial: &Trial) -> Result<Vec<u8>, AllocError>
+    ensures { IfOk result (λ text. text.items ≡ trial_line old.now trial.now) }
+{
+    let mut text = Vec::new(alloc);
+    push_trial(&mut text, old, trial)?;
+    Ok(text)
+}
+
+/// The summary of a sweep.
+fn tally_text(alloc: Global, tally: &Tally) -> Result<Vec<u8>, AllocError>
+    ensures { IfOk result (λ text. text.items ≡ tally_words tally.now) }
+{
+    let mut text = Vec::new(alloc);
+    push_tally(&mut text, tally)?;
+    Ok(text)
+}
+
+/// Runs a scenario, and once more for each packet that is chosen of that run, with the packet lost; writes a line for each of these
+/// runs, and their summary. A runner that keeps its run makes each at the cost of what it changes.
+///
+/// # Errors
+/// `Memory` where there is none, `WriteFailed` where the writer failed or took no byte; the first few bytes of the text have
+/// gone out.
+pub fn sweep<const N: usize, T: Runner<N>, W: TextOut>(
+    alloc: Global,
+    run: &mut T,
+    scenario: &Scenario<N>,
+    choice: &Choice,
+    loss: Loss,
+    writer: &mut W,
+) -> Result<Tally, BenchFault>
+    ensures text { Sweeps N scenario.now choice.now loss result (W.taken writer.old) (W.taken writer.new) }
+    ensures counts { CountsSweep result (W.failures writer.old) (W.failures writer.new) }
+{
+    let mut meter = Meter::new();
+    let Ok(()) = run.replace(alloc, scenario, &mut meter) else {
+        return Err(BenchFault::Memory);
+    };
+    let Ok(targets) = chosen(alloc, run, choice) else {
+        return Err(BenchFault::Memory);
+    };
+    let base = summary_of(run);
+    let mut tally = Tally::none();
+    for target in &targets {
+        let Ok(trial) = try_packet(alloc, run, scenario, loss, *target, &mut meter) else {
+            return Err(BenchFault::Memory);
+        };
+        let Ok(line) = trial_text(alloc, &base, &trial) else {
+            return Err(BenchFault::Memory);
+        };
+        write_all(writer, line.as_slice())?;
+        tally = tally.after(&base, &trial);
+    }
+    let Ok(closing) = tally_text(alloc, &tally) else {
+        return Err(BenchFault::Memory);
+    };
+    write_all(writer, closing.as_slice())?;
+    Ok(tally)
+}

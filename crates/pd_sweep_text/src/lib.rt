@@ -1,0 +1,7 @@
+//! Each packet of a run lost in turn, for the scenarios of texts.
+#![tactic(auto)]
+
+mod texts;
+
+pub use pd_sweep::{Choice, Loss, Tally};
+pub use texts::{SweepFault, sweep_text};
