@@ -1,4 +1,4 @@
-//! The engineer's desk as a program: `pdlab live`, `pdlab show`, `pdlab why`, `pdlab explain` and `pdlab decode`.
+//! The engineer's desk as a program: `pdlab live`, `pdlab show`, `pdlab why`, `pdlab sweep`, `pdlab explain` and `pdlab decode`.
 #![tactic(auto)]
 
 mod at_keyboard;
@@ -8,6 +8,7 @@ mod fault;
 mod log;
 mod script_file;
 mod shown;
+mod swept;
 mod words;
 
 use at_keyboard::live;
@@ -24,6 +25,7 @@ use std::io::IsTerminal;
 use std::process::ExitCode;
 use std::rt::{Env, Files};
 use std::{env, io};
+use swept::{OrderFault, order_of, swept, tell_no_kind};
 use words::{USAGE, command, help_of};
 
 /// How the program ends.
@@ -100,6 +102,7 @@ where
     match name {
         "show" => show(rt, errors, scenario, matches),
         "why" => why(rt, errors, scenario, matches),
+        "sweep" => sweep(rt, errors, scenario, matches),
         "explain" => explained(rt, errors, scenario, matches.get_str("EDITS")),
         _ => live(rt, errors, scenario),
     }
@@ -128,6 +131,20 @@ fn why<R: Files + Input + Print + Alloc<A = Global>, E: Print>(
     match question_of(matches) {
         Ok(question) => bounds(rt, errors, scenario, matches.get_str("EDITS"), &question),
         Err(_) => answer_words(rt, errors, &[], ErrorKind::InvalidValue),
+    }
+}
+
+/// Loses packets in turn, by the words behind `sweep`.
+fn sweep<R: Files + Input + Print + Alloc<A = Global>, E: Print>(
+    rt: &R,
+    errors: &E,
+    scenario: &str,
+    matches: &ArgMatches<'_>,
+) -> Ending {
+    match order_of(matches) {
+        Ok(order) => swept(rt, errors, scenario, matches.get_str("EDITS"), &order),
+        Err(OrderFault::Number) => answer_words(rt, errors, &[], ErrorKind::InvalidValue),
+        Err(OrderFault::Name) => tell_no_kind(errors),
     }
 }
 

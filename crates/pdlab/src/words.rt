@@ -6,7 +6,7 @@ use std::alloc::{AllocError, Global};
 /// What stands where the words are others.
 pub const USAGE: &str =
     "usage: pdlab live SCENARIO | show SCENARIO [EDITS] [OPTIONS] | why SCENARIO EDITS PORT [AT] | \
-     explain SCENARIO [EDITS] | decode [--json] [FILE] | --help";
+     sweep SCENARIO [EDITS] [OPTIONS] | explain SCENARIO [EDITS] | decode [--json] [FILE] | --help";
 
 /// What `--help` prints.
 pub const HELP: &str = "pdlab: the engineer's desk
@@ -17,6 +17,7 @@ usage: pdlab COMMAND ..
   show SCENARIO [EDITS]     a run as an engineer reads it, all ports in one list
   why SCENARIO EDITS PORT [AT]
                             what bounds a port's offers, and what came of them
+  sweep SCENARIO [EDITS]    each packet lost in turn, and what that leads to
   explain SCENARIO [EDITS]  why a scenario, or lines of an edit script, are refused,
                             and what is surely not meant
   decode [--json] [FILE]    what the lines of a log say
@@ -96,6 +97,32 @@ state them, powers in watts.
 example: pdlab why examples/derating.toml /dev/null 2
 
 status: 0 it was told, 1 the scenario is refused, or has no such port,
+        2 the words are others, 3 a file can't be read, or a fault
+";
+
+/// What `sweep --help` prints.
+pub const SWEEP_HELP: &str = "pdlab sweep: each packet lost in turn
+
+usage: pdlab sweep SCENARIO [EDITS] [OPTIONS]
+
+Runs the charger of the file SCENARIO, as the edit script EDITS leaves it (- is
+standard input), and then once more for each packet that starts in that run, with
+that packet lost. Tells of each, in the order of time: the packet, whether the
+contracts at the end are the same, how much later the last change of a contract
+comes, and how many faults and Hard Resets there are more. At the end how many
+packets were lost, how many of the runs end with other contracts, and the worst of
+each column. Why lines of EDITS are refused is told on standard error, and they
+change nothing.
+
+  --port P       packets of this port alone; ports are numbered from 1
+  --from T       packets from this time on, in microseconds
+  --to T         packets up to this time
+  --kind NAME    packets of this message alone, as Request or GoodCRC
+  --damage       damages the packet in place of losing it
+
+example: pdlab sweep --kind Request examples/charger_65w.toml
+
+status: 0 the packets were tried, 1 the scenario is refused, or has no such port,
         2 the words are others, 3 a file can't be read, or a fault
 ";
 
@@ -205,6 +232,18 @@ fn why<'a>(alloc: Global) -> Result<Command<'a>, AllocError> {
         .arg(word(alloc, "AT", false))
 }
 
+/// `pdlab sweep SCENARIO [EDITS]`, with its options.
+fn sweep<'a>(alloc: Global) -> Result<Command<'a>, AllocError> {
+    Command::new(alloc, "sweep")
+        .arg(scenario(alloc))?
+        .arg(edits(alloc))?
+        .arg(option(alloc, "port", ArgAction::Set))?
+        .arg(option(alloc, "from", ArgAction::Set))?
+        .arg(option(alloc, "to", ArgAction::Set))?
+        .arg(option(alloc, "kind", ArgAction::Set))?
+        .arg(option(alloc, "damage", ArgAction::SetTrue))
+}
+
 /// `pdlab explain SCENARIO [EDITS]`.
 fn explain<'a>(alloc: Global) -> Result<Command<'a>, AllocError> {
     let edits = Arg::new(alloc, "EDITS").action(ArgAction::Set);
@@ -228,6 +267,7 @@ pub fn command<'a>(alloc: Global) -> Result<Command<'a>, AllocError> {
         .subcommand(live)?
         .subcommand(show(alloc)?)?
         .subcommand(why(alloc)?)?
+        .subcommand(sweep(alloc)?)?
         .subcommand(explain(alloc)?)?
         .subcommand(decode(alloc)?)
 }
@@ -238,6 +278,7 @@ pub fn help_of(word: &str) -> &'static str {
         "live" => LIVE_HELP,
         "show" => SHOW_HELP,
         "why" => WHY_HELP,
+        "sweep" => SWEEP_HELP,
         "explain" => EXPLAIN_HELP,
         "decode" => DECODE_HELP,
         _ => HELP,

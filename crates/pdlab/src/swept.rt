@@ -1,0 +1,119 @@
+//! `pdlab sweep SCENARIO [EDITS]`.
+
+use crate::Ending;
+use crate::fault::{output, tell, tell_no_port, tell_refused, tell_unread};
+use crate::script_file::read_script;
+use crate::shown::tell_lines;
+use clap::ArgMatches;
+use pd_header::{Kind, kind_of};
+use pd_run_text::read_whole;
+use pd_sweep_text::{Choice, Loss, SweepFault, sweep_text};
+use std::alloc::Global;
+use std::num::ParseIntError;
+use std::rt::Files;
+
+/// Which packets the words of the command line choose, and what is done to each.
+#[derive(Clone, Copy, Debug)]
+pub struct Order {
+    choice: Choice,
+    loss: Loss,
+}
+
+/// Why the words choose nothing.
+#[derive(Clone, Copy, Debug, PartialEq, Eq)]
+pub enum OrderFault {
+    /// One of the numbers is none.
+    Number,
+    /// No message has the name.
+    Name,
+}
+
+/// The kind of message of a name, as a transcript has it.
+fn kind_named(name: &str) -> Option<Kind> {
+    for number in 0u8..32 {
+        for count in 0u8..2 {
+            let kind = kind_of(number, count);
+            if kind.name().as_str() == name {
+                return Some(kind);
+            }
+        }
+    }
+    None
+}
+
+/// What the words of the command line order.
+///
+/// # Errors
+/// One of the numbers is none, or no message has the name.
+pub fn order_of(matches: &ArgMatches<'_>) -> Result<Order, OrderFault> {
+    let Ok(choice) = choice_of(matches) else {
+        return Err(OrderFault::Number);
+    };
+    let kind = match matches.get_str("kind") {
+        None => None,
+        Some(name) => Some(kind_named(name).ok_or(OrderFault::Name)?),
+    };
+    let loss = if matches.get_flag("damage") {
+        Loss::Damaged
+    } else {
+        Loss::Lost
+    };
+    Ok(Order {
+        choice: Choice { kind, ..choice },
+        loss,
+    })
+}
+
+/// The packets that the numbers among the words choose.
+fn choice_of(matches: &ArgMatches<'_>) -> Result<Choice, ParseIntError> {
+    Ok(Choice {
+        port: matches.try_get_one("port")?,
+        from: matches.try_get_one("from")?.unwrap_or(0),
+        to: matches.try_get_one("to")?.unwrap_or(u64::MAX),
+        kind: None,
+    })
+}
+
+/// Tells that no message has the name.
+pub fn tell_no_kind<E: Print>(errors: &E) -> Ending {
+    let _ = errors.println(
+        "--kind: no message has that name; there are GoodCRC, Accept, Reject, PS_RDY, Get_Source_Cap, Get_Sink_Cap, Wait, \
+         Soft_Reset, Source_Capabilities, Request, Sink_Capabilities, Vendor_Defined",
+    );
+    Ending::Usage
+}
+
+/// Loses each packet that is chosen of the run of the scenario of a file, as the edits of a script leave it, and tells what that
+/// leads to.
+pub fn swept<R: Files + Input + Print + Alloc<A = Global>, E: Print>(
+    rt: &R,
+    errors: &E,
+    scenario: &str,
+    edits: Option<&str>,
+    order: &Order,
+) -> Ending {
+    let Ok(text) = read_whole(rt, scenario) else {
+        return tell_unread(errors, scenario);
+    };
+    let (text, name) = (text.as_slice(), edits.unwrap_or("-"));
+    let Ok(script) = read_script(rt, edits) else {
+        return tell_unread(errors, name);
+    };
+    let script = script.as_slice();
+    if let Err(fault) = tell_lines(rt, errors, text, name, script) {
+        return tell(errors, fault);
+    }
+    match sweep_text(
+        rt.alloc(),
+        text,
+        script,
+        &order.choice,
+        order.loss,
+        &mut output(rt),
+    ) {
+        Ok(_) => Ending::Done,
+        Err(SweepFault::Scenario(fault)) => tell_refused(errors, scenario, fault),
+        Err(SweepFault::NoSuchPort) => tell_no_port(errors),
+        Err(SweepFault::Run(fault)) => tell(errors, fault),
+    }
+}
