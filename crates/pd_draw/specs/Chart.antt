@@ -1,0 +1,109 @@
+-- The chart of the budget and of the contracts.
+use Rattle.std.specs.Prelude.{ℕ, ◌+◌, ◌-◌, ◌*◌, ◌/◌, min, List, [], ◌∷◌, ◌++◌, take, drop, sum, codes, decimal}
+use Rattle.std.specs.List.{flat_map}
+use Rattle.pd_svg.specs.Elements.{Element, element_text}
+use Rattle.pd_svg.specs.Shapes.{box_of, path_of, words_at}
+use Rattle.pd_tell.specs.Amounts.{watts}
+use Rattle.pd_draw.specs.declared.curves.Curve.{Curve}
+use Rattle.pd_draw.specs.declared.curves.Curve.TheVariants.{Budget, Contracts}
+use Rattle.pd_draw.specs.declared.curves.Level.{Level}
+use Rattle.pd_draw.specs.declared.frame.Frame.{Frame}
+use Rattle.pd_draw.specs.Curves.{margin}
+use Rattle.pd_draw.specs.Scale.{right_of, seconds, tenth_of, x_of, y_of}
+
+-- the value of a curve at a step: the budget, or what the contracts of the first ports take of it
+abbrev pub value_of : Curve → Level → ℕ
+value_of Budget l = l.budget
+value_of (Contracts k) l = sum (take k l.powers)
+
+-- a step: along to its time, and then up or down to its value
+unfoldable pub step_text : Frame → ℕ → Curve → Level → List ℕ
+step_text f top curve l =
+    72 ∷ (decimal (x_of f l.at) ++ (86 ∷ decimal (y_of top (value_of curve l))))
+
+-- the area under the contracts is closed
+abbrev pub closing : Curve → List ℕ
+closing Budget = []
+closing (Contracts k) = codes "V3500Z"
+
+-- the path of a curve: from the corner of the chart, over its steps, to the right
+unfoldable pub curve_text : Frame → ℕ → Curve → List Level → List ℕ
+curve_text f top curve levels =
+    codes "M700 3500" ++ (flat_map (step_text f top curve) levels ++ (72 ∷ (decimal (right_of f) ++ closing curve)))
+
+-- the class of what belongs to a port
+abbrev pub port_class : ℕ → List ℕ
+port_class port = codes "p" ++ decimal port
+
+abbrev pub port_name : ℕ → List ℕ
+port_name port = codes "port " ++ decimal port
+
+-- the area up to the contracts of a port, over those of the ports before it
+unfoldable pub area_of : Frame → ℕ → List Level → ℕ → Element
+area_of f top levels port = path_of (port_class port) (curve_text f top (Contracts port) levels) (port_name port)
+
+unfoldable pub budget_of : Frame → ℕ → List Level → Element
+budget_of f top levels = path_of (codes "budget") (curve_text f top Budget levels) (codes "budget")
+
+-- a path from one place to another
+unfoldable pub line_text : ℕ → ℕ → ℕ → ℕ → List ℕ
+line_text x y xx yy = 77 ∷ (decimal x ++ (32 ∷ (decimal y ++ (76 ∷ (decimal xx ++ (32 ∷ decimal yy))))))
+
+abbrev pub line_of : List ℕ → ℕ → ℕ → ℕ → ℕ → List ℕ → Element
+line_of class x y xx yy words = path_of class (line_text x y xx yy) words
+
+-- a time on the axis, with a line down to the lanes' end
+unfoldable pub time_line : Frame → ℕ → ℕ → Element
+time_line f bottom at = line_of (codes "grid") (x_of f at) 700 (x_of f at) bottom []
+
+unfoldable pub time_words : Frame → ℕ → Element
+time_words f at = words_at (codes "tick middle") (x_of f at) 3680 (seconds at)
+
+-- such a one at so many tenths of the window
+abbrev pub time_tick : Frame → ℕ → ℕ → List Element
+time_tick f bottom k = time_line f bottom (tenth_of f k) ∷ time_words f (tenth_of f k) ∷ []
+
+-- a power on the axis, with a line through the chart
+unfoldable pub power_line : Frame → ℕ → ℕ → Element
+power_line f top power = line_of (codes "grid") 700 (y_of top power) (right_of f) (y_of top power) []
+
+unfoldable pub power_words : ℕ → ℕ → Element
+power_words top power = words_at (codes "tick end") 660 (y_of top power + 35) (watts power)
+
+-- such a one at so many fifths of the chart
+abbrev pub power_tick : Frame → ℕ → ℕ → List Element
+power_tick f top k = power_line f top (top * k / 5) ∷ power_words top (top * k / 5) ∷ []
+
+-- the least margin: its mark from the contracts up to the budget, and its words
+unfoldable pub margin_mark : Frame → ℕ → Level → Element
+margin_mark f top l =
+    line_of (codes "least") (x_of f l.at) (y_of top (sum l.powers)) (x_of f l.at) (y_of top l.budget) (codes "least margin")
+
+unfoldable pub margin_text : Level → List ℕ
+margin_text l = codes "least margin " ++ (watts (margin l) ++ (codes " at " ++ seconds l.at))
+
+abbrev pub margin_words : Level → Element
+margin_words l = words_at (codes "head") 700 260 (margin_text l)
+
+-- the x at which it stands what a colour stands for
+abbrev pub key_left : ℕ → ℕ
+key_left port = 700 + 900 * (port - 1)
+
+-- what a colour stands for
+unfoldable pub key_of : ℕ → List Element
+key_of port =
+    box_of (port_class port) (record { x = key_left port; y = 430; width = 120; height = 120 }) []
+    ∷ words_at (codes "tick") (key_left port + 150) 530 (port_name port) ∷ []
+
+-- the ports, up and down
+abbrev pub ports_up : ℕ → List ℕ
+ports_up n = take n (1 ∷ 2 ∷ 3 ∷ 4 ∷ 5 ∷ 6 ∷ 7 ∷ 8 ∷ [])
+
+abbrev pub ports_down : ℕ → List ℕ
+ports_down n = drop (8 - n) (8 ∷ 7 ∷ 6 ∷ 5 ∷ 4 ∷ 3 ∷ 2 ∷ 1 ∷ [])
+
+abbrev pub fifths : List ℕ
+fifths = 0 ∷ 1 ∷ 2 ∷ 3 ∷ 4 ∷ 5 ∷ []
+
+abbrev pub tenths : List ℕ
+tenths = 0 ∷ 1 ∷ 2 ∷ 3 ∷ 4 ∷ 5 ∷ 6 ∷ 7 ∷ 8 ∷ 9 ∷ 10 ∷ []

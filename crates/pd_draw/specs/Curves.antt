@@ -1,0 +1,76 @@
+-- The steps of the curves: what the budget is, and what the contracts take of it, from when on.
+use Rattle.std.specs.Prelude.{ℕ, ◌-◌, ◌==◌, ◌&&◌, ◌||◌, nat_le, nat_lt, max, Bool, true, false, if◌then◌else◌, List, [], ◌∷◌, ◌++◌}
+use Rattle.std.specs.Prelude.{length, take, replicate, sum, Option, Some, None, is_some}
+use Rattle.std.specs.List.{fold}
+use Rattle.pd_port.specs.Happens.{is_budget}
+use Rattle.pd_scenario.specs.Plan.{Plan, force}
+use Rattle.pd_run.specs.Run.{Move}
+use Rattle.pd_report.specs.Walk.{noted}
+use Rattle.pd_draw.specs.declared.curves.Level.{Level}
+use Rattle.pd_draw.specs.declared.frame.Frame.{Frame}
+use Rattle.pd_draw.specs.declared.step.Step.{Step}
+use Rattle.pd_draw.specs.Steps.{step_of}
+
+-- the powers of the ports' contracts, the time of the last step, and the steps
+pub record CurvesData : Type 0 where
+  pub powers : List ℕ
+  pub at : ℕ
+  pub levels : List Level
+
+-- a step: a contract or the budget changes, and the window isn't over
+abbrev pub has_level : Frame → Step → Bool
+has_level f step = nat_le step.entry.at f.to && (is_some step.entry.contract || is_budget step.entry.due.what)
+
+-- one more step; of those of one instant the last one stands
+abbrev pub with_level : CurvesData → Level → CurvesData
+with_level c level = record {
+  powers = level.powers;
+  at = level.at;
+  levels = take (if c.at == level.at then length c.levels - 1 else length c.levels) c.levels ++ level ∷ [];
+}
+
+-- the step of a move; what was before the window stands at its start
+abbrev pub level_of : Frame → CurvesData → Step → Level
+level_of f c step = record {
+  at = max f.from step.entry.at;
+  budget = step.budget;
+  powers = noted c.powers step.port step.entry.contract;
+}
+
+-- the curves after one more move
+unfoldable pub curves_after : Frame → CurvesData → Step → CurvesData
+curves_after f c step =
+    if has_level f step then with_level c (level_of f c step)
+    else record c { powers = noted c.powers step.port step.entry.contract }
+
+-- no contract
+abbrev pub no_powers : List ℕ
+no_powers = replicate 8 0
+
+-- at the start there is no contract
+unfoldable pub curves_start : Frame → Plan → CurvesData
+curves_start f plan = record {
+  powers = no_powers;
+  at = f.from;
+  levels = record { at = f.from; budget = force plan f.from; powers = no_powers } ∷ [];
+}
+
+-- the curves of these moves of a plan
+abbrev pub curves_of : Frame → Plan → List Move → CurvesData
+curves_of f plan moves = fold (λ c m. curves_after f c (step_of plan m)) (curves_start f plan) moves
+
+-- what a step leaves of the budget
+abbrev pub margin : Level → ℕ
+margin l = l.budget - sum l.powers
+
+-- the one of two steps that leaves less, and the first where both leave as much
+abbrev pub tighter : Level → Level → Level
+tighter a b = if nat_lt (margin b) (margin a) then b else a
+
+-- the step that leaves the least
+abbrev pub tightest : Level → List Level → Level
+tightest first levels = fold tighter first levels
+
+-- the greatest budget
+abbrev pub greatest : List Level → ℕ
+greatest levels = fold (λ top l. max top l.budget) 0 levels

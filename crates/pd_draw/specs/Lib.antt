@@ -1,0 +1,5 @@
+pub mod Chart
+pub mod Curves
+pub mod Picture
+pub mod Scale
+pub mod Steps

@@ -1,0 +1,92 @@
+-- The picture of a run.
+use Rattle.std.specs.Prelude.{◌≡◌, ℕ, ◌+◌, ◌-◌, ◌*◌, ◌/◌, min, max, List, [], ◌∷◌, ◌++◌, map, codes, decimal}
+use Rattle.std.specs.List.{flat_map}
+use Rattle.pd_scenario.specs.Plan.{Plan, count}
+use Rattle.pd_run.specs.Run.{Move}
+use Rattle.pd_run.specs.Shown.{SafeRun}
+use Rattle.pd_svg.specs.Elements.{Attribute, Drawing, Element, drawing_text, element_text}
+use Rattle.pd_svg.specs.Shapes.{named, style_of}
+use Rattle.pd_draw.specs.declared.curves.Level.{Level}
+use Rattle.pd_draw.specs.declared.frame.Frame.{Frame}
+use Rattle.pd_draw.specs.declared.look.Look.{Look}
+use Rattle.pd_draw.specs.Curves.{curves_of, greatest, tightest}
+use Rattle.pd_draw.specs.Chart.{area_of, budget_of, fifths, key_of, margin_mark, margin_words, ports_down, ports_up, power_tick, tenths}
+use Rattle.pd_draw.specs.Chart.{time_tick}
+
+-- The window: up to the end of the plan, and not empty; the width is 1,000 to 10,000 pixels, of which the margins take 110.
+unfoldable pub frame_of : Plan → Look → Frame
+frame_of plan look = record {
+  from = min look.from (min look.to plan.end);
+  to = min look.to plan.end;
+  width = min 10000 (max 1000 look.width) * 10 - 1100;
+}
+
+-- how far up the chart reaches: to the greatest budget, which is at most a kilowatt
+abbrev pub top_of : List Level → ℕ
+top_of levels = min 1000000000 (greatest levels)
+
+-- the width of the picture, in tenths of a pixel
+abbrev pub whole_width : Frame → ℕ
+whole_width f = f.width + 1100
+
+abbrev pub whole_height : ℕ
+whole_height = 3900
+
+-- the picture's size in pixels, and in the tenths in which all places are
+unfoldable pub head_of : Frame → List Attribute
+head_of f =
+    named (codes "xmlns") (codes "http://www.w3.org/2000/svg")
+    ∷ named (codes "width") (decimal (whole_width f / 10))
+    ∷ named (codes "height") (codes "390")
+    ∷ named (codes "viewBox") (codes "0 0 " ++ (decimal (whole_width f) ++ codes " 3900")) ∷ []
+
+-- how the classes look: the colours of Okabe and Ito, which stay apart for who doesn't see all colours
+unfoldable pub rules : List ℕ
+rules =
+    codes "svg{background:#fff;font:100px sans-serif}.head{font-size:130px}.middle{text-anchor:middle}.end{text-anchor:end}"
+    ++ codes "path{fill:none;stroke-width:10}.grid{stroke:#ddd;stroke-width:5}.budget{stroke:#000;stroke-width:20}"
+    ++ codes ".least{stroke:#c00;stroke-width:50;stroke-linecap:round}.p1,.p2,.p3,.p4,.p5,.p6,.p7,.p8{stroke:#000;stroke-width:5}"
+    ++ codes ".p1{fill:#e69f00}.p2{fill:#56b4e9}.p3{fill:#009e73}.p4{fill:#f0e442}.p5{fill:#0072b2}.p6{fill:#d55e00}.p7{fill:#cc79a7}"
+    ++ codes ".p8{fill:#999}"
+
+-- the step that leaves the least of the budget
+abbrev pub least_elements : Frame → ℕ → List Level → List Element
+least_elements f top [] = []
+least_elements f top (l ∷ ls) = margin_mark f top (tightest l ls) ∷ margin_words (tightest l ls) ∷ []
+
+-- all that is drawn: what the colours stand for, the axes, the contracts from the last port to the first, each over the one before,
+-- the budget, and the least margin
+abbrev pub elements_of : Frame → ℕ → List Level → List Element
+elements_of f n levels =
+    style_of rules ∷ (flat_map key_of (ports_up n) ++ (flat_map (time_tick f 3500) tenths
+    ++ (flat_map (power_tick f (top_of levels)) fifths ++ (map (area_of f (top_of levels) levels) (ports_down n)
+    ++ (budget_of f (top_of levels) levels ∷ least_elements f (top_of levels) levels)))))
+
+-- the texts of what the colours stand for, of the axes, and of the curves
+unfoldable pub keys_text : ℕ → List ℕ
+keys_text n = flat_map (λ port. flat_map element_text (key_of port)) (ports_up n)
+
+unfoldable pub axes_text : Frame → List Level → List ℕ
+axes_text f levels =
+    flat_map (λ k. flat_map element_text (time_tick f 3500 k)) tenths
+    ++ flat_map (λ k. flat_map element_text (power_tick f (top_of levels) k)) fifths
+
+unfoldable pub curves_text : Frame → ℕ → List Level → List ℕ
+curves_text f n levels =
+    flat_map (λ port. element_text (area_of f (top_of levels) levels port)) (ports_down n)
+    ++ (element_text (budget_of f (top_of levels) levels) ++ flat_map element_text (least_elements f (top_of levels) levels))
+
+-- the picture of these steps of n ports
+unfoldable pub picture : Frame → ℕ → List Level → Drawing
+picture f n levels = record { attributes = head_of f; elements = elements_of f n levels }
+
+-- the text of the picture of these moves of a plan
+abbrev pub picture_text : Plan → Look → List Move → List ℕ
+picture_text plan look moves =
+    drawing_text (picture (frame_of plan look) (count plan) (curves_of (frame_of plan look) plan moves).levels)
+
+-- the text is that of the picture of the plan's run, which is safe
+pub record DrewRun (plan : Plan) (look : Look) (text : List ℕ) : Type 0 where
+  pub moves : List Move
+  pub safe : SafeRun plan moves
+  pub text_is : text ≡ picture_text plan look moves
