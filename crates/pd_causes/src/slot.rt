@@ -80,7 +80,7 @@ impl Slot {
     }
 
     /// The word that stands for itself; of another form none.
-    fn keyword(self) -> &'static str
+    pub fn keyword(self) -> &'static str
         ensures { result.now ≡ keyword_of self }
     {
         match self {

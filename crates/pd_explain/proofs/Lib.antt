@@ -1,3 +1,4 @@
 mod Least
 mod WhereBroken
 mod WordCounts
+pub mod NearWords

@@ -1,6 +1,7 @@
 -- What is said of a place at which a rule is broken: this product's own form, docs/FORMATS.md, "Reasons".
 use Rattle.std.specs.Prelude.{ℕ, List, [], ◌∷◌, ◌++◌, map, codes, decimal, nat_lt, if◌then◌else◌}
 use Rattle.std.specs.List.{flat_map}
+use Rattle.pd_near.specs.Slips.{nearest, meant_text}
 use Rattle.pd_scenario.specs.declared.limits.Quantity.{Quantity}
 use Rattle.pd_scenario.specs.declared.named.NamedCable.{NamedCable}
 use Rattle.pd_scenario.specs.declared.named.NamedSink.{NamedSink}
@@ -101,14 +102,15 @@ port_text n port = codes "no port is " ++ (decimal port ++ (codes "; the last is
 unfoldable pub no_cable_text : List ℕ → List ℕ
 no_cable_text name = codes "no cable is named `" ++ (name ++ codes "`")
 
+-- and the first of the names of which it is a slip, where it is one
 unfoldable pub cable_text : List (List ℕ) → List ℕ → List ℕ
-cable_text names name = no_cable_text name ++ there_are names
+cable_text names name = no_cable_text name ++ (there_are names ++ meant_text (nearest name names))
 
 unfoldable pub no_sink_text : List ℕ → List ℕ
 no_sink_text name = codes "no sink is named `" ++ (name ++ codes "`")
 
 unfoldable pub sink_text : List (List ℕ) → List ℕ → List ℕ
-sink_text names name = no_sink_text name ++ there_are names
+sink_text names name = no_sink_text name ++ (there_are names ++ meant_text (nearest name names))
 
 unfoldable pub user_text : ℕ → ℕ → List ℕ
 user_text id at = codes "event " ++ (decimal id ++ (codes " at " ++ (decimal at ++ codes " names it")))

@@ -10,6 +10,7 @@ use Rattle.pd_causes.specs.declared.rows.Row.{Row}
 use Rattle.pd_causes.specs.Slots.{text_of}
 use Rattle.pd_causes.specs.Stops.{stop_from}
 use Rattle.pd_causes.specs.Table.{rows}
+use Rattle.pd_explain.specs.Hints.{stop_hint}
 
 -- a line may end behind such a beginning
 abbrev pub may_end : Front → Bool
@@ -50,8 +51,10 @@ found_text (word ∷ ws) = 96 ∷ (map visible word ++ 96 ∷ [])
 abbrev pub word_place : Words → Words → ℕ
 word_place all left = (length all - length left) + 1
 
+-- and which word may have been meant
 unfoldable pub stop_text : Words → Front × Words → List ℕ
-stop_text all (front, left) = codes "word " ++ (decimal (word_place all left) ++ (expected_text front ++ found_text left))
+stop_text all (front, left) =
+    codes "word " ++ (decimal (word_place all left) ++ (expected_text front ++ (found_text left ++ stop_hint front left)))
 
 unfoldable pub too_long_text : ℕ → List ℕ
 too_long_text bytes = codes "the line has " ++ (decimal bytes ++ codes " bytes, above 256")

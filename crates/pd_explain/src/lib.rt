@@ -2,6 +2,7 @@
 #![tactic(auto)]
 
 mod broken;
+mod hints;
 pub mod laws;
 mod numbers;
 mod place;

@@ -7,6 +7,7 @@ ghost use Rattle.pd_explain.specs.Sentences.{sink_names, new_id_text, changed_te
 ghost use Rattle.pd_explain.specs.Sentences.{room_text, word_text, is_text, before_text, no_cable_text};
 ghost use Rattle.pd_explain.specs.Sentences.{no_sink_text, no_event_text};
 
+use crate::hints::{push_near_cable, push_near_sink};
 use crate::ranges::push_out;
 use crate::texts::{
     push_behind, push_between, push_cables, push_ids, push_number, push_sinks, push_sum,
@@ -147,7 +148,8 @@ fn push_cable<const N: usize>(
     ensures { OnOk result (text.new.items ≡ text.old.items ++ cable_text (cable_names scenario.now) name.now) }
 {
     push_no_cable(text, name)?;
-    push_cables(text, scenario.cables())
+    push_cables(text, scenario.cables())?;
+    push_near_cable(text, name, scenario.cables())
 }
 
 #[tactic(auto, unfolding(crate::specs::Sentences::no_sink_text))]
@@ -166,7 +168,8 @@ fn push_sink<const N: usize>(
     ensures { OnOk result (text.new.items ≡ text.old.items ++ sink_text (sink_names scenario.now) name.now) }
 {
     push_no_sink(text, name)?;
-    push_sinks(text, scenario.sinks())
+    push_sinks(text, scenario.sinks())?;
+    push_near_sink(text, name, scenario.sinks())
 }
 
 #[tactic(auto, unfolding(crate::specs::Sentences::user_text))]

@@ -8,6 +8,7 @@ ghost use Rattle.pd_causes.specs.declared.rows.Row.{Row as RowData};
 ghost use Rattle.pd_explain.specs.Stops.{may_end, choices, expected_text, visible, found_text, stop_text, syntax_text, row_text};
 ghost use Rattle.pd_explain.specs.Stops.{end_text, too_long_text, word_place};
 
+use crate::hints::push_stop_hint;
 use crate::texts::{push_between, push_number};
 use pd_causes::{Front, Row, Stop, stop_of};
 use pd_edit_lines::next;
@@ -136,7 +137,8 @@ fn push_stop(text: &mut Vec<u8>, line: &[u8], stop: &Stop<'_>) -> Result<(), All
     text.extend_from_slice(b"word ")?;
     push_number(text, place_of(line, stop.rest))?;
     push_expected(text, stop)?;
-    push_found(text, stop.rest)
+    push_found(text, stop.rest)?;
+    push_stop_hint(text, stop)
 }
 
 #[tactic(auto, unfolding(crate::specs::Stops::too_long_text))]

@@ -50,10 +50,11 @@ mw = 20000
 ";
 
 /// Lines, each with what is said of it: a line for each place, parted by bars.
-const LINES: [(&[u8], &[u8]); 47] = [
+const LINES: [(&[u8], &[u8]); 51] = [
     (
         b"mvoe 1 5",
-        b"refused 20: word 1: expected insert, remove, move, change, cable, sink, caps, floor, budget, end, show, found `mvoe`",
+        b"refused 20: word 1: expected insert, remove, move, change, cable, sink, caps, floor, budget, end, show, found `mvoe`; \
+hint: did you mean `move`?",
     ),
     (
         b"move",
@@ -81,7 +82,8 @@ const LINES: [(&[u8], &[u8]); 47] = [
     ),
     (
         b"insert 4 0 1 loose",
-        b"refused 20: word 5: expected attach, detach, demand, lose, damage, get_source, get_sink, found `loose`",
+        b"refused 20: word 5: expected attach, detach, demand, lose, damage, get_source, get_sink, found `loose`; \
+hint: did you mean `lose`?",
     ),
     (
         b"insert 4 0 1 attach thin",
@@ -105,7 +107,7 @@ const LINES: [(&[u8], &[u8]); 47] = [
     ),
     (
         b"sink a 5000 100 pd rev4",
-        b"refused 20: word 6: expected rev2, rev3, the end, found `rev4`",
+        b"refused 20: word 6: expected rev2, rev3, the end, found `rev4`; hint: did you mean `rev2`?",
     ),
     (
         b"caps 1",
@@ -157,6 +159,22 @@ const LINES: [(&[u8], &[u8]); 47] = [
     (
         b"insert 4 0 1 attach thick phone",
         b"refused 24: no cable is named `thick`; there are thin, c5",
+    ),
+    (
+        b"insert 4 0 1 attach tin phone",
+        b"refused 24: no cable is named `tin`; there are thin, c5; hint: did you mean `thin`?",
+    ),
+    (
+        b"sink phnoe drop",
+        b"refused 24: no sink is named `phnoe`; there are phone; hint: did you mean `phone`?",
+    ),
+    (
+        b"cable a akc 3000",
+        b"refused 20: word 3: expected none, ack, nak, busy, silent, drop, found `akc`; hint: did you mean `ack`?",
+    ),
+    (
+        b"sink a 5000 100 plan",
+        b"refused 20: word 5: expected pd, plain, greedy, found `plan`; hint: did you mean `plain`?",
     ),
     (
         b"change 1 attach thin laptop",

@@ -13,6 +13,7 @@ use Rattle.pd_scenario_tables.specs.Schema.{text_of, rules_of}
 use Rattle.pd_scenario_tables.specs.Tables.{value_at, event_at, keys_of, has_key, is_required}
 use Rattle.pd_scenario_tables.specs.Values.{passes}
 use Rattle.pd_scenario_text.specs.FileTables.{Tables}
+use Rattle.pd_misfits.specs.Hints.{key_hint}
 use Rattle.pd_misfits.specs.Sentences.{value_sentence, missing_sentence, unknown_sentence}
 
 -- a sentence behind what stands before it on its line
@@ -25,7 +26,7 @@ line front sentence = front ++ (sentence ++ 10 ∷ [])
 abbrev pub value_part : List ℕ → ScenarioFault → Version → ℕ → Rule → Option Data → List ℕ
 value_part front refusal version ports r None = []
 value_part front refusal version ports r (Some d) =
-    if passes refusal version ports r.form d then [] else line front (value_sentence refusal ports r.key r.form d)
+    if passes refusal version ports r.form d then [] else line front (value_sentence refusal version ports r.key r.form d)
 
 -- a key is told where it is absent and nothing stands for it
 abbrev pub missing_part : List ℕ → Rule → Option Data → List ℕ
@@ -40,17 +41,21 @@ rule_part front refusal version ports t r = value_part front refusal version por
 unfoldable pub key_word : Rule → List ℕ
 key_word r = 32 ∷ text_of r.key
 
-unfoldable pub unknown_line : List ℕ → List Rule → List ℕ → List ℕ
-unknown_line front rules k = line front (unknown_sentence k ++ flat_map key_word rules)
+unfoldable pub known_keys : Version → TableKind → List ℕ
+known_keys version kind = flat_map key_word (rules_of version kind)
+
+-- and what is likelier meant, where that is known
+unfoldable pub unknown_line : List ℕ → Version → TableKind → List ℕ → List ℕ
+unknown_line front version kind k = line front (unknown_sentence k ++ (known_keys version kind ++ key_hint version kind k))
 
 -- a key is told that no rule has
-abbrev pub key_part : List ℕ → List Rule → List ℕ → List ℕ
-key_part front rules k = if has_key rules k then [] else unknown_line front rules k
+abbrev pub key_part : List ℕ → Version → TableKind → List ℕ → List ℕ
+key_part front version kind k = if has_key (rules_of version kind) k then [] else unknown_line front version kind k
 
 -- ---- one table
 
 abbrev pub table_text : List ℕ → ScenarioFault → Version → ℕ → TableKind → Members → List ℕ
-table_text front fault.UnknownKey version ports kind t = flat_map (key_part front (rules_of version kind)) (keys_of t)
+table_text front fault.UnknownKey version ports kind t = flat_map (key_part front version kind) (keys_of t)
 table_text front refusal version ports kind t = flat_map (rule_part front refusal version ports t) (rules_of version kind)
 
 -- ---- a whole file

@@ -3,6 +3,7 @@ use Rattle.std.specs.Prelude.{ℕ, true, false, nat_le, ◌&&◌, List, [], ◌�
 use Rattle.std.specs.Fmt.{signed_decimal}
 use Rattle.toml.specs.Data.{Data, string, integer, float, boolean, datetime, array, table}
 use Rattle.pd_scenario.specs.Limits.{Range, between, stepped, range_of}
+use Rattle.pd_scenario_tables.specs.declared.schema.Version.{Version}
 use Rattle.pd_scenario_tables.specs.declared.schema.Key.{Key}
 use Rattle.pd_scenario_tables.specs.declared.schema.Form.{Form}
 use Rattle.pd_scenario_tables.specs.declared.schema.Form.TheVariants.{Number, VersionNumber, PortNumber, RatingNumber, RevisionNumber, Name}
@@ -10,6 +11,7 @@ use Rattle.pd_scenario_tables.specs.declared.schema.Form.TheVariants.{PlugWord, 
 use Rattle.pd_scenario_tables.specs.declared.fault.ScenarioFault.{ScenarioFault}
 use Rattle.pd_scenario_tables.specs.declared.fault.ScenarioFault.TheVariants as fault
 use Rattle.pd_scenario_tables.specs.Schema.{text_of}
+use Rattle.pd_misfits.specs.Hints.{value_hint}
 
 -- ---- what stands there
 
@@ -80,9 +82,13 @@ wanted_text _ ports form = []
 
 -- ---- the sentences
 
-unfoldable pub value_sentence : ScenarioFault → ℕ → Key → Form → Data → List ℕ
-value_sentence refusal ports k form d =
+unfoldable pub plain_sentence : ScenarioFault → ℕ → Key → Form → Data → List ℕ
+plain_sentence refusal ports k form d =
     quoted (text_of k) ++ (codes " is " ++ (value_text d ++ (codes ", not " ++ wanted_text refusal ports form)))
+
+-- and what is likelier meant, where that is known
+unfoldable pub value_sentence : ScenarioFault → Version → ℕ → Key → Form → Data → List ℕ
+value_sentence refusal version ports k form d = plain_sentence refusal ports k form d ++ value_hint refusal version k form d
 
 unfoldable pub missing_sentence : Key → List ℕ
 missing_sentence k = quoted (text_of k) ++ codes " is missing"

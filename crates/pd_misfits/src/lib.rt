@@ -2,6 +2,7 @@
 #![tactic(auto)]
 
 mod file;
+mod hints;
 mod table;
 mod text;
 mod values;

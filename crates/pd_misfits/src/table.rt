@@ -5,9 +5,11 @@ ghost use Rattle.std.specs.List.{flat_map};
 ghost use Rattle.toml.specs.View.{view, table_view};
 ghost use Rattle.pd_scenario_tables.specs.Schema.{text_of, rules_of};
 ghost use Rattle.pd_scenario_tables.specs.Tables.{value_at, keys_of};
-ghost use Rattle.pd_misfits.specs.Sentences.{value_sentence, missing_sentence, unknown_sentence};
-ghost use Rattle.pd_misfits.specs.Lines.{line, value_part, missing_part, rule_part, key_word, unknown_line, key_part, table_text};
+ghost use Rattle.pd_misfits.specs.Sentences.{plain_sentence, value_sentence, missing_sentence, unknown_sentence};
+ghost use Rattle.pd_misfits.specs.Lines.{line, value_part, missing_part, rule_part, key_word, known_keys, unknown_line};
+ghost use Rattle.pd_misfits.specs.Lines.{key_part, table_text};
 
+use crate::hints::{push_key_hint, push_value_hint};
 use crate::values::{push_quoted, push_value};
 use crate::wanted::push_wanted;
 use pd_scenario_tables::{
@@ -26,6 +28,24 @@ pub struct Refused {
 }
 
 /// Writes what stands at a key, and what is wanted there.
+#[tactic(auto, unfolding(crate::specs::Sentences::plain_sentence))]
+fn push_plain_sentence(
+    text: &mut Vec<u8>,
+    refused: Refused,
+    rule: &Rule,
+    value: &Value,
+) -> Result<(), AllocError>
+    ensures { OnOk result (text.new.items
+        ≡ text.old.items ++ plain_sentence refused.fault refused.ports rule.now.key rule.now.form (view value.now)) }
+{
+    push_quoted(text, rule.key.text().as_bytes())?;
+    text.extend_from_slice(b" is ")?;
+    push_value(text, value)?;
+    text.extend_from_slice(b", not ")?;
+    push_wanted(text, refused.fault, refused.ports, rule.form)
+}
+
+/// Writes that, and what is likelier meant.
 #[tactic(auto, unfolding(crate::specs::Sentences::value_sentence))]
 fn push_value_sentence(
     text: &mut Vec<u8>,
@@ -33,14 +53,18 @@ fn push_value_sentence(
     rule: &Rule,
     value: &Value,
 ) -> Result<(), AllocError>
-    ensures { OnOk result (text.new.items
-        ≡ text.old.items ++ value_sentence refused.fault refused.ports rule.now.key rule.now.form (view value.now)) }
+    ensures { OnOk result (text.new.items ≡ text.old.items
+        ++ value_sentence refused.fault refused.version refused.ports rule.now.key rule.now.form (view value.now)) }
 {
-    push_quoted(text, rule.key.text().as_bytes())?;
-    text.extend_from_slice(b" is ")?;
-    push_value(text, value)?;
-    text.extend_from_slice(b", not ")?;
-    push_wanted(text, refused.fault, refused.ports, rule.form)
+    push_plain_sentence(text, refused, rule, value)?;
+    push_value_hint(
+        text,
+        refused.fault,
+        refused.version,
+        rule.key,
+        rule.form,
+        value,
+    )
 }
 
 #[tactic(auto, unfolding(crate::specs::Lines::line))]
@@ -52,7 +76,8 @@ fn push_value_line(
     value: &Value,
 ) -> Result<(), AllocError>
     ensures { OnOk result (text.new.items
-        ≡ text.old.items ++ line front.now (value_sentence refused.fault refused.ports rule.now.key rule.now.form (view value.now))) }
+        ≡ text.old.items ++ line front.now
+        (value_sentence refused.fault refused.version refused.ports rule.now.key rule.now.form (view value.now))) }
 {
     text.extend_from_slice(front)?;
     push_value_sentence(text, refused, rule, value)?;
@@ -177,42 +202,60 @@ fn push_unknown(text: &mut Vec<u8>, key: &[u8]) -> Result<(), AllocError>
     text.extend_from_slice(b" is no key of this table; there are")
 }
 
+/// Writes which keys a table of a kind may have.
+#[tactic(auto, unfolding(crate::specs::Lines::known_keys))]
+fn push_known_keys(text: &mut Vec<u8>, version: Version, kind: TableKind) -> Result<(), AllocError>
+    ensures { OnOk result (text.new.items ≡ text.old.items ++ known_keys version kind) }
+{
+    push_key_words(text, rules_of(version, kind))
+}
+
 #[tactic(auto, unfolding(crate::specs::Lines::line, crate::specs::Lines::unknown_line))]
 fn push_unknown_line(
     text: &mut Vec<u8>,
     front: &[u8],
-    rules: &[Rule],
-    key: &[u8],
+    version: Version,
+    kind: TableKind,
+    key: &str,
 ) -> Result<(), AllocError>
-    ensures { OnOk result (text.new.items ≡ text.old.items ++ unknown_line front.now rules.now key.now) }
+    ensures { OnOk result (text.new.items ≡ text.old.items ++ unknown_line front.now version kind key.now) }
 {
     text.extend_from_slice(front)?;
-    push_unknown(text, key)?;
-    push_key_words(text, rules)?;
+    push_unknown(text, key.as_bytes())?;
+    push_known_keys(text, version, kind)?;
+    push_key_hint(text, version, kind, key)?;
     text.push(b'\n')?;
     Ok(())
 }
 
 /// Writes a line where no rule has a key.
-fn push_key(text: &mut Vec<u8>, front: &[u8], rules: &[Rule], key: &str) -> Result<(), AllocError>
-    ensures { OnOk result (text.new.items ≡ text.old.items ++ key_part front.now rules.now key.now) }
+fn push_key(
+    text: &mut Vec<u8>,
+    front: &[u8],
+    version: Version,
+    kind: TableKind,
+    key: &str,
+) -> Result<(), AllocError>
+    ensures { OnOk result (text.new.items ≡ text.old.items ++ key_part front.now version kind key.now) }
 {
-    if has_key(rules, key) {
+    if has_key(rules_of(version, kind), key) {
         return Ok(());
     }
-    push_unknown_line(text, front, rules, key.as_bytes())
+    push_unknown_line(text, front, version, kind, key)
 }
 
 fn push_keys(
     text: &mut Vec<u8>,
     front: &[u8],
-    rules: &[Rule],
+    version: Version,
+    kind: TableKind,
     table: &Table,
 ) -> Result<(), AllocError>
-    ensures { OnOk result (text.new.items ≡ text.old.items ++ flat_map (key_part front.now rules.now) (keys_of (table_view table.now))) }
+    ensures { OnOk result (text.new.items
+        ≡ text.old.items ++ flat_map (key_part front.now version kind) (keys_of (table_view table.now))) }
 {
     for key in table.keys() {
-        push_key(text, front, rules, key.as_str())?;
+        push_key(text, front, version, kind, key.as_str())?;
     }
     Ok(())
 }
@@ -228,9 +271,8 @@ pub fn push_table(
     ensures { OnOk result (text.new.items
         ≡ text.old.items ++ table_text front.now refused.fault refused.version refused.ports kind (table_view table.now)) }
 {
-    let rules = rules_of(refused.version, kind);
     match refused.fault {
-        ScenarioFault::UnknownKey => push_keys(text, front, rules, table),
-        _ => push_rules(text, front, refused, table, rules),
+        ScenarioFault::UnknownKey => push_keys(text, front, refused.version, kind, table),
+        _ => push_rules(text, front, refused, table, rules_of(refused.version, kind)),
     }
 }

@@ -12,20 +12,21 @@ const FILES: [Spoiled; 12] = [
         b"version = 2\nend = 5\nbudget = 500\ncolour = 1\n[[port]]\nfloor = 500\nsupplies = []\nname = \"a\"\n",
         ScenarioFault::UnknownKey,
         b"a.toml: refused 2: `colour` is no key of this table; there are version end budget port cable sink event
-a.toml: refused 2: port 1: `name` is no key of this table; there are floor supplies identity_tries unconstrained
+a.toml: refused 2: port 1: `name` is no key of this table; there are floor supplies identity_tries unconstrained; \
+hint: it is a key of [[cable]] [[sink]]
 ",
     ),
     (
         b"version = 1\n[[sink]]\nname = \"a\"\nrevision = 2\n",
         ScenarioFault::UnknownKey,
-        b"a.toml: refused 2: sink 1: `revision` is no key of this table; there are name max demand mode\n",
+        b"a.toml: refused 2: sink 1: `revision` is no key of this table; there are name max demand mode; hint: it needs `version = 2`\n",
     ),
     (
         b"version = 2\nend = \"long\"\nbudget = 1.5\n[port]\nfloor = 1\n[[event]]\nid = true\nkind = 5\n",
         ScenarioFault::WrongType,
         b"a.toml: refused 3: `end` is `long`, not a whole number
 a.toml: refused 3: `budget` is a fraction, not a whole number
-a.toml: refused 3: `port` is a table, not a list of tables, each under its name in double brackets
+a.toml: refused 3: `port` is a table, not a list of tables, each under its name in double brackets; hint: write `[[port]]`
 a.toml: refused 3: event 1: `id` is true, not a whole number
 a.toml: refused 3: event 1: `kind` is 5, not a text
 ",
@@ -82,7 +83,7 @@ kind = \"budget\"\n",
 a.toml: refused 5: event 2: `id` is 0, not 1 to 1000000
 a.toml: refused 5: event 2: `at` is 120000001, not 0 to 120000000
 a.toml: refused 5: event 2: `kind` is `budget`, not one of attach, detach, demand, lose, damage, get_source, get_sink, \
-and under version 2 budget
+and under version 2 budget; hint: a change of the budget needs `version = 2`
 ",
     ),
     (
@@ -105,6 +106,50 @@ a.toml: refused 8: port 3: `supplies` is a list, not 1 to 7 pairs, the first of 
     (b"version = 3\n", ScenarioFault::Floors, b""),
     (b"", ScenarioFault::Range, b""),
 ];
+
+/// Files with likelier causes, by hand from docs/FORMATS.md, "Hints".
+const HINTED: [Spoiled; 3] = [
+    (
+        b"version = 2\nfloor = 500\n[[port]]\nflor = 500\nend = 5\n[[event]]\nkind = \"lose\"\ncable = \"thin\"\nids = 1\n",
+        ScenarioFault::UnknownKey,
+        b"a.toml: refused 2: `floor` is no key of this table; there are version end budget port cable sink event; \
+hint: it is a key of [[port]]
+a.toml: refused 2: port 1: `end` is no key of this table; there are floor supplies identity_tries unconstrained; \
+hint: it is a key of the top
+a.toml: refused 2: port 1: `flor` is no key of this table; there are floor supplies identity_tries unconstrained; \
+hint: did you mean `floor`?
+a.toml: refused 2: event 1: `cable` is no key of this table; there are port id at kind; hint: it is a key of [[event]] by its kind
+a.toml: refused 2: event 1: `ids` is no key of this table; there are port id at kind; hint: did you mean `id`?
+",
+    ),
+    (
+        b"version = 2\n[[event]]\nkind = \"budgte\"\n[[event]]\nkind = \"Lose\"\n[[cable]]\nplug = \"acknak\"\n",
+        ScenarioFault::Range,
+        b"a.toml: refused 5: cable 1: `plug` is `acknak`, not one of none, ack, nak, busy, silent, drop
+a.toml: refused 5: event 1: `kind` is `budgte`, not one of attach, detach, demand, lose, damage, get_source, get_sink, \
+and under version 2 budget; hint: did you mean `budget`?
+a.toml: refused 5: event 2: `kind` is `Lose`, not one of attach, detach, demand, lose, damage, get_source, get_sink, \
+and under version 2 budget; hint: did you mean `lose`?
+",
+    ),
+    (
+        b"version = 1\n[cable]\nname = \"thin\"\n",
+        ScenarioFault::WrongType,
+        b"a.toml: refused 3: `cable` is a table, not a list of tables, each under its name in double brackets; \
+hint: write `[[cable]]`
+",
+    ),
+];
+
+#[test]
+fn hinted_files(rt: HostRuntime) -> Result<(), Fail> {
+    for (text, fault, lines) in HINTED.iter() {
+        let table = toml::table_from_slice(rt.alloc(), text)?;
+        let said = explain_tables(rt.alloc(), b"a.toml", *fault, &table)?;
+        assert_eq!(rt; said.as_slice(), *lines);
+    }
+    Ok(())
+}
 
 #[test]
 fn spoiled_files(rt: HostRuntime) -> Result<(), Fail> {

@@ -2,6 +2,7 @@
 use Rattle.std.specs.Prelude.{ℕ, ◌&&◌, not, nat_lt, List, [], ◌∷◌, ◌++◌, length, codes, bytes_eq, if◌then◌else◌}
 use Rattle.std.specs.List.{list_any, flat_map}
 use Rattle.toml.specs.Data.{Members}
+use Rattle.pd_near.specs.Slips.{nearest, meant_text}
 use Rattle.pd_setup.specs.Events.{KindWord}
 use Rattle.pd_setup.specs.declared.event.EventKind.TheVariants.{Attach}
 use Rattle.pd_scenario_tables.specs.declared.schema.Version.{Version}
@@ -27,8 +28,12 @@ names_text names = if nat_lt 0 (length names) then flat_map name_word names else
 unfoldable pub stranger_words : Key → List (List ℕ) → List ℕ
 stranger_words k names = codes ", the name of no " ++ (text_of k ++ (codes "; there are" ++ names_text names))
 
+unfoldable pub plain_stranger : Key → List (List ℕ) → List ℕ → List ℕ
+plain_stranger k names name = quoted (text_of k) ++ (codes " is " ++ (quoted name ++ stranger_words k names))
+
+-- and the first of the names of which it is a slip, where it is one
 unfoldable pub stranger_sentence : Key → List (List ℕ) → List ℕ → List ℕ
-stranger_sentence k names name = quoted (text_of k) ++ (codes " is " ++ (quoted name ++ stranger_words k names))
+stranger_sentence k names name = plain_stranger k names name ++ meant_text (nearest name names)
 
 -- a name that isn't there; one that is empty, or doesn't stand there, is told for another refusal
 abbrev pub stranger_part : List ℕ → Key → List (List ℕ) → List ℕ → List ℕ

@@ -7,11 +7,12 @@ ghost use Rattle.pd_scenario_tables.specs.Seen.{views};
 ghost use Rattle.pd_scenario_text.specs.Names.{texts};
 ghost use Rattle.pd_misfits.specs.Lines.{line};
 ghost use Rattle.pd_places.specs.Numbered.{numbered};
-ghost use Rattle.pd_places.specs.Known.{name_word, names_text, stranger_words, stranger_sentence, stranger_part, attach_part};
-ghost use Rattle.pd_places.specs.Known.{event_known_part};
+ghost use Rattle.pd_places.specs.Known.{name_word, names_text, plain_stranger, stranger_words, stranger_sentence};
+ghost use Rattle.pd_places.specs.Known.{event_known_part, stranger_part, attach_part};
 
 use crate::collect::word_at;
 use pd_misfits::{push_line, push_quoted, table_front};
+use pd_near::{nearest, push_meant};
 use pd_scenario_tables::{EventName, Key, Version, event_at};
 use pd_setup::EventKind;
 use std::alloc::{AllocError, Global};
@@ -57,6 +58,22 @@ fn push_stranger_words(text: &mut Vec<u8>, key: Key, names: &[&str]) -> Result<(
 }
 
 /// Writes a name that no table has, and those that there are.
+#[tactic(auto, unfolding(crate::specs::Known::plain_stranger))]
+fn push_plain_stranger(
+    text: &mut Vec<u8>,
+    key: Key,
+    names: &[&str],
+    name: &str,
+) -> Result<(), AllocError>
+    ensures { OnOk result (text.new.items ≡ text.old.items ++ plain_stranger key (texts names.now) name.now) }
+{
+    push_quoted(text, key.text().as_bytes())?;
+    text.extend_from_slice(b" is ")?;
+    push_quoted(text, name.as_bytes())?;
+    push_stranger_words(text, key, names)
+}
+
+/// Writes that, and which name may have been meant.
 #[tactic(auto, unfolding(crate::specs::Known::stranger_sentence))]
 fn push_stranger_sentence(
     text: &mut Vec<u8>,
@@ -66,10 +83,8 @@ fn push_stranger_sentence(
 ) -> Result<(), AllocError>
     ensures { OnOk result (text.new.items ≡ text.old.items ++ stranger_sentence key (texts names.now) name.now) }
 {
-    push_quoted(text, key.text().as_bytes())?;
-    text.extend_from_slice(b" is ")?;
-    push_quoted(text, name.as_bytes())?;
-    push_stranger_words(text, key, names)
+    push_plain_stranger(text, key, names, name)?;
+    push_meant(text, nearest(name.as_bytes(), names))
 }
 
 /// Whether a name is one of some.

@@ -1,0 +1,11 @@
+use Rattle.std.proofs.Common.{◌∙◌, sym}
+use Rattle.pd_near.specs.Slips.{is_slip}
+use Rattle.pd_near.proofs.SlipLemmas.{find-map}
+use Rattle.pd_scenario.specs.declared.named.NamedCable.{NamedCable}
+use Rattle.pd_explain.proofs.hints.push_near_cable.Goals as goal
+
+pub returns : goal.returns
+returns c =
+    let e =
+    c.near_cable_name.ensures ∙ sym (find-map (is_slip c.args.name.now) (λ (x : NamedCable). x.name) c.args.cables.now) in
+    rw e at c.push_meant.ensures

@@ -1,0 +1,114 @@
+//! Hints: which word or name may have been meant.
+
+ghost use Rattle.std.specs.Prelude.{◌≡◌, ◌++◌, OnOk, find, map, option_map};
+ghost use Rattle.pd_near.specs.Slips.{is_slip, meant_text, nearest};
+ghost use Rattle.pd_scenario.specs.declared.named.NamedCable.{NamedCable as NamedCableData};
+ghost use Rattle.pd_scenario.specs.declared.named.NamedSink.{NamedSink as NamedSinkData};
+ghost use Rattle.pd_edit_lines.specs.Words.{words};
+ghost use Rattle.pd_explain.specs.Hints.{near_keyword, near_slot, near_word, stop_hint};
+
+use pd_causes::{Row, Slot, Stop};
+use pd_edit_lines::next;
+use pd_near::{is_slip, nearest, push_meant};
+use pd_scenario::{Name, NamedCable, NamedSink};
+use std::alloc::AllocError;
+
+const PLUGS: [&str; 5] = ["none", "ack", "nak", "busy", "silent"];
+
+const MODES: [&str; 3] = ["pd", "plain", "greedy"];
+
+/// The first cable of whose name a name is a slip.
+fn near_cable<'a>(name: &Name, cables: &'a [NamedCable]) -> Option<&'a NamedCable>
+    ensures { option_map (λ x. x.now) result ≡ find (λ (c : NamedCableData). is_slip name.now c.name) cables.now }
+{
+    cables.iter().find(|cable| is_slip(name.as_str().as_bytes(), cable.name.as_str().as_bytes()))
+}
+
+fn near_cable_name<'a>(name: &Name, cables: &'a [NamedCable]) -> Option<&'a str>
+    ensures { option_map (λ x. x.now) result ≡ option_map (λ (c : NamedCableData). c.name)
+        (find (λ (c : NamedCableData). is_slip name.now c.name) cables.now) }
+{
+    near_cable(name, cables).map(|cable| cable.name.as_str())
+}
+
+/// Writes which cable may have been meant by a name.
+pub(crate) fn push_near_cable(
+    text: &mut Vec<u8>,
+    name: &Name,
+    cables: &[NamedCable],
+) -> Result<(), AllocError>
+    ensures { OnOk result (text.new.items
+        ≡ text.old.items ++ meant_text (nearest name.now (map (λ cable. cable.name) cables.now))) }
+{
+    push_meant(text, near_cable_name(name, cables))
+}
+
+/// The first sink of whose name a name is a slip.
+fn near_sink<'a>(name: &Name, sinks: &'a [NamedSink]) -> Option<&'a NamedSink>
+    ensures { option_map (λ x. x.now) result ≡ find (λ (s : NamedSinkData). is_slip name.now s.name) sinks.now }
+{
+    sinks.iter().find(|sink| is_slip(name.as_str().as_bytes(), sink.name.as_str().as_bytes()))
+}
+
+fn near_sink_name<'a>(name: &Name, sinks: &'a [NamedSink]) -> Option<&'a str>
+    ensures { option_map (λ x. x.now) result ≡ option_map (λ (s : NamedSinkData). s.name)
+        (find (λ (s : NamedSinkData). is_slip name.now s.name) sinks.now) }
+{
+    near_sink(name, sinks).map(|sink| sink.name.as_str())
+}
+
+/// Writes which sink may have been meant by a name.
+pub(crate) fn push_near_sink(
+    text: &mut Vec<u8>,
+    name: &Name,
+    sinks: &[NamedSink],
+) -> Result<(), AllocError>
+    ensures { OnOk result (text.new.items
+        ≡ text.old.items ++ meant_text (nearest name.now (map (λ sink. sink.name) sinks.now))) }
+{
+    push_meant(text, near_sink_name(name, sinks))
+}
+
+fn near_keyword(word: &[u8], keyword: &'static str) -> Option<&'static str>
+    ensures { option_map (λ x. x.now) result ≡ near_keyword word.now keyword.now }
+{
+    if !keyword.is_empty() && is_slip(word, keyword.as_bytes()) {
+        Some(keyword)
+    } else {
+        None
+    }
+}
+
+/// The first word that may stand at a place of which a word is a slip.
+#[tactic(auto, unfolding(crate::specs::Hints::near_slot))]
+fn near_slot(word: &[u8], slot: Slot) -> Option<&'static str>
+    ensures { option_map (λ x. x.now) result ≡ near_slot word.now slot }
+{
+    match slot {
+        Slot::Plug => nearest(word, &PLUGS),
+        Slot::Mode => nearest(word, &MODES),
+        _ => near_keyword(word, slot.keyword()),
+    }
+}
+
+/// The first of what may follow of which a word is a slip.
+fn near_word(word: &[u8], rows: &[Row]) -> Option<&'static str>
+    ensures { option_map (λ x. x.now) result ≡ near_word word.now rows.now }
+{
+    for row in rows {
+        if let Some(near) = near_slot(word, row.slot) {
+            return Some(near);
+        }
+    }
+    None
+}
+
+/// Writes which word may have been meant where a line stops.
+pub(crate) fn push_stop_hint(text: &mut Vec<u8>, stop: &Stop<'_>) -> Result<(), AllocError>
+    ensures { OnOk result (text.new.items ≡ text.old.items ++ stop_hint stop.now.front (words stop.now.rest.now)) }
+{
+    match next(stop.rest) {
+        Some((word, _)) => push_meant(text, near_word(word, stop.rows())),
+        None => Ok(()),
+    }
+}
