@@ -1,12 +1,12 @@
 -- Facts on what is seen of a move.
-use Rattle.std.proofs.Common.{◌≡◌, ℕ, ◌+◌, ◌-◌, ◌<◌, ◌≤◌, List, [], ◌∷◌, ◌++◌, Option, refl, sym, ap, ◌∙◌, arith}
+use Rattle.std.proofs.Common.{◌≡◌, ℕ, ◌+◌, ◌-◌, ◌<◌, ◌≤◌, List, [], ◌∷◌, ◌++◌, Option, refl, ap, ◌∙◌, arith}
 use Rattle.pd_objects.specs.declared.query.Answer.{Answer}
 use Rattle.pd_port.specs.declared.due.Due.{Due}
 use Rattle.pd_port.specs.declared.entry.Entry.{Entry}
 use Rattle.pd_port.specs.Port.{PortData}
 use Rattle.pd_scenario.specs.Plan.{Plan, count, force, settings_of}
-use Rattle.pd_run.specs.Run.{Move, Standing, standing, moved, after, shown}
-use Rattle.pd_run.specs.Live.{LiveData, StandsAfter, next_move, port_after, port_at}
+use Rattle.pd_run.specs.Run.{Move, Standing, after, shown}
+use Rattle.pd_run.specs.Live.{LiveData, StandsAfter, next_move, port_at}
 use Rattle.pd_run.proofs.Moves.{standing-same}
 use Rattle.pd_watch.specs.Watch.{WatchData, after_step, disturber_of, id_of, watch_at}
 use Rattle.pd_show.specs.declared.seen.Glance.{Glance}

@@ -12,8 +12,9 @@ use Rattle.pd_run.specs.Live.{RunsTo}
 use Rattle.pd_watch.specs.Watch.{WatchData, after_step, after_steps, all_at_rest}
 use Rattle.pd_show.specs.declared.choice.Choice.{Choice}
 use Rattle.pd_show.specs.Lines.{Line, chosen_lines, lines_from, lines_of}
-use Rattle.pd_show.specs.Pages.{PageData, last_at, text_from, written}
-use Rattle.pd_show.specs.Seen.{seen_of}
+use Rattle.pd_show.specs.Pages.{PageData, head, last_at, text_from, written}
+use Rattle.pd_show.specs.Seen.{all_seen, seen_from, seen_of}
+use Rattle.pd_show.specs.declared.seen.Seen.{Seen}
 use Rattle.pd_show.specs.Show.{Passed, show_text}
 use Rattle.pd_show.proofs.PageLemmas.{text_from-append, last_at-append}
 
@@ -28,13 +29,13 @@ pub record Progress (plan : Plan) (choice : Choice) (moves : List Move) (page : 
   pub text_is : show_text plan choice moves ≡ out ++ page.text
   pub before_is : page.before ≡ last_at 0 (lines_of plan choice moves)
 
-pub progress_none : (plan : Plan) (choice : Choice) (page : PageData) (a : Option (List ℕ)) → page ≡ record { text = []; before = 0 }
-    → Progress plan choice [] page a a
+pub progress_none : (plan : Plan) (choice : Choice) (page : PageData) (a : Option (List ℕ)) →
+    page ≡ record { text = head choice.form; before = 0 } → Progress plan choice [] page a a
 progress_none plan choice page a e = record {
   out = [];
   appends = Appends-nil a;
-  text_is = rw e refl;
-  before_is = rw e refl;
+  text_is = append-nil (head choice.form) ∙ sym (ap (λ (p : PageData). p.text) e);
+  before_is = ap (λ (p : PageData). p.before) e;
 }
 
 -- what is watched of the ports after some moves from the start
@@ -68,7 +69,7 @@ watched_push plan moves m =
 
 -- the lines of one more move on the page
 pub progress_more : (plan : Plan) (choice : Choice) (moves : List Move) (m : Move) (page page' : PageData) (a b : Option (List ℕ)) →
-    Progress plan choice moves page a b → page' ≡ written page (chosen_lines choice (seen_of plan (watched plan moves) m))
+    Progress plan choice moves page a b → page' ≡ written choice.form page (chosen_lines choice (seen_of plan (watched plan moves) m))
     → Progress plan choice (moves ++ m ∷ []) page' a b
 unfolding written
 progress_more plan choice moves m page page' a b p e =
@@ -78,10 +79,12 @@ progress_more plan choice moves m page page' a b p e =
       out = p.out;
       appends = p.appends;
       text_is =
-          ap (text_from 0) (lines_push plan choice moves m) ∙ text_from-append 0 all more
-          ∙ ap (λ v. v ++ text_from (last_at 0 all) more) p.text_is
-          ∙ ap (λ t. (p.out ++ page.text) ++ text_from t more) (sym p.before_is)
-          ∙ append_assoc p.out page.text (text_from page.before more);
+          ap (λ ls. head choice.form ++ text_from choice.form 0 ls) (lines_push plan choice moves m)
+          ∙ ap (λ v. head choice.form ++ v) (text_from-append choice.form 0 all more)
+          ∙ sym (append_assoc (head choice.form) (text_from choice.form 0 all) (text_from choice.form (last_at 0 all) more))
+          ∙ ap (λ v. v ++ text_from choice.form (last_at 0 all) more) p.text_is
+          ∙ ap (λ t. (p.out ++ page.text) ++ text_from choice.form t more) (sym p.before_is)
+          ∙ append_assoc p.out page.text (text_from choice.form page.before more);
       before_is =
           ap (λ t. last_at t more) p.before_is ∙ sym (last_at-append 0 all more)
           ∙ sym (ap (last_at 0) (lines_push plan choice moves m));
@@ -113,3 +116,14 @@ pub progress_all : (plan : Plan) (choice : Choice) (moves : List Move) (page : P
 progress_all plan choice moves page a b p e =
     let whole : show_text plan choice moves ≡ p.out = p.text_is ∙ ap (λ v. p.out ++ v) e ∙ append-nil p.out in
     rw whole p.appends
+
+seen_from-push : (plan : Plan) (ws : List WatchData) (moves : List Move) (m : Move)
+    → seen_from plan ws (moves ++ m ∷ []) ≡ seen_from plan ws moves ++ seen_of plan (after_steps ws (map shown moves)) m ∷ []
+seen_from-push plan ws [] m = refl
+seen_from-push plan ws (x ∷ xs) m =
+    ap (λ (v : List Seen). seen_of plan ws x ∷ v) (seen_from-push plan (after_step ws (shown x)) xs m)
+
+-- what is seen after one more move
+pub seen_push : (plan : Plan) (moves : List Move) (m : Move)
+    → all_seen plan (moves ++ m ∷ []) ≡ all_seen plan moves ++ seen_of plan (watched plan moves) m ∷ []
+seen_push plan moves m = seen_from-push plan (all_at_rest (count plan)) moves m

@@ -1,10 +1,10 @@
 -- What is seen of a move of a run.
-use Rattle.std.specs.Prelude.{ℕ, ◌+◌, List}
+use Rattle.std.specs.Prelude.{ℕ, ◌+◌, List, [], ◌∷◌}
 use Rattle.pd_setup.specs.Settings.{SettingsData}
 use Rattle.pd_port.specs.Port.{PortRecord, hold as hold_of}
-use Rattle.pd_scenario.specs.Plan.{Plan, settings_of, force}
-use Rattle.pd_run.specs.Run.{Move, after as left_by}
-use Rattle.pd_watch.specs.Watch.{WatchData, disturber_of, id_of, watch_at}
+use Rattle.pd_scenario.specs.Plan.{Plan, count, settings_of, force}
+use Rattle.pd_run.specs.Run.{Move, shown, after as left_by}
+use Rattle.pd_watch.specs.Watch.{WatchData, after_step, all_at_rest, disturber_of, id_of, watch_at}
 use Rattle.pd_show.specs.declared.seen.Glance.{Glance}
 use Rattle.pd_show.specs.declared.seen.Seen.{Seen}
 
@@ -25,3 +25,12 @@ seen_of plan ws m = record {
   answer = m.answer;
   by = id_of (disturber_of (watch_at ws (m.port + 1)) m.entry);
 }
+
+-- what is seen of moves of a plan, in their order, before which so much is watched of the ports
+abbrev pub seen_from : Plan → List WatchData → List Move → List Seen
+seen_from plan ws [] = []
+seen_from plan ws (m ∷ ms) = seen_of plan ws m ∷ seen_from plan (after_step ws (shown m)) ms
+
+-- what is seen of the moves of a plan from its start
+abbrev pub all_seen : Plan → List Move → List Seen
+all_seen plan moves = seen_from plan (all_at_rest (count plan)) moves

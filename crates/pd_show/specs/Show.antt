@@ -10,11 +10,11 @@ use Rattle.pd_run.specs.Live.{RunsTo}
 use Rattle.pd_run.specs.Shown.{SafeRun}
 use Rattle.pd_show.specs.declared.choice.Choice.{Choice}
 use Rattle.pd_show.specs.Lines.{lines_of}
-use Rattle.pd_show.specs.Pages.{PageData, text_from}
+use Rattle.pd_show.specs.Pages.{PageData, head, text_from}
 
--- the text of these moves of a plan
+-- the text of these moves of a plan, in the form that is chosen
 abbrev pub show_text : Plan → Choice → List Move → List ℕ
-show_text plan choice moves = text_from 0 (lines_of plan choice moves)
+show_text plan choice moves = head choice.form ++ text_from choice.form 0 (lines_of plan choice moves)
 
 -- the text of the plan's run, which is safe, was written
 pub record WroteRun (plan : Plan) (choice : Choice) (old new : Option (List ℕ)) : Type 0 where

@@ -6,7 +6,18 @@ ghost use Rattle.pd_show.specs.Choices.{good_crc, hides, is_chosen, is_of_port};
 use pd_header::{Kind, header_kind};
 use pd_line::Start;
 
-/// What is shown of a run.
+/// The form in which a run is shown.
+#[derive(Clone, Copy, Debug, PartialEq, Eq)]
+pub enum Form {
+    /// Lines of words.
+    Words,
+    /// A JSON object for each line.
+    Json,
+    /// A head, and comma-separated values for each line.
+    Csv,
+}
+
+/// What is shown of a run, and how.
 #[derive(Clone, Copy, Debug)]
 pub struct Choice {
     /// The port that is shown, numbered from 1, or all of them.
@@ -19,6 +30,8 @@ pub struct Choice {
     pub good_crc: bool,
     /// Whether packets are shown with their codes.
     pub codes: bool,
+    /// The form of the lines.
+    pub form: Form,
 }
 
 impl Choice {

@@ -11,8 +11,11 @@ use pd_tell::{push_number, side_text};
 use std::alloc::AllocError;
 
 /// Writes what went wrong.
+///
+/// # Errors
+/// There is no memory for it; some of it may stand in the text.
 #[tactic(auto, unfolding(pd_report::specs::FaultLines::fault_words))]
-pub(crate) fn push_fault(text: &mut Vec<u8>, fault: Fault) -> Result<(), AllocError>
+pub fn push_fault(text: &mut Vec<u8>, fault: Fault) -> Result<(), AllocError>
     ensures { OnOk result (text.new.items ≡ text.old.items ++ fault_words fault) }
 {
     match fault {

@@ -7,7 +7,11 @@ mod faults;
 mod lines;
 mod page;
 mod seen;
+mod told;
 mod walk;
 
-pub use choice::Choice;
+pub use choice::{Choice, Form};
+pub use faults::push_fault;
+pub use seen::{Glance, Seen, step_seen};
+pub use told::push_change;
 pub use walk::show;

@@ -1,12 +1,14 @@
 //! Lines as text.
 
-ghost use Rattle.std.specs.Prelude.{◌≡◌, ◌++◌, ◌∷◌, ℕ, List, [], OnOk, MatchResult, Option};
+ghost use Rattle.std.specs.Prelude.{◌≡◌, ◌-◌, ◌++◌, ℕ, List, [], IfOk, OnOk, MatchResult, Option};
+ghost use Rattle.std.specs.List.{flat_map};
 ghost use Rattle.pd_device.specs.Device.{CountsFailure, WrotePart};
 ghost use Rattle.pd_device.specs.Text.{right};
 ghost use Rattle.pd_device.specs.declared.fault.BenchFault.TheVariants.{WriteFailed as write_failed};
-ghost use Rattle.pd_show.specs.Pages.{line_text, more_text, written};
+ghost use Rattle.pd_show.specs.Pages.{csv_line, framed, head, json_line, more_text, twice, value, words_line};
 ghost use Rattle.pd_show.specs.Show.{Passed};
 
+use crate::Form;
 use itoa::Buffer;
 use pd_device::{BenchFault, Text, TextOut, write_all};
 use pd_tell::push_number;
@@ -15,6 +17,16 @@ use std::marker::Model;
 
 /// How many bytes are written at a time, and those of one more move.
 const PAGE: usize = 8_192;
+
+/// What stands before the first line.
+fn head(form: Form) -> &'static [u8]
+    ensures { result.now ≡ head form }
+{
+    match form {
+        Form::Words | Form::Json => b"",
+        Form::Csv => b"at_us,since_us,port,kind,text\n",
+    }
+}
 
 /// Lines that are still to be written, and the time of the last line.
 #[derive(Drop)]
@@ -32,22 +44,31 @@ impl Model for Page {
 }
 
 impl Page {
-    /// No line.
-    pub(crate) fn new(alloc: Global) -> Page
-        ensures { result ≡ record { text = []; before = 0 } }
+    /// No line, but for what stands before the first one.
+    pub(crate) fn new(alloc: Global, form: Form) -> Result<Page, AllocError>
+        ensures { IfOk result (λ page. page ≡ record { text = head form; before = 0 }) }
     {
-        Page {
-            text: Vec::new(alloc),
-            before: 0,
-        }
+        let mut text = Vec::new(alloc);
+        text.extend_from_slice(head(form))?;
+        Ok(Page { text, before: 0 })
     }
 
-    /// One more line.
-    #[tactic(auto, using(crate::proofs::PageLemmas::written_one))]
-    pub(crate) fn push_line(&mut self, at: u64, port: usize, words: &[u8]) -> Result<(), AllocError>
-        ensures { OnOk result (self.new ≡ written self.old (record { at = at; port = port; words = words.now } ∷ [])) }
+    /// One more line, which says so much.
+    pub(crate) fn push_line(
+        &mut self,
+        form: Form,
+        at: u64,
+        port: usize,
+        kind: &[u8],
+        said: &[u8],
+    ) -> Result<(), AllocError>
+        ensures { OnOk result (self.new ≡ record {
+          text = self.old.text ++ framed form at (at - self.old.before) port kind.now said.now;
+          before = at;
+        }) }
     {
-        push_line(&mut self.text, self.before, at, port, words)?;
+        let since = at.saturating_sub(self.before);
+        push_framed(&mut self.text, form, at, since, port, kind, said)?;
         self.before = at;
         Ok(())
     }
@@ -105,25 +126,116 @@ fn push_more(text: &mut Vec<u8>, number: u64) -> Result<(), AllocError>
     Ok(())
 }
 
-/// Writes a line, after a line of a time.
-#[tactic(auto, unfolding(crate::specs::Pages::line_text))]
-fn push_line(
+/// Writes a line of words.
+#[tactic(auto, unfolding(crate::specs::Pages::words_line))]
+fn push_words_line(
     text: &mut Vec<u8>,
-    before: u64,
     at: u64,
+    since: u64,
     port: usize,
     words: &[u8],
 ) -> Result<(), AllocError>
-    ensures { OnOk result (text.new.items
-        ≡ text.old.items ++ line_text before (record { at = at; port = port; words = words.now })) }
+    ensures { OnOk result (text.new.items ≡ text.old.items ++ words_line at since port words.now) }
 {
     push_right(text, at)?;
     text.push(b' ')?;
-    push_more(text, at.saturating_sub(before))?;
+    push_more(text, since)?;
     text.extend_from_slice(b" port ")?;
     push_number(text, port as u64)?;
     text.push(b' ')?;
     text.extend_from_slice(words)?;
     text.push(b'\n')?;
     Ok(())
+}
+
+/// Writes a line as a JSON object.
+#[tactic(auto, unfolding(crate::specs::Pages::json_line))]
+fn push_json_line(
+    text: &mut Vec<u8>,
+    at: u64,
+    since: u64,
+    port: usize,
+    kind: &[u8],
+    members: &[u8],
+) -> Result<(), AllocError>
+    ensures { OnOk result (text.new.items ≡ text.old.items ++ json_line at since port kind.now members.now) }
+{
+    text.extend_from_slice(b"{\"at_us\":")?;
+    push_number(text, at)?;
+    text.extend_from_slice(b",\"since_us\":")?;
+    push_number(text, since)?;
+    text.extend_from_slice(b",\"port\":")?;
+    push_number(text, port as u64)?;
+    text.extend_from_slice(b",\"kind\":\"")?;
+    text.extend_from_slice(kind)?;
+    text.extend_from_slice(b"\"")?;
+    text.extend_from_slice(members)?;
+    text.extend_from_slice(b"}\n")?;
+    Ok(())
+}
+
+/// Writes a text with each quotation mark twice.
+fn push_twice(text: &mut Vec<u8>, words: &[u8]) -> Result<(), AllocError>
+    ensures { OnOk result (text.new.items ≡ text.old.items ++ flat_map twice words.now) }
+{
+    for byte in words {
+        if *byte == b'"' {
+            text.push(b'"')?;
+        }
+        text.push(*byte)?;
+    }
+    Ok(())
+}
+
+/// Writes a text as a value that may hold commas.
+fn push_value(text: &mut Vec<u8>, words: &[u8]) -> Result<(), AllocError>
+    ensures { OnOk result (text.new.items ≡ text.old.items ++ value words.now) }
+{
+    text.extend_from_slice(b"\"")?;
+    push_twice(text, words)?;
+    text.extend_from_slice(b"\"")
+}
+
+/// Writes a line as comma-separated values.
+#[tactic(auto, unfolding(crate::specs::Pages::csv_line))]
+fn push_csv_line(
+    text: &mut Vec<u8>,
+    at: u64,
+    since: u64,
+    port: usize,
+    kind: &[u8],
+    words: &[u8],
+) -> Result<(), AllocError>
+    ensures { OnOk result (text.new.items ≡ text.old.items ++ csv_line at since port kind.now words.now) }
+{
+    push_number(text, at)?;
+    text.extend_from_slice(b",")?;
+    push_number(text, since)?;
+    text.extend_from_slice(b",")?;
+    push_number(text, port as u64)?;
+    text.extend_from_slice(b",")?;
+    text.extend_from_slice(kind)?;
+    text.extend_from_slice(b",")?;
+    push_value(text, words)?;
+    text.extend_from_slice(b"\n")?;
+    Ok(())
+}
+
+/// Writes a line in a form.
+fn push_framed(
+    text: &mut Vec<u8>,
+    form: Form,
+    at: u64,
+    since: u64,
+    port: usize,
+    kind: &[u8],
+    said: &[u8],
+) -> Result<(), AllocError>
+    ensures { OnOk result (text.new.items ≡ text.old.items ++ framed form at since port kind.now said.now) }
+{
+    match form {
+        Form::Words => push_words_line(text, at, since, port, said),
+        Form::Json => push_json_line(text, at, since, port, kind, said),
+        Form::Csv => push_csv_line(text, at, since, port, kind, said),
+    }
 }

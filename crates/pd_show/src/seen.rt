@@ -79,7 +79,7 @@ fn take_step(
 ///
 /// # Errors
 /// There is no memory.
-pub(crate) fn step_seen<const N: usize>(
+pub fn step_seen<const N: usize>(
     alloc: Global,
     plan: &Plan<N>,
     live: &mut Live<N>,

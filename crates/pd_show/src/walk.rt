@@ -32,14 +32,17 @@ pub fn show<const N: usize, W: TextOut>(
     let Ok(mut watches) = at_rest(alloc, N) else {
         return Err(BenchFault::Memory);
     };
-    let mut page = Page::new(alloc);
+    let Ok(mut page) = Page::new(alloc, choice.form) else {
+        return Err(BenchFault::Memory);
+    };
+    let mut said = Vec::new(alloc);
     let mut meter = Meter::new();
     while let Some((port, due)) = live.next(plan) {
         let Ok(seen) = step_seen(alloc, plan, &mut live, &mut watches, port, &due, &mut meter)
         else {
             return Err(BenchFault::Memory);
         };
-        let Ok(()) = push_lines(alloc, &mut page, choice, &seen) else {
+        let Ok(()) = push_lines(&mut page, &mut said, choice, &seen) else {
             return Err(BenchFault::Memory);
         };
         page.pass(writer)?;

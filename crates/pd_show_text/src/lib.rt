@@ -3,7 +3,7 @@
 
 mod texts;
 
-pub use pd_show::Choice;
+pub use pd_show::{Choice, Form};
 pub use texts::{ShowFault, show_text};
 
 #[cfg(test)]

@@ -1,6 +1,6 @@
 //! Shown runs, with texts that were put together apart, from the times of docs/FORMATS.md and the packets' durations.
 
-use crate::{Choice, ShowFault, show_text};
+use crate::{Choice, Form, ShowFault, show_text};
 use pd_device::Output;
 use std::test::Fail;
 
@@ -36,6 +36,7 @@ fn up_to(to: u64) -> Choice {
         to,
         good_crc: true,
         codes: false,
+        form: Form::Words,
     }
 }
 
@@ -81,9 +82,69 @@ fn chosen(rt: HostRuntime) -> Result<(), Fail> {
         to: 50_730,
         good_crc: false,
         codes: true,
+        form: Form::Words,
     };
     show_text(rt.alloc(), PHONE, b"", &choice, &mut page)?;
     assert_eq!(rt; page.writer.as_slice(), CHOSEN);
+    Ok(())
+}
+
+const AS_JSON: &[u8] =
+    b"{\"at_us\":0,\"since_us\":0,\"port\":1,\"kind\":\"event\",\"id\":1,\"event\":\"attach\"}
+{\"at_us\":0,\"since_us\":0,\"port\":1,\"kind\":\"state\",\"source\":\"PE_SRC_Startup\",\"sink\":\"PE_SNK_Discovery\"}
+{\"at_us\":50000,\"since_us\":50000,\"port\":1,\"kind\":\"offer\",\"cable_ma\":3000,\
+\"supplies\":[{\"voltage_mv\":5000,\"current_ma\":3000,\"configured_ma\":3000}]}
+{\"at_us\":50000,\"since_us\":0,\"port\":1,\"kind\":\"hold\",\"before_uw\":2500000,\"after_uw\":15000000}
+{\"at_us\":50000,\"since_us\":0,\"port\":1,\"kind\":\"packet\",\"side\":\"src\",\"fate\":\"whole\",\"by_event\":null,\
+\"set\":\"SOP\",\"message\":\"Source_Capabilities\",\"header\":\"11A1\",\"id\":0,\"power_role\":\"source\",\"data_role\":\"dfp\",\
+\"revision\":\"3.0\",\"objects\":[{\"object\":\"0001912C\",\"kind\":\"fixed\",\"voltage_mv\":5000,\"current_ma\":3000,\
+\"peak_current\":0,\"dual_role_power\":false,\"usb_suspend_supported\":false,\"unconstrained_power\":false,\
+\"usb_communications_capable\":false,\"dual_role_data\":false,\"unchunked_extended_messages\":false}]}
+{\"at_us\":50000,\"since_us\":0,\"port\":1,\"kind\":\"state\",\"source\":\"PE_SRC_Send_Capabilities\",\
+\"sink\":\"PE_SNK_Wait_for_Capabilities\"}
+";
+
+#[test]
+fn as_json(rt: HostRuntime) -> Result<(), Fail> {
+    let mut page = page(rt);
+    let mut choice = up_to(50_729);
+    choice.form = Form::Json;
+    show_text(rt.alloc(), PHONE, b"", &choice, &mut page)?;
+    assert_eq!(rt; page.writer.as_slice(), AS_JSON);
+    Ok(())
+}
+
+const AS_CSV: &[u8] = b"at_us,since_us,port,kind,text
+0,0,1,event,\"event 1 attach\"
+0,0,1,state,\"state PE_SRC_Startup PE_SNK_Discovery\"
+50000,50000,1,offer,\"offer, cable 3.00 A | 5.00 V 3.00 A of 3.00 A\"
+50000,0,1,hold,\"hold 2.5000 W to 15.0000 W\"
+50000,0,1,packet,\"src SOP Source_Capabilities id 0 source dfp rev 3.0 | 1 fixed 5.00 V 3.00 A\"
+50000,0,1,state,\"state PE_SRC_Send_Capabilities PE_SNK_Wait_for_Capabilities\"
+50730,730,1,packet,\"snk SOP GoodCRC id 0 sink ufp rev 3.0\"
+";
+
+#[test]
+fn as_csv(rt: HostRuntime) -> Result<(), Fail> {
+    let mut page = page(rt);
+    let mut choice = up_to(51_000);
+    choice.form = Form::Csv;
+    show_text(rt.alloc(), PHONE, b"", &choice, &mut page)?;
+    assert_eq!(rt; page.writer.as_slice(), AS_CSV);
+    Ok(())
+}
+
+/// Where nothing happens by then, the head stands alone.
+#[test]
+fn a_head_alone(rt: HostRuntime) -> Result<(), Fail> {
+    let mut page = page(rt);
+    let mut choice = up_to(50_009);
+    choice.form = Form::Csv;
+    show_text(rt.alloc(), PHONE, b"remove 1\n", &choice, &mut page)?;
+    assert_eq!(rt;
+        page.writer.as_slice(),
+        b"at_us,since_us,port,kind,text\n".as_slice()
+    );
     Ok(())
 }
 

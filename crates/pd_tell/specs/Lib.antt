@@ -1,2 +1,3 @@
 pub mod Amounts
+pub mod Members
 pub mod Words

@@ -45,7 +45,7 @@ fn push_code(text: &mut Vec<u8>, code: u8) -> Result<(), AllocError>
 }
 
 /// Writes codes.
-fn push_codes(text: &mut Vec<u8>, codes: &[u8]) -> Result<(), AllocError>
+pub(crate) fn push_codes(text: &mut Vec<u8>, codes: &[u8]) -> Result<(), AllocError>
     ensures { OnOk result (text.new.items ≡ text.old.items ++ flat_map code_text codes.now) }
 {
     for code in codes {

@@ -10,9 +10,10 @@ pub returns : goal.returns
 unfolding all_lines
 returns c =
     on_ok_weaker c.push_state_line.result
-    (λ h. written_parts _ _ _ _ _ _ _ _ _ _ _ _ _ _ _ c.in_ok-push_event_line.ensures
+    (λ h. written_parts _ _ _ _ _ _ _ _ _ _ _ _ _ _ _ _ c.in_ok-push_event_line.ensures
     (c.in_ok-push_fault_lines.ensures
-    ∙ ap (λ (fs : List Fault). written c.push_event_line.new.page (map (fault_line c.args.seen.now) fs)) c.as_slice.ensures.value)
+    ∙ ap (λ (fs : List Fault). written c.args.choice.now.form c.push_event_line.new.page (map (fault_line c.args.seen.now) fs))
+    c.as_slice.ensures.value)
     c.in_ok-push_asked_line.ensures c.in_ok-push_change_line.ensures c.in_ok-push_hold_line.ensures
     c.in_ok-push_start_line.ensures h)
     c.push_state_line.ensures

@@ -1,4 +1,5 @@
-use Rattle.std.proofs.Common.{◌≡◌, ◌-◌, ◌++◌, ◌∷◌, ◌∙◌, [], List, ap, length, sym}
+use Rattle.std.proofs.Common.{◌≡◌, ◌-◌, ◌++◌, ◌∷◌, ◌∙◌, [], List, ap, length, refl, rules, sym}
+use Rattle.std.proofs.lemmas.List.{length-replicate}
 use Rattle.std.proofs.lemmas.Result.{MatchResult-weaker, err_from_is_err_and}
 use Rattle.std.proofs.KnownBytes.{Keeps-refl}
 use Rattle.pd_device.proofs.DeviceLemmas.{wrote_none}
@@ -9,9 +10,10 @@ use Rattle.pd_show.specs.Lines.{chosen_lines}
 use Rattle.pd_show.specs.Pages.{written}
 use Rattle.pd_show.specs.Seen.{seen_of}
 use Rattle.pd_show.specs.Show.{show_text}
-use Rattle.pd_watch.specs.Watch.{WatchData, after_step}
+use Rattle.pd_watch.specs.Watch.{WatchData, after_step, at_rest}
 use Rattle.pd_watch.proofs.Watched.{step_length}
-use Rattle.pd_show.proofs.ShowLemmas.{progress_all, progress_more, progress_passed, progress_torn, runs_none, watched, watched_push}
+use Rattle.pd_show.proofs.ShowLemmas.{progress_all, progress_more, progress_none, progress_passed, progress_torn, runs_none}
+use Rattle.pd_show.proofs.ShowLemmas.{watched, watched_push}
 use Rattle.pd_show.proofs.walk.show.Goals as goal
 
 pub returns-in_default-clause-text : goal.returns-in_default-clause-text
@@ -32,15 +34,35 @@ returns-in_default-at_rest-clause-text g c =
       part = wrote_none a a (show_text c.args.plan.now c.args.choice.now []) (Keeps-refl a);
     }
 
+pub returns-in_default-new-clause-text : goal.returns-in_default-new-clause-text
+returns-in_default-new-clause-text g c =
+    let a = g.W.TextOut.taken c.args.writer.now in
+    record {
+      moves = [];
+      runs = runs_none c.args.plan.now;
+      part = wrote_none a a (show_text c.args.plan.now c.args.choice.now []) (Keeps-refl a);
+    }
+
+pub loop-port-init : goal.loop-port-init
+loop-port-init g c = record {
+  moves = [];
+  stands = search rules;
+  progress =
+      progress_none c.args.plan.now c.args.choice.now c.in-Ok-new.page (g.W.TextOut.taken c.args.writer.now) c.in-Ok-new.ensures;
+  watched = search rules;
+  ports = ap length c.in-Ok-at_rest.ensures ∙ length-replicate g.row.N at_rest;
+  counts = refl;
+}
+
 pub loop-port-preserved : goal.loop-port-preserved
 loop-port-preserved g c =
     let plan = c.args.plan.now in
     let choice = c.args.choice.now in
     let i = c.loop-port.invariant in
     let m : Move = next_move plan i.moves (c.in-Some.port - 1) c.in-Some.due in
-    let lines : c.push_lines.new.page ≡ written c.loop-port.page (chosen_lines choice (seen_of plan (watched plan i.moves) m)) =
+    let lines : c.push_lines.new.page ≡ written choice.form c.loop-port.page (chosen_lines choice (seen_of plan (watched plan i.moves) m)) =
     c.in-Ok-push_lines.ensures
-    ∙ ap (λ (s : Seen). written c.loop-port.page (chosen_lines choice s))
+    ∙ ap (λ (s : Seen). written choice.form c.loop-port.page (chosen_lines choice s))
     (c.in-Ok-step_seen.ensures.seen i.moves i.stands ∙ ap (λ (ws : List WatchData). seen_of plan ws m) i.watched) in
     record {
       moves = i.moves ++ m ∷ [];
@@ -62,9 +84,9 @@ returns-in_err-pass-clause-text g c =
     let choice = c.args.choice.now in
     let i = c.loop-port.invariant in
     let m : Move = next_move plan i.moves (c.in-Some.port - 1) c.in-Some.due in
-    let lines : c.push_lines.new.page ≡ written c.loop-port.page (chosen_lines choice (seen_of plan (watched plan i.moves) m)) =
+    let lines : c.push_lines.new.page ≡ written choice.form c.loop-port.page (chosen_lines choice (seen_of plan (watched plan i.moves) m)) =
     c.in-Ok-push_lines.ensures
-    ∙ ap (λ (s : Seen). written c.loop-port.page (chosen_lines choice s))
+    ∙ ap (λ (s : Seen). written choice.form c.loop-port.page (chosen_lines choice s))
     (c.in-Ok-step_seen.ensures.seen i.moves i.stands ∙ ap (λ (ws : List WatchData). seen_of plan ws m) i.watched) in
     let p = err_from_is_err_and c.from_residual.result c.from_residual.ensures.1 in
     rw (p.1) (record {

@@ -1,6 +1,6 @@
-use Rattle.std.proofs.Common.{◌≡◌, ◌++◌, ◌∷◌, ◌∙◌, List, ℕ, [], ap, append_assoc, codes}
-use Rattle.pd_show.specs.Pages.{line_text, more_text}
-use Rattle.pd_show.proofs.page.push_line.Goals as goal
+use Rattle.std.proofs.Common.{◌≡◌, ◌++◌, ◌∷◌, List, ℕ, [], append_assoc, codes}
+use Rattle.pd_show.specs.Pages.{words_line}
+use Rattle.pd_show.proofs.page.push_words_line.Goals as goal
 
 joined : (t t1 t2 t3 t4 t5 t6 t7 t8 a m d w : List ℕ) → t1 ≡ t ++ a → t2 ≡ t1 ++ 32 ∷ [] → t3 ≡ t2 ++ m → t4 ≡ t3 ++ codes " port " →
     t5 ≡ t4 ++ d → t6 ≡ t5 ++ 32 ∷ [] → t7 ≡ t6 ++ w → t8 ≡ t7 ++ 10 ∷ [] →
@@ -8,9 +8,9 @@ joined : (t t1 t2 t3 t4 t5 t6 t7 t8 a m d w : List ℕ) → t1 ≡ t ++ a → t2
 joined t t1 t2 t3 t4 t5 t6 t7 t8 a m d w h1 h2 h3 h4 h5 h6 h7 h8 = rw (h8, h7, h6, h5, h4, h3, h2, h1) (simp append_assoc)
 
 pub returns : goal.returns
-unfolding line_text
+unfolding words_line
 returns c =
     joined _ _ _ _ _ _ _ _ _ _ _ _ _ c.in_ok-push_right.ensures c.in_ok-push.ensures.items
-    (c.in_ok-push_more.ensures ∙ ap (λ n. c.push.new.self.items ++ more_text n) c.saturating_sub.ensures)
+    c.in_ok-push_more.ensures
     c.in_ok-extend_from_slice.ensures.items c.in_ok-push_number.ensures c.in_ok-push-2.ensures.items
     c.in_ok-extend_from_slice-2.ensures.items c.in_ok-push-3.ensures.items
