@@ -5,6 +5,8 @@ use Rattle.std.specs.Str.Lines.{lines}
 use Rattle.pd_scenario.specs.Scenarios.{ScenarioData}
 use Rattle.pd_edit_lines.specs.Words.{next}
 use Rattle.pd_script.specs.Script.{at_line, line_text, after_line, script_text, followed}
+use Rattle.pd_script.specs.Made.{line_made, made}
+use Rattle.pd_script.specs.declared.made.MadeEdit.{MadeEdit}
 
 next_some : (ls : List (List ℕ)) (line : List ℕ) (more : List (List ℕ)) → Some (line, more) ≡ next ls → ls ≡ line ∷ more
 next_some [] line more e = absurd (cc)
@@ -65,3 +67,30 @@ more_followed n end c c' line rest more so_far is after =
 pub all_followed : (n : ℕ) (end c : ScenarioData) (rest : List ℕ) → end ≡ followed n c (lines rest) → None ≡ next (lines rest) → c ≡ end
 all_followed n end c rest so_far is =
     sym (so_far ∙ ap (λ ls. followed n c ls) (next_none (lines rest) is) ∙ followed_none n c)
+
+made_first : (n : ℕ) (c : ScenarioData) (number : ℕ) (line : List ℕ) (more : List (List ℕ))
+    → made n c number (line ∷ more) ≡ line_made number n c line ++ made n (after_line n c line) (number + 1) more
+unfolding made
+made_first n c number line more = refl
+
+made_none : (n : ℕ) (c : ScenarioData) (number : ℕ) → made n c number [] ≡ []
+unfolding made
+made_none n c number = refl
+
+-- the edit of one more line
+pub more_made : (whole ms ms' : List MadeEdit) (line : List ℕ) (n : ℕ) (c c' : ScenarioData) (number : ℕ) (rest : List ℕ)
+    (more : List (List ℕ)) → whole ≡ ms ++ made n c number (lines rest) → Some (line, more) ≡ next (lines rest)
+    → ms' ≡ ms ++ line_made number n c line → c' ≡ after_line n c line → whole ≡ ms' ++ made n c' (number + 1) more
+more_made whole ms ms' line n c c' number rest more so_far is said after =
+    so_far ∙ ap (λ ls. ms ++ made n c number ls) (next_some (lines rest) line more is)
+    ∙ ap (λ t. ms ++ t) (made_first n c number line more)
+    ∙ sym (append_assoc ms (line_made number n c line) (made n (after_line n c line) (number + 1) more))
+    ∙ ap (λ t. t ++ made n (after_line n c line) (number + 1) more) (sym said)
+    ∙ ap (λ d. ms' ++ made n d (number + 1) more) (sym after)
+
+-- no line any more
+pub all_made : (whole ms : List MadeEdit) (n : ℕ) (c : ScenarioData) (number : ℕ) (rest : List ℕ)
+    → whole ≡ ms ++ made n c number (lines rest) → None ≡ next (lines rest) → ms ≡ whole
+all_made whole ms n c number rest so_far is =
+    sym (so_far ∙ ap (λ ls. ms ++ made n c number ls) (next_none (lines rest) is)
+    ∙ ap (λ t. ms ++ t) (made_none n c number) ∙ append-nil ms)

@@ -1,13 +1,15 @@
-//! Edit scripts gone through: why lines of them are refused, and which scenario they lead to.
+//! Edit scripts gone through: why lines of them are refused, which edits they make, and which scenario they lead to.
 #![tactic(auto)]
 
 mod followed;
 mod lines;
+mod made;
 mod script;
 
 pub use followed::follow;
 pub use lines::first_line;
-pub use script::{explain_line, explain_script};
+pub use made::{MadeEdit, make_edits};
+pub use script::{at_line, explain_line, explain_script};
 
 #[cfg(test)]
 mod tests;

@@ -147,8 +147,11 @@ pub fn explain_line<const N: usize>(
     }
 }
 
-/// Where a line stands.
-fn at_line(alloc: Global, name: &[u8], number: u64) -> Result<Vec<u8>, AllocError>
+/// Where a line stands: the file's name and the line's number, from 1.
+///
+/// # Errors
+/// There is no memory.
+pub fn at_line(alloc: Global, name: &[u8], number: u64) -> Result<Vec<u8>, AllocError>
     ensures { IfOk result (λ v. v.items ≡ at_line name.now number) }
 {
     let mut at = Vec::new(alloc);
