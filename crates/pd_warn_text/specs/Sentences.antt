@@ -1,11 +1,13 @@
 -- Warnings in words: this product's own form, docs/FORMATS.md, "Warnings".
-use Rattle.std.specs.Prelude.{ℕ, List, ◌++◌, codes, decimal, Option, None, Some}
+use Rattle.std.specs.Prelude.{ℕ, List, ◌∷◌, ◌++◌, codes, decimal, Option, None, Some}
 use Rattle.std.specs.List.{flat_map}
 use Rattle.pd_tell.specs.Amounts.{watts}
+use Rattle.pd_script.specs.declared.made.MadeEdit.{MadeEdit}
 use Rattle.pd_warn.specs.declared.warning.Warning.{Warning}
 use Rattle.pd_warn.specs.declared.warning.Warning.TheVariants.{AfterEnd, UnusedCable, UnusedSink, SmallShare, Ignored, Unmet}
 use Rattle.pd_warn.specs.declared.warning.Why.{Why}
 use Rattle.pd_warn.specs.declared.warning.Why.TheVariants.{Attached, Detached, Full, SinkNotReady, SourceNotReady}
+use Rattle.pd_warn_text.specs.Lines.{last_line}
 
 -- an event with its time, in microseconds
 unfoldable pub event_words : ℕ → ℕ → List ℕ
@@ -60,9 +62,15 @@ sentence (SmallShare port share) = share_words port share
 sentence (Ignored id at port why) = ignored_words id at port why
 sentence (Unmet id at port until) = unmet_words id at port until
 
--- a line, behind the name of the scenario's file
-unfoldable pub warning_line : List ℕ → Warning → List ℕ
-warning_line name w = name ++ (codes ": warning: " ++ (sentence w ++ codes "\n"))
+-- where what is warned of was made: a line of the edit script, else the scenario's file
+unfoldable pub place_text : List ℕ → List ℕ → Option ℕ → List ℕ
+place_text name edits None = name
+place_text name edits (Some line) = edits ++ 58 ∷ decimal line
 
-abbrev pub warnings_text : List ℕ → List Warning → List ℕ
-warnings_text name ws = flat_map (warning_line name) ws
+-- a line, behind where that was made
+unfoldable pub warning_line : List ℕ → Warning → List ℕ
+warning_line place w = place ++ (codes ": warning: " ++ (sentence w ++ codes "\n"))
+
+-- a line for each warning of a scenario that these edits of a script led to
+abbrev pub warnings_text : List ℕ → List ℕ → List MadeEdit → List Warning → List ℕ
+warnings_text name edits made ws = flat_map (λ w. warning_line (place_text name edits (last_line w made)) w) ws

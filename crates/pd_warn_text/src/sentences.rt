@@ -2,7 +2,7 @@
 
 ghost use Rattle.std.specs.Prelude.{◌≡◌, ◌++◌, OnOk};
 ghost use Rattle.pd_warn_text.specs.Sentences.{event_words, ignored_words, late_words, never_words, no_packet_words};
-ghost use Rattle.pd_warn_text.specs.Sentences.{port_event_words, reason_words, sentence, share_words, unmet_words, until_words};
+ghost use Rattle.pd_warn_text.specs.Sentences.{place_text, port_event_words, reason_words, sentence, share_words, unmet_words, until_words};
 ghost use Rattle.pd_warn_text.specs.Sentences.{unused_words, warning_line, why_words};
 
 use pd_scenario::Name;
@@ -170,15 +170,35 @@ fn push_sentence(text: &mut Vec<u8>, warning: &Warning) -> Result<(), AllocError
     }
 }
 
-/// Writes a warning of the scenario of a file, on a line of its own, behind the file's name.
+/// Writes where what is warned of was made.
+#[tactic(auto, unfolding(crate::specs::Sentences::place_text))]
+pub(crate) fn push_place(
+    text: &mut Vec<u8>,
+    name: &[u8],
+    edits: &[u8],
+    line: Option<u64>,
+) -> Result<(), AllocError>
+    ensures { OnOk result (text.new.items ≡ text.old.items ++ place_text name.now edits.now line) }
+{
+    match line {
+        None => text.extend_from_slice(name),
+        Some(line) => {
+            text.extend_from_slice(edits)?;
+            text.push(b':')?;
+            push_number(text, line)
+        }
+    }
+}
+
+/// Writes a warning on a line of its own, behind where what is warned of was made.
 ///
 /// # Errors
 /// There is no memory; some of the line may stand there.
 #[tactic(auto, unfolding(crate::specs::Sentences::warning_line))]
-pub fn push_warning(text: &mut Vec<u8>, name: &[u8], warning: &Warning) -> Result<(), AllocError>
-    ensures { OnOk result (text.new.items ≡ text.old.items ++ warning_line name.now warning.now) }
+pub fn push_warning(text: &mut Vec<u8>, place: &[u8], warning: &Warning) -> Result<(), AllocError>
+    ensures { OnOk result (text.new.items ≡ text.old.items ++ warning_line place.now warning.now) }
 {
-    text.extend_from_slice(name)?;
+    text.extend_from_slice(place)?;
     text.extend_from_slice(b": warning: ")?;
     push_sentence(text, warning)?;
     text.extend_from_slice(b"\n")

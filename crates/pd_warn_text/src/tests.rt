@@ -30,7 +30,7 @@ sink = \"phone\"
 
 fn said(rt: HostRuntime, script: &[u8]) -> Result<Vec<u8>, WarnFault> {
     let mut said = Vec::new(rt.alloc());
-    warn_text(rt.alloc(), PHONE, b"a.toml", script, &mut said)?;
+    warn_text(rt.alloc(), PHONE, b"a.toml", b"a.edits", script, &mut said)?;
     Ok(said)
 }
 
@@ -42,10 +42,10 @@ fn nothing(rt: HostRuntime) -> Result<(), Fail> {
 }
 
 const STATED: &[u8] =
-    b"a.toml: warning: event 3 at 1000001 is after the end, 1000000: it never happens
-a.toml: warning: event 4 at 120000000 is after the end, 1000000: it never happens
-a.toml: warning: no event attaches the cable `thick`
-a.toml: warning: no event attaches the sink `pad`
+    b"a.edits:2: warning: event 3 at 1000001 is after the end, 1000000: it never happens
+a.edits:3: warning: event 4 at 120000000 is after the end, 1000000: it never happens
+a.edits:4: warning: no event attaches the cable `thick`
+a.edits:5: warning: no event attaches the sink `pad`
 a.toml: warning: port 1 gets at most 12.0000 W beside the floors of the others, and each of its supplies wants more
 ";
 
@@ -64,12 +64,12 @@ budget 12000
 }
 
 const IGNORED: &[u8] =
-    b"a.toml: warning: event 2 at 10 on port 1 is ignored: a sink is attached already
-a.toml: warning: event 3 at 20 on port 1 is ignored: its sink isn't in PE_SNK_Ready then
-a.toml: warning: event 4 at 20 on port 1 is ignored: its source isn't in PE_SRC_Ready then
-a.toml: warning: event 6 at 800001 on port 1 is ignored: nothing is attached
-a.toml: warning: event 7 at 800002 on port 1 is ignored: nothing is attached
-a.toml: warning: event 8 at 800003 on port 1 is ignored: nothing is attached
+    b"a.edits:1: warning: event 2 at 10 on port 1 is ignored: a sink is attached already
+a.edits:2: warning: event 3 at 20 on port 1 is ignored: its sink isn't in PE_SNK_Ready then
+a.edits:3: warning: event 4 at 20 on port 1 is ignored: its source isn't in PE_SRC_Ready then
+a.edits:5: warning: event 6 at 800001 on port 1 is ignored: nothing is attached
+a.edits:6: warning: event 7 at 800002 on port 1 is ignored: nothing is attached
+a.edits:7: warning: event 8 at 800003 on port 1 is ignored: nothing is attached
 ";
 
 #[test]
@@ -87,16 +87,16 @@ insert 8 800003 1 get_sink
 }
 
 const UNMET: &[u8] =
-    b"a.toml: warning: event 10 at 900009 on port 1 is ignored: eight disturbances wait already
-a.toml: warning: event 2 at 900001 on port 1 disturbs no packet: too few start before the detach at 950000
-a.toml: warning: event 3 at 900002 on port 1 disturbs no packet: too few start before the detach at 950000
-a.toml: warning: event 4 at 900003 on port 1 disturbs no packet: too few start before the detach at 950000
-a.toml: warning: event 5 at 900004 on port 1 disturbs no packet: too few start before the detach at 950000
-a.toml: warning: event 6 at 900005 on port 1 disturbs no packet: too few start before the detach at 950000
-a.toml: warning: event 7 at 900006 on port 1 disturbs no packet: too few start before the detach at 950000
-a.toml: warning: event 8 at 900007 on port 1 disturbs no packet: too few start before the detach at 950000
-a.toml: warning: event 9 at 900008 on port 1 disturbs no packet: too few start before the detach at 950000
-a.toml: warning: event 13 at 999999 on port 1 disturbs no packet: too few start before the end
+    b"a.edits:9: warning: event 10 at 900009 on port 1 is ignored: eight disturbances wait already
+a.edits:1: warning: event 2 at 900001 on port 1 disturbs no packet: too few start before the detach at 950000
+a.edits:2: warning: event 3 at 900002 on port 1 disturbs no packet: too few start before the detach at 950000
+a.edits:3: warning: event 4 at 900003 on port 1 disturbs no packet: too few start before the detach at 950000
+a.edits:4: warning: event 5 at 900004 on port 1 disturbs no packet: too few start before the detach at 950000
+a.edits:5: warning: event 6 at 900005 on port 1 disturbs no packet: too few start before the detach at 950000
+a.edits:6: warning: event 7 at 900006 on port 1 disturbs no packet: too few start before the detach at 950000
+a.edits:7: warning: event 8 at 900007 on port 1 disturbs no packet: too few start before the detach at 950000
+a.edits:8: warning: event 9 at 900008 on port 1 disturbs no packet: too few start before the detach at 950000
+a.edits:12: warning: event 13 at 999999 on port 1 disturbs no packet: too few start before the end
 ";
 
 /// A ninth disturbance is ignored, and a cable that is pulled out leaves none waiting.
@@ -120,7 +120,7 @@ insert 13 999999 1 lose
 }
 
 const MET: &[u8] =
-    b"a.toml: warning: event 4 at 3 on port 1 disturbs no packet: too few start before the end
+    b"a.edits:3: warning: event 4 at 3 on port 1 disturbs no packet: too few start before the end
 ";
 
 /// The offer is lost, and then its repeat is damaged; a third disturbance finds no packet up to the end.
@@ -135,10 +135,40 @@ end 52000
     Ok(())
 }
 
+const LINES: &[u8] =
+    b"a.edits:6: warning: event 2 at 1000003 is after the end, 1000000: it never happens
+a.edits:8: warning: no event attaches the cable `thick`
+";
+
+/// The last line that put in, moved, changed or set it counts; one that is refused doesn't, nor one of another event.
+#[test]
+fn lines_of_the_script(rt: HostRuntime) -> Result<(), Fail> {
+    let script = b"# the event is moved twice
+
+insert 2 1000001 1 detach
+insert 3 5 1 demand 5000
+move 2 1000002
+move 2 1000003
+move 2 120000001
+cable thick ack 5000
+cable thick ack 4000
+move 3 6
+";
+    assert_eq!(rt; said(rt, script)?.as_slice(), LINES);
+    Ok(())
+}
+
 #[test]
 fn refused(rt: HostRuntime) -> Result<(), Fail> {
     let mut said = Vec::new(rt.alloc());
-    let answer = warn_text(rt.alloc(), b"version = ", b"a.toml", b"", &mut said);
+    let answer = warn_text(
+        rt.alloc(),
+        b"version = ",
+        b"a.toml",
+        b"a.edits",
+        b"",
+        &mut said,
+    );
     assert_eq!(rt; answer, Err(WarnFault::Scenario(ScenarioFault::Toml)));
     assert_eq!(rt; said.len(), 0);
     Ok(())

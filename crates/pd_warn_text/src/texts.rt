@@ -5,14 +5,15 @@ ghost use Rattle.std.specs.Str.Lines.{lines};
 ghost use Rattle.pd_scenario_tables.specs.Ports.{counted};
 ghost use Rattle.pd_scenario_text.specs.File.{members_of};
 ghost use Rattle.pd_run_text.specs.Texts.{ForTexts};
-ghost use Rattle.pd_script.specs.Script.{followed};
-ghost use Rattle.pd_warn_text.specs.Sentences.{warnings_text};
+ghost use Rattle.pd_warn_text.specs.Lines.{last_line};
+ghost use Rattle.pd_warn_text.specs.Sentences.{place_text, warning_line, warnings_text};
 ghost use Rattle.pd_warn_text.specs.Texts.{TellsWarnings, WarnsText};
 
-use crate::push_warning;
+use crate::lines::last_line;
+use crate::sentences::{push_place, push_warning};
 use pd_scenario::Scenario;
 use pd_scenario_text::{ScenarioFault, ScenarioFile};
-use pd_script::follow;
+use pd_script::{MadeEdit, make_edits};
 use pd_warn::{Warning, warnings};
 use std::alloc::{AllocError, Global};
 
@@ -27,16 +28,17 @@ pub enum WarnFault {
 
 // Warns the scenario of as many ports as the file has.
 macro_rules! warn_by {
-    ($alloc:ident, $file:ident, $name:ident, $script:ident, $said:ident; $($n:literal)*) => {
+    ($alloc:ident, $file:ident, $name:ident, $edits:ident, $script:ident, $said:ident; $($n:literal)*) => {
         match $file.port_count().map_err(WarnFault::Scenario)? {
-            $($n => warn_file::<$n>($alloc, $file, $name, $script, $said),)*
+            $($n => warn_file::<$n>($alloc, $file, $name, $edits, $script, $said),)*
             _ => Err(WarnFault::Scenario(ScenarioFault::Limit)),
         }
     };
 }
 
-/// What the scenario of a text is warned of, as an edit script leaves it: a line for each warning, behind the name of the
-/// scenario's file. A line of the script that is refused changes nothing.
+/// What the scenario of a text is warned of, as an edit script leaves it: a line for each warning, behind the script's name and
+/// the number of the line that made what is warned of, or changed it last; where none did, behind the name of the scenario's file.
+/// A line of the script that is refused changes nothing.
 ///
 /// # Errors
 /// `Scenario` where the text is refused, and nothing is written; `Memory` where there was no memory, and some lines may be.
@@ -44,13 +46,14 @@ pub fn warn_text(
     alloc: Global,
     text: &[u8],
     name: &[u8],
+    edits: &[u8],
     script: &[u8],
     said: &mut Vec<u8>,
 ) -> Result<(), WarnFault>
-    ensures { WarnsText result text.now name.now script.now said.old.items said.new.items }
+    ensures { WarnsText result text.now name.now edits.now script.now said.old.items said.new.items }
 {
     let file = ScenarioFile::parse(alloc, text).map_err(WarnFault::Scenario)?;
-    warn_by!(alloc, file, name, script, said; 1 2 3 4 5 6 7 8)
+    warn_by!(alloc, file, name, edits, script, said; 1 2 3 4 5 6 7 8)
 }
 
 // What the scenario of a file of N ports is warned of.
@@ -58,19 +61,20 @@ fn warn_file<const N: usize>(
     alloc: Global,
     file: ScenarioFile,
     name: &[u8],
+    edits: &[u8],
     script: &[u8],
     said: &mut Vec<u8>,
 ) -> Result<(), WarnFault>
     requires from_one { 1 ≤ N }
     requires to_eight { N ≤ 8 }
     requires counts { counted (members_of file) ≡ Ok N }
-    ensures { ForTexts file (λ text. WarnsText result text name.now script.now said.old.items said.new.items) }
+    ensures { ForTexts file (λ text. WarnsText result text name.now edits.now script.now said.old.items said.new.items) }
 {
     let scenario = match file.scenario::<N>(alloc) {
         Ok(scenario) => scenario,
         Err(fault) => return Err(WarnFault::Scenario(fault)),
     };
-    match warn_scenario(alloc, scenario, name, script, said) {
+    match warn_scenario(alloc, scenario, name, edits, script, said) {
         Ok(()) => Ok(()),
         Err(_) => Err(WarnFault::Memory),
     }
@@ -81,23 +85,48 @@ fn warn_scenario<const N: usize>(
     alloc: Global,
     scenario: Scenario<N>,
     name: &[u8],
+    edits: &[u8],
     script: &[u8],
     said: &mut Vec<u8>,
 ) -> Result<(), AllocError>
-    ensures { OnOk result (TellsWarnings name.now N (followed N scenario.entry (lines script.now)) said.old.items said.new.items) }
+    ensures { OnOk result (TellsWarnings name.now edits.now N scenario.entry (lines script.now) said.old.items said.new.items) }
 {
     let mut scenario = scenario;
-    follow(alloc, &mut scenario, script)?;
+    let made = make_edits(alloc, &mut scenario, script)?;
     let found = warnings(alloc, &scenario)?;
-    push_lines(said, name, found.as_slice())
+    push_lines(alloc, said, name, edits, made.as_slice(), found.as_slice())
+}
+
+// A line for a warning.
+fn push_line(
+    alloc: Global,
+    text: &mut Vec<u8>,
+    name: &[u8],
+    edits: &[u8],
+    made: &[MadeEdit],
+    warning: &Warning,
+) -> Result<(), AllocError>
+    ensures { OnOk result (text.new.items
+        ≡ text.old.items ++ warning_line (place_text name.now edits.now (last_line warning.now made.now)) warning.now) }
+{
+    let mut place = Vec::new(alloc);
+    push_place(&mut place, name, edits, last_line(warning, made))?;
+    push_warning(text, place.as_slice(), warning)
 }
 
 // A line for each warning.
-fn push_lines(text: &mut Vec<u8>, name: &[u8], warnings: &[Warning]) -> Result<(), AllocError>
-    ensures { OnOk result (text.new.items ≡ text.old.items ++ warnings_text name.now warnings.now) }
+fn push_lines(
+    alloc: Global,
+    text: &mut Vec<u8>,
+    name: &[u8],
+    edits: &[u8],
+    made: &[MadeEdit],
+    warnings: &[Warning],
+) -> Result<(), AllocError>
+    ensures { OnOk result (text.new.items ≡ text.old.items ++ warnings_text name.now edits.now made.now warnings.now) }
 {
     for warning in warnings {
-        push_warning(text, name, warning)?;
+        push_line(alloc, text, name, edits, made, warning)?;
     }
     Ok(())
 }

@@ -3,4 +3,4 @@ use Rattle.pd_warn_text.specs.Sentences.{warnings_text}
 use Rattle.pd_warn_text.proofs.texts.push_lines.Given as goal
 
 abbrev pub invariant-loop-warning : goal.invariant-loop-warning
-invariant-loop-warning l = l.text.items ≡ l.fn.text.items ++ warnings_text l.name (take l.warning-index l.warnings)
+invariant-loop-warning l = l.text.items ≡ l.fn.text.items ++ warnings_text l.name l.edits l.made (take l.warning-index l.warnings)

@@ -1,0 +1,181 @@
+//! What is told of a place as a JSON object.
+
+ghost use Rattle.std.specs.Prelude.{◌≡◌, ◌++◌, OnOk};
+ghost use Rattle.pd_json.specs.Objects.{file_members, is_keyed, is_numbered, is_of, key_members, line_members, members};
+ghost use Rattle.pd_json.specs.Objects.{number_member, object_text, place_members, refusal_members, string_member, table_members};
+ghost use Rattle.pd_json.specs.Objects.{told_members, warning_members, words_members};
+
+use crate::parts::{after, before, begins, behind, behind_digits, digit_count, digits, has};
+use crate::string::push_string;
+use std::alloc::AllocError;
+
+#[tactic(auto, unfolding(crate::specs::Objects::number_member))]
+fn push_number(text: &mut Vec<u8>, name: &[u8], number: &[u8]) -> Result<(), AllocError>
+    ensures { OnOk result (text.new.items ≡ text.old.items ++ number_member name.now number.now) }
+{
+    text.extend_from_slice(b",\"")?;
+    text.extend_from_slice(name)?;
+    text.extend_from_slice(b"\":")?;
+    text.extend_from_slice(number)
+}
+
+#[tactic(auto, unfolding(crate::specs::Objects::string_member))]
+fn push_member(text: &mut Vec<u8>, name: &[u8], words: &[u8]) -> Result<(), AllocError>
+    ensures { OnOk result (text.new.items ≡ text.old.items ++ string_member name.now words.now) }
+{
+    text.extend_from_slice(b",\"")?;
+    text.extend_from_slice(name)?;
+    text.extend_from_slice(b"\":")?;
+    push_string(text, words)
+}
+
+/// Writes a sentence, and its hint where it has one.
+#[tactic(auto, unfolding(crate::specs::Objects::words_members))]
+fn push_words(text: &mut Vec<u8>, words: &[u8]) -> Result<(), AllocError>
+    ensures { OnOk result (text.new.items ≡ text.old.items ++ words_members words.now) }
+{
+    if has(b"; hint: ", words) {
+        push_member(text, b"sentence", before(b"; hint: ", words))?;
+        push_member(text, b"hint", after(b"; hint: ", words))
+    } else {
+        push_member(text, b"sentence", words)
+    }
+}
+
+fn is_keyed(words: &[u8]) -> bool
+    ensures { result ≡ is_keyed words.now }
+{
+    begins(b"`", words) && has(b"`", behind(words, 1))
+}
+
+/// Writes the key that a sentence begins with, where it does, and the sentence.
+#[tactic(auto, unfolding(crate::specs::Objects::key_members))]
+fn push_key(text: &mut Vec<u8>, words: &[u8]) -> Result<(), AllocError>
+    ensures { OnOk result (text.new.items ≡ text.old.items ++ key_members words.now) }
+{
+    if is_keyed(words) {
+        push_member(text, b"key", before(b"`", behind(words, 1)))?;
+    }
+    push_words(text, words)
+}
+
+fn is_numbered(words: &[u8]) -> bool
+    ensures { result ≡ is_numbered words.now }
+{
+    0 < digit_count(words) && begins(b": ", behind_digits(words))
+}
+
+/// Writes a table by its number, and what is told of it.
+#[tactic(auto, unfolding(crate::specs::Objects::table_members))]
+fn push_table(text: &mut Vec<u8>, word: &[u8], words: &[u8]) -> Result<(), AllocError>
+    ensures { OnOk result (text.new.items ≡ text.old.items ++ table_members word.now words.now) }
+{
+    push_member(text, b"table", word)?;
+    push_number(text, b"number", digits(words))?;
+    push_key(text, behind(behind_digits(words), 2))
+}
+
+fn is_of(word: &[u8], words: &[u8]) -> bool
+    ensures { result ≡ is_of word.now words.now }
+{
+    begins(word, words) && is_numbered(behind(words, word.len()))
+}
+
+/// Writes the table that a sentence begins with, where it does, and the sentence.
+#[tactic(auto, unfolding(crate::specs::Objects::place_members))]
+fn push_place(text: &mut Vec<u8>, words: &[u8]) -> Result<(), AllocError>
+    ensures { OnOk result (text.new.items ≡ text.old.items ++ place_members words.now) }
+{
+    if is_of(b"port ", words) {
+        push_table(text, b"port", behind(words, 5))
+    } else if is_of(b"cable ", words) {
+        push_table(text, b"cable", behind(words, 6))
+    } else if is_of(b"sink ", words) {
+        push_table(text, b"sink", behind(words, 5))
+    } else if is_of(b"event ", words) {
+        push_table(text, b"event", behind(words, 6))
+    } else {
+        push_key(text, words)
+    }
+}
+
+#[tactic(auto, unfolding(crate::specs::Objects::refusal_members))]
+fn push_refusal(text: &mut Vec<u8>, words: &[u8]) -> Result<(), AllocError>
+    ensures { OnOk result (text.new.items ≡ text.old.items ++ refusal_members words.now) }
+{
+    push_number(text, b"refusal", digits(words))?;
+    push_place(text, behind(behind_digits(words), 2))
+}
+
+#[tactic(auto, unfolding(crate::specs::Objects::warning_members))]
+fn push_warning(text: &mut Vec<u8>, words: &[u8]) -> Result<(), AllocError>
+    ensures { OnOk result (text.new.items ≡ text.old.items ++ warning_members words.now) }
+{
+    push_number(text, b"warning", b"true")?;
+    push_words(text, words)
+}
+
+/// Writes what is told: a refusal, a warning, or how many more places there are.
+#[tactic(auto, unfolding(crate::specs::Objects::told_members))]
+fn push_told(text: &mut Vec<u8>, words: &[u8]) -> Result<(), AllocError>
+    ensures { OnOk result (text.new.items ≡ text.old.items ++ told_members words.now) }
+{
+    if begins(b" refused ", words) {
+        push_refusal(text, behind(words, 9))
+    } else if begins(b" warning: ", words) {
+        push_warning(text, behind(words, 10))
+    } else {
+        push_words(text, behind(words, 1))
+    }
+}
+
+#[tactic(auto, unfolding(crate::specs::Objects::line_members))]
+fn push_line(text: &mut Vec<u8>, edits: &[u8], words: &[u8]) -> Result<(), AllocError>
+    ensures { OnOk result (text.new.items ≡ text.old.items ++ line_members edits.now words.now) }
+{
+    push_string(text, edits)?;
+    push_number(text, b"line", digits(words))?;
+    push_told(text, behind(behind_digits(words), 1))
+}
+
+#[tactic(auto, unfolding(crate::specs::Objects::file_members))]
+fn push_file(text: &mut Vec<u8>, name: &[u8], words: &[u8]) -> Result<(), AllocError>
+    ensures { OnOk result (text.new.items ≡ text.old.items ++ file_members name.now words.now) }
+{
+    push_string(text, name)?;
+    push_told(text, words)
+}
+
+fn push_members(
+    text: &mut Vec<u8>,
+    name: &[u8],
+    edits: &[u8],
+    words: &[u8],
+) -> Result<(), AllocError>
+    ensures { OnOk result (text.new.items ≡ text.old.items ++ members name.now edits.now words.now) }
+{
+    if 0 < digit_count(words) {
+        push_line(text, edits, words)
+    } else {
+        push_file(text, name, words)
+    }
+}
+
+/// Writes what a line tells as a JSON object on a line of its own. The line has no name of a file before its first colon: where
+/// the number of a line follows, the file is the script `edits`, else the scenario `name`.
+///
+/// # Errors
+/// There is no memory; some of it may stand in the text.
+#[tactic(auto, unfolding(crate::specs::Objects::object_text))]
+pub fn push_object(
+    text: &mut Vec<u8>,
+    name: &[u8],
+    edits: &[u8],
+    line: &[u8],
+) -> Result<(), AllocError>
+    ensures { OnOk result (text.new.items ≡ text.old.items ++ object_text name.now edits.now line.now) }
+{
+    text.extend_from_slice(b"{\"file\":")?;
+    push_members(text, name, edits, behind(line, 1))?;
+    text.extend_from_slice(b"}\n")
+}
