@@ -20,6 +20,7 @@ use Rattle.pd_report.specs.declared.walk.Standing.{Standing}
 use Rattle.pd_report.specs.declared.walk.Walk.{Walk}
 use Rattle.pd_report.specs.Margins.{most_ports, power_on, up_to, contracts_at, stays_at, has_line, instant_text, margin_text, margins_head}
 use Rattle.pd_report.specs.Margins.{margins_text}
+use Rattle.pd_report.specs.LeastMargin.{margin_at, margin_of}
 use Rattle.pd_report.specs.Walk.{standing_at, standing_before, standing_of, noted, noted_walk, line_after}
 use Rattle.pd_report.specs.Walk.{KnowsBudget, GoesOnTo, ChangesBy, NoChangeLater, NoneBefore, IsWalk, left_of, text_before}
 use Rattle.pd_report.proofs.MarginLemmas.{Moves, InOrder, all-mono, take-next, same-table, none_of, powers-start, powers-more, powers-same}
@@ -138,6 +139,15 @@ module _ (plan : Plan) (moves : Moves) (walk : Walk) (at : ℕ) (w : IsWalk plan
         knows = goes.knows;
         in_time = omega (arith, goes.at_is);
       }
+
+  -- what is left of the budget stays up to that instant
+  pub margin-on : (v : ℕ) → walk.at ≤ v → v < at → margin_at plan moves v ≡ margin_of (standing_of walk)
+  margin-on v low high =
+      let past = changes-by walk.at v (take walk.seen moves) low w.past in
+      let more = all-mono (λ (x : ℕ × Entry). at ≤ x.1.at) (λ x. v < x.1.at) (λ x h. omega arith) (drop walk.seen moves) ahead in
+      let sums : sum walk.powers ≡ contracts_at moves v = sum_is moves walk.seen v walk.powers w.powers_are past more in
+      let budgets : walk.budget ≡ force plan v = w.knows.budget_is ∙ sym (steady v low high) in
+      sym (ap (λ x. walk.budget - x) sums ∙ ap (λ x. x - contracts_at moves v) budgets)
 
   -- what was written before that instant
   pub text-on : (new : Walk) → GoesOnTo plan walk at new →

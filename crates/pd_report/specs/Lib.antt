@@ -1,5 +1,6 @@
 pub mod ContractLines
 pub mod FaultLines
+pub mod LeastMargin
 pub mod Line
 pub mod Margins
 pub mod Report

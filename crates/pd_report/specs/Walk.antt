@@ -1,6 +1,6 @@
 -- How far a walk over the entries of a run and the changes of the budget has come.
 use Rattle.std.specs.Prelude.{◌≡◌, ℕ, ◌+◌, ◌-◌, ◌==◌, ◌<◌, ◌≤◌, ◌&&◌, if◌then◌else◌, List, [], length, take, drop, map, sum, slice_set}
-use Rattle.std.specs.Prelude.{Option, Some, None, IsSome}
+use Rattle.std.specs.Prelude.{Option, Some, None, IsSome, IfSome, Bool, true, false, slice_get}
 use Rattle.std.specs.List.{AllByRecursion, flat_map, range_with_len}
 use Rattle.pd_port.specs.declared.entry.ContractChange.{ContractChange}
 use Rattle.pd_port.specs.declared.entry.Entry.{Entry}
@@ -58,6 +58,15 @@ ChangesBy t move = IsSome move.1.contract → move.1.at ≤ t
 -- no change is later than a time
 abbrev pub NoChangeLater : ℕ → List (ℕ × Entry) → Type 0
 NoChangeLater t moves = AllByRecursion (ChangesBy t) moves
+
+-- the next entry that the walk has yet to see, if there is one, is later than the instant at which it stands
+abbrev pub NoneNow : List (ℕ × Entry) → Walk → Type 0
+NoneNow moves walk = IfSome (slice_get moves walk.seen) (λ move. walk.at < move.1.at)
+
+-- the walk has seen one more entry, or stands as it stood, where the next one is later
+abbrev pub SeesEntry : Bool → List (ℕ × Entry) → Walk → Walk → Type 0
+SeesEntry true moves walk walk' = (walk'.seen ≡ walk.seen + 1) × (walk'.seen ≤ length moves)
+SeesEntry false moves walk walk' = (walk' ≡ walk) × NoneNow moves walk
 
 -- no entry is before a time
 abbrev pub NoneBefore : ℕ → List (ℕ × Entry) → Type 0

@@ -19,7 +19,7 @@ use pd_run::{Note, Runner};
 const WIDTH: usize = 160;
 
 /// The most bytes of a fault's words.
-const WORDS: usize = 80;
+pub const WORDS: usize = 80;
 
 /// Writes the faults of all ports, a line for each.
 ///
@@ -76,9 +76,18 @@ fn add_fault(at: u64, port: usize, fault: Fault, page: &mut Text<PAGE>)
     page.push_all(b"\n");
 }
 
+/// The words of a fault.
+pub fn fault_words(fault: Fault) -> Text<WORDS>
+    ensures { result ≡ fault_words fault }
+{
+    let mut words = Text::new();
+    push_words(&mut words, fault);
+    words
+}
+
 #[tactic(auto, unfolding(crate::specs::FaultLines::fault_words))]
-fn push_words(page: &mut Text<PAGE>, fault: Fault)
-    requires room { length page.old + WORDS ≤ PAGE }
+fn push_words<const SIZE: usize>(page: &mut Text<SIZE>, fault: Fault)
+    requires room { length page.old + WORDS ≤ SIZE }
     ensures words { page.new ≡ page.old ++ fault_words fault }
     ensures short { length page.new ≤ length page.old + WORDS }
 {
@@ -96,8 +105,8 @@ fn push_words(page: &mut Text<PAGE>, fault: Fault)
     }
 }
 
-fn push_no_good_crc(page: &mut Text<PAGE>, side: Side, kind: Kind)
-    requires room { length page.old + WORDS ≤ PAGE }
+fn push_no_good_crc<const SIZE: usize>(page: &mut Text<SIZE>, side: Side, kind: Kind)
+    requires room { length page.old + WORDS ≤ SIZE }
     ensures words { page.new ≡ page.old ++ (side_words side ++ codes " no GoodCRC " ++ name_of kind) }
     ensures short { length page.new ≤ length page.old + WORDS }
 {
@@ -107,8 +116,8 @@ fn push_no_good_crc(page: &mut Text<PAGE>, side: Side, kind: Kind)
     page.push_all(name.as_str().as_bytes());
 }
 
-fn push_reset(page: &mut Text<PAGE>, words: &[u8], side: Side)
-    requires room { length page.old + WORDS ≤ PAGE }
+fn push_reset<const SIZE: usize>(page: &mut Text<SIZE>, words: &[u8], side: Side)
+    requires room { length page.old + WORDS ≤ SIZE }
     requires few { length words.now ≤ 20 }
     ensures words { page.new ≡ page.old ++ (words.now ++ side_words side) }
     ensures short { length page.new ≤ length page.old + WORDS }
@@ -117,8 +126,8 @@ fn push_reset(page: &mut Text<PAGE>, words: &[u8], side: Side)
     page.push_all(side_text(side));
 }
 
-fn push_ignored(page: &mut Text<PAGE>, id: u32)
-    requires room { length page.old + WORDS ≤ PAGE }
+fn push_ignored<const SIZE: usize>(page: &mut Text<SIZE>, id: u32)
+    requires room { length page.old + WORDS ≤ SIZE }
     ensures words { page.new ≡ page.old ++ (codes "event " ++ decimal id ++ codes " ignored") }
     ensures short { length page.new ≤ length page.old + WORDS }
 {

@@ -3,8 +3,9 @@
 ghost use Rattle.std.specs.Prelude.{◌≡◌, ◌+◌, ◌-◌, ◌<◌, ◌≤◌, ◌++◌, List, ℕ, [], length, Some, slice_get, drop, min, option_map};
 ghost use Rattle.std.specs.Prelude.{unwrap_or, IfSome};
 ghost use Rattle.pd_device.specs.Device.{CountsFailure, Writes};
+ghost use Rattle.pd_report.specs.LeastMargin.{margin_at, margin_of};
 ghost use Rattle.pd_report.specs.Margins.{margins_text};
-ghost use Rattle.pd_report.specs.Walk.{IsWalk, NoneBefore, left_of, text_before};
+ghost use Rattle.pd_report.specs.Walk.{IsWalk, NoneBefore, NoneNow, SeesEntry, left_of, line_after, standing_of, text_before};
 ghost use Rattle.pd_scenario.specs.Plan.{Plan};
 ghost use Rattle.pd_scenario.specs.Plans.{plan_of};
 
@@ -100,7 +101,7 @@ fn step<const N: usize, T: Runner<N>>(
 }
 
 /// Passes the entries that change no contract.
-fn pass<const N: usize, T: Runner<N>>(run: &T, walk: &mut Walk)
+pub(crate) fn pass<const N: usize, T: Runner<N>>(run: &T, walk: &mut Walk)
     requires seen { walk.old.seen ≤ length (T.entries run.now) }
     ensures walk { (plan : Plan) → IsWalk plan (T.entries run.now) walk.old → IsWalk plan (T.entries run.now) walk.new }
     ensures still { walk.new.at ≡ walk.old.at }
@@ -126,18 +127,52 @@ fn see<const N: usize, T: Runner<N>>(
     ensures less { left_of (plan_of scenario.now) (T.entries run.now) walk.new
         < left_of (plan_of scenario.now) (T.entries run.now) walk.old }
 {
+    if see_entry(run, walk) {
+        return None;
+    }
+    let line = walk.line();
+    end_instant(run, scenario, walk);
+    line
+}
+
+/// Sees the next entry, where it is of the instant at which the walk stands; whether it is.
+pub(crate) fn see_entry<const N: usize, T: Runner<N>>(run: &T, walk: &mut Walk) -> bool
+    ensures walk { (plan : Plan) → IsWalk plan (T.entries run.now) walk.old → IsWalk plan (T.entries run.now) walk.new }
+    ensures still { walk.new.at ≡ walk.old.at }
+    ensures seen { SeesEntry result (T.entries run.now) walk.old walk.new }
+{
     // A usize counts the entries, so it counts those that are seen.
     let _count = run.len();
     if let Some((port, entry)) = run.entry(walk.seen) {
         if entry.at <= walk.at {
             walk.note(port, entry.contract);
-            return None;
+            return true;
         }
     }
+    false
+}
+
+/// Goes on to the next instant at which something may change, once all entries of the one at which the walk stands are seen.
+pub(crate) fn end_instant<const N: usize, T: Runner<N>>(
+    run: &T,
+    scenario: &Scenario<N>,
+    walk: &mut Walk,
+)
+    requires walk { IsWalk (plan_of scenario.now) (T.entries run.now) walk.old }
+    requires in_time { walk.old.at ≤ (plan_of scenario.now).end }
+    requires over { NoneNow (T.entries run.now) walk.old }
+    ensures walk { IsWalk (plan_of scenario.now) (T.entries run.now) walk.new }
+    ensures text { text_before (plan_of scenario.now) (T.entries run.now) walk.new.at
+        ≡ text_before (plan_of scenario.now) (T.entries run.now) walk.old.at
+        ++ line_after walk.old.before walk.old.at (standing_of walk.old) }
+    ensures later { walk.old.at < walk.new.at }
+    ensures stays { (t : ℕ) → walk.old.at ≤ t → t < walk.new.at
+        → margin_at (plan_of scenario.now) (T.entries run.now) t ≡ margin_of (standing_of walk.old) }
+    ensures less { left_of (plan_of scenario.now) (T.entries run.now) walk.new
+        < left_of (plan_of scenario.now) (T.entries run.now) walk.old }
+{
     let next = next_entry(run, walk.seen, scenario.end_time() + 1);
-    let line = walk.line();
     walk.go_on(scenario, sooner(next, walk.next));
-    line
 }
 
 /// The time of the entry at the index, or that after the end where none comes before it.

@@ -2,6 +2,7 @@
 
 ghost use Rattle.std.specs.Prelude.{◌≡◌, ◌+◌, ◌-◌, ◌*◌, ◌<◌, ◌≤◌, ◌++◌, ◌^◌, List, ℕ, [], length, sum, take, decimal, codes, replicate};
 ghost use Rattle.std.specs.Prelude.{IfSome, unwrap_or};
+ghost use Rattle.pd_report.specs.LeastMargin.{margin_of};
 ghost use Rattle.pd_report.specs.Margins.{margin_text, power_left};
 ghost use Rattle.pd_report.specs.Walk.{GoesOnTo, KnowsBudget, line_after, noted_walk, standing_of};
 ghost use Rattle.pd_scenario.specs.Plans.{plan_of};
@@ -73,6 +74,14 @@ impl Walk {
             contracts: total(&self.powers),
             budget: self.budget,
         }
+    }
+
+    /// What the contracts leave of the budget then, in microwatts.
+    pub fn margin(&self) -> u64
+        ensures { result ≡ margin_of (standing_of self.now) }
+    {
+        let standing = self.standing();
+        u128::from(standing.budget).saturating_sub(standing.contracts) as u64
     }
 
     /// The line of the instant at which the walk stands, if there is one.

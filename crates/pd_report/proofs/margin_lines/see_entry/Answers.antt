@@ -1,0 +1,31 @@
+use Rattle.std.proofs.Common.{ℕ, ◌<◌, sym, subst, arith}
+use Rattle.std.specs.Prelude.{slice_get}
+use Rattle.std.proofs.lemmas.Option.{slice_get_within}
+use Rattle.pd_report.specs.Walk.{IsWalk}
+use Rattle.pd_report.proofs.MarginLemmas.{Moves, in-order, on-port}
+use Rattle.pd_report.proofs.WalkLemmas.{walk-noted}
+use Rattle.pd_report.proofs.margin_lines.see_entry.Goals as goal
+
+pub note-requires-clause-from_one : goal.note-requires-clause-from_one
+note-requires-clause-from_one g c =
+    (on-port (g.T.Runner.entries c.args.run.now) c.args.walk.now.seen (c.in-Some.port, c.in-Some.entry.now) (sym c.in-Some.ensures.entry)
+    (in-order _ _ _ c.entry.ensures.run)).0
+
+pub note-requires-clause-known : goal.note-requires-clause-known
+note-requires-clause-known g c =
+    (on-port (g.T.Runner.entries c.args.run.now) c.args.walk.now.seen (c.in-Some.port, c.in-Some.entry.now) (sym c.in-Some.ensures.entry)
+    (in-order _ _ _ c.entry.ensures.run)).1
+
+pub note-requires-clause-room : goal.note-requires-clause-room
+note-requires-clause-room g c =
+    let within =
+    slice_get_within (g.T.Runner.entries c.args.run.now) c.args.walk.now.seen (c.in-Some.port, c.in-Some.entry.now)
+    (sym c.in-Some.ensures.entry) in
+    omega (arith, within, c.len-count.ensures.count, c.len-count.type_inv)
+
+pub returns-then-entry-walk-clause-walk : goal.returns-then-entry-walk-clause-walk
+returns-then-entry-walk-clause-walk g c plan is =
+    let moves : Moves = g.T.Runner.entries c.args.run.now in
+    subst (IsWalk plan moves) (sym c.note.ensures)
+    (walk-noted plan moves c.args.walk.now (c.in-Some.port, c.in-Some.entry.now) is (sym c.in-Some.ensures.entry)
+    (in-order _ _ _ c.entry.ensures.run) c.if-entry-walk.true)
