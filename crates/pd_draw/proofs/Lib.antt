@@ -1,2 +1,1 @@
 pub mod PictureLemmas
-pub mod WalkLemmas

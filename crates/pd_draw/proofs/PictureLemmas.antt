@@ -41,9 +41,9 @@ sections e s f g h i ks ts ps ds rest =
     ap (λ v. e s ++ v) (one ∙ simp append_assoc)
 
 -- the text of the elements is that of the style, of the axes, and of the curves
-pub elements_text : (f : Frame) (n : ℕ) (levels : List Level) → flat_map element_text (elements_of f n levels)
-    ≡ element_text (style_of rules) ++ (keys_text n ++ (axes_text f levels ++ curves_text f n levels))
+pub elements_text : (f : Frame) (bottom n : ℕ) (levels : List Level) → flat_map element_text (elements_of f bottom n levels)
+    ≡ element_text (style_of rules) ++ (keys_text n ++ (axes_text f bottom levels ++ curves_text f n levels))
 unfolding keys_text axes_text curves_text
-elements_text f n levels =
-    sections element_text (style_of rules) key_of (time_tick f 3500) (power_tick f (top_of levels)) (area_of f (top_of levels) levels)
+elements_text f bottom n levels =
+    sections element_text (style_of rules) key_of (time_tick f bottom) (power_tick f (top_of levels)) (area_of f (top_of levels) levels)
     (ports_up n) tenths fifths (ports_down n) (budget_of f (top_of levels) levels ∷ least_elements f (top_of levels) levels)

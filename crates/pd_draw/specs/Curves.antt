@@ -4,12 +4,10 @@ use Rattle.std.specs.Prelude.{length, take, replicate, sum, Option, Some, None, 
 use Rattle.std.specs.List.{fold}
 use Rattle.pd_port.specs.Happens.{is_budget}
 use Rattle.pd_scenario.specs.Plan.{Plan, force}
-use Rattle.pd_run.specs.Run.{Move}
 use Rattle.pd_report.specs.Walk.{noted}
+use Rattle.pd_show.specs.declared.seen.Seen.{Seen}
 use Rattle.pd_draw.specs.declared.curves.Level.{Level}
 use Rattle.pd_draw.specs.declared.frame.Frame.{Frame}
-use Rattle.pd_draw.specs.declared.step.Step.{Step}
-use Rattle.pd_draw.specs.Steps.{step_of}
 
 -- the powers of the ports' contracts, the time of the last step, and the steps
 pub record CurvesData : Type 0 where
@@ -18,8 +16,8 @@ pub record CurvesData : Type 0 where
   pub levels : List Level
 
 -- a step: a contract or the budget changes, and the window isn't over
-abbrev pub has_level : Frame → Step → Bool
-has_level f step = nat_le step.entry.at f.to && (is_some step.entry.contract || is_budget step.entry.due.what)
+abbrev pub has_level : Frame → Seen → Bool
+has_level f seen = nat_le seen.entry.at f.to && (is_some seen.entry.contract || is_budget seen.entry.due.what)
 
 -- one more step; of those of one instant the last one stands
 abbrev pub with_level : CurvesData → Level → CurvesData
@@ -30,18 +28,18 @@ with_level c level = record {
 }
 
 -- the step of a move; what was before the window stands at its start
-abbrev pub level_of : Frame → CurvesData → Step → Level
-level_of f c step = record {
-  at = max f.from step.entry.at;
-  budget = step.budget;
-  powers = noted c.powers step.port step.entry.contract;
+abbrev pub level_of : Frame → CurvesData → Seen → Level
+level_of f c seen = record {
+  at = max f.from seen.entry.at;
+  budget = seen.budget;
+  powers = noted c.powers seen.port seen.entry.contract;
 }
 
 -- the curves after one more move
-unfoldable pub curves_after : Frame → CurvesData → Step → CurvesData
-curves_after f c step =
-    if has_level f step then with_level c (level_of f c step)
-    else record c { powers = noted c.powers step.port step.entry.contract }
+unfoldable pub curves_after : Frame → CurvesData → Seen → CurvesData
+curves_after f c seen =
+    if has_level f seen then with_level c (level_of f c seen)
+    else record c { powers = noted c.powers seen.port seen.entry.contract }
 
 -- no contract
 abbrev pub no_powers : List ℕ
@@ -55,9 +53,9 @@ curves_start f plan = record {
   levels = record { at = f.from; budget = force plan f.from; powers = no_powers } ∷ [];
 }
 
--- the curves of these moves of a plan
-abbrev pub curves_of : Frame → Plan → List Move → CurvesData
-curves_of f plan moves = fold (λ c m. curves_after f c (step_of plan m)) (curves_start f plan) moves
+-- the curves of what is seen of a plan's moves
+abbrev pub curves_of : Frame → Plan → List Seen → CurvesData
+curves_of f plan seens = fold (curves_after f) (curves_start f plan) seens
 
 -- what a step leaves of the budget
 abbrev pub margin : Level → ℕ

@@ -2,4 +2,3 @@ pub mod Chart
 pub mod Curves
 pub mod Picture
 pub mod Scale
-pub mod Steps

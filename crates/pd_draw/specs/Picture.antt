@@ -1,15 +1,13 @@
--- The picture of a run.
+-- The chart of a picture, and the picture's size.
 use Rattle.std.specs.Prelude.{◌≡◌, ℕ, ◌+◌, ◌-◌, ◌*◌, ◌/◌, min, max, List, [], ◌∷◌, ◌++◌, map, codes, decimal}
 use Rattle.std.specs.List.{flat_map}
-use Rattle.pd_scenario.specs.Plan.{Plan, count}
-use Rattle.pd_run.specs.Run.{Move}
-use Rattle.pd_run.specs.Shown.{SafeRun}
-use Rattle.pd_svg.specs.Elements.{Attribute, Drawing, Element, drawing_text, element_text}
+use Rattle.pd_scenario.specs.Plan.{Plan}
+use Rattle.pd_svg.specs.Elements.{Attribute, Element, element_text}
 use Rattle.pd_svg.specs.Shapes.{named, style_of}
 use Rattle.pd_draw.specs.declared.curves.Level.{Level}
 use Rattle.pd_draw.specs.declared.frame.Frame.{Frame}
 use Rattle.pd_draw.specs.declared.look.Look.{Look}
-use Rattle.pd_draw.specs.Curves.{curves_of, greatest, tightest}
+use Rattle.pd_draw.specs.Curves.{greatest, tightest}
 use Rattle.pd_draw.specs.Chart.{area_of, budget_of, fifths, key_of, margin_mark, margin_words, ports_down, ports_up, power_tick, tenths}
 use Rattle.pd_draw.specs.Chart.{time_tick}
 
@@ -29,16 +27,13 @@ top_of levels = min 1000000000 (greatest levels)
 abbrev pub whole_width : Frame → ℕ
 whole_width f = f.width + 1100
 
-abbrev pub whole_height : ℕ
-whole_height = 3900
-
 -- the picture's size in pixels, and in the tenths in which all places are
-unfoldable pub head_of : Frame → List Attribute
-head_of f =
+unfoldable pub head_of : Frame → ℕ → List Attribute
+head_of f height =
     named (codes "xmlns") (codes "http://www.w3.org/2000/svg")
     ∷ named (codes "width") (decimal (whole_width f / 10))
-    ∷ named (codes "height") (codes "390")
-    ∷ named (codes "viewBox") (codes "0 0 " ++ (decimal (whole_width f) ++ codes " 3900")) ∷ []
+    ∷ named (codes "height") (decimal (height / 10))
+    ∷ named (codes "viewBox") (codes "0 0 " ++ (decimal (whole_width f) ++ (32 ∷ decimal height))) ∷ []
 
 -- how the classes look: the colours of Okabe and Ito, which stay apart for who doesn't see all colours
 unfoldable pub rules : List ℕ
@@ -54,11 +49,11 @@ abbrev pub least_elements : Frame → ℕ → List Level → List Element
 least_elements f top [] = []
 least_elements f top (l ∷ ls) = margin_mark f top (tightest l ls) ∷ margin_words (tightest l ls) ∷ []
 
--- all that is drawn: what the colours stand for, the axes, the contracts from the last port to the first, each over the one before,
--- the budget, and the least margin
-abbrev pub elements_of : Frame → ℕ → List Level → List Element
-elements_of f n levels =
-    style_of rules ∷ (flat_map key_of (ports_up n) ++ (flat_map (time_tick f 3500) tenths
+-- the chart: what the colours stand for, the axes, the contracts from the last port to the first, each over the one before, the
+-- budget, and the least margin; the lines of times go down to the picture's end
+abbrev pub elements_of : Frame → ℕ → ℕ → List Level → List Element
+elements_of f bottom n levels =
+    style_of rules ∷ (flat_map key_of (ports_up n) ++ (flat_map (time_tick f bottom) tenths
     ++ (flat_map (power_tick f (top_of levels)) fifths ++ (map (area_of f (top_of levels) levels) (ports_down n)
     ++ (budget_of f (top_of levels) levels ∷ least_elements f (top_of levels) levels)))))
 
@@ -66,27 +61,12 @@ elements_of f n levels =
 unfoldable pub keys_text : ℕ → List ℕ
 keys_text n = flat_map (λ port. flat_map element_text (key_of port)) (ports_up n)
 
-unfoldable pub axes_text : Frame → List Level → List ℕ
-axes_text f levels =
-    flat_map (λ k. flat_map element_text (time_tick f 3500 k)) tenths
+unfoldable pub axes_text : Frame → ℕ → List Level → List ℕ
+axes_text f bottom levels =
+    flat_map (λ k. flat_map element_text (time_tick f bottom k)) tenths
     ++ flat_map (λ k. flat_map element_text (power_tick f (top_of levels) k)) fifths
 
 unfoldable pub curves_text : Frame → ℕ → List Level → List ℕ
 curves_text f n levels =
     flat_map (λ port. element_text (area_of f (top_of levels) levels port)) (ports_down n)
     ++ (element_text (budget_of f (top_of levels) levels) ++ flat_map element_text (least_elements f (top_of levels) levels))
-
--- the picture of these steps of n ports
-unfoldable pub picture : Frame → ℕ → List Level → Drawing
-picture f n levels = record { attributes = head_of f; elements = elements_of f n levels }
-
--- the text of the picture of these moves of a plan
-abbrev pub picture_text : Plan → Look → List Move → List ℕ
-picture_text plan look moves =
-    drawing_text (picture (frame_of plan look) (count plan) (curves_of (frame_of plan look) plan moves).levels)
-
--- the text is that of the picture of the plan's run, which is safe
-pub record DrewRun (plan : Plan) (look : Look) (text : List ℕ) : Type 0 where
-  pub moves : List Move
-  pub safe : SafeRun plan moves
-  pub text_is : text ≡ picture_text plan look moves

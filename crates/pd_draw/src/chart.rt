@@ -84,7 +84,11 @@ fn push_port_class(text: &mut Vec<u8>, port: u64) -> Result<(), AllocError>
     push_number(text, port)
 }
 
-fn push_port_name(text: &mut Vec<u8>, port: u64) -> Result<(), AllocError>
+/// Writes the name of a port.
+///
+/// # Errors
+/// There is no memory for it; some of it may stand in the text.
+pub fn push_port_name(text: &mut Vec<u8>, port: u64) -> Result<(), AllocError>
     ensures { OnOk result (text.new.items ≡ text.old.items ++ port_name port) }
 {
     text.extend_from_slice(b"port ")?;

@@ -9,9 +9,10 @@ ghost use Rattle.pd_report.specs.Margins.{power_left};
 ghost use Rattle.pd_report.specs.Walk.{noted};
 ghost use Rattle.pd_scenario.specs.Plan.{Plan as PlanData, force};
 
-use crate::{Frame, Step};
+use crate::Frame;
 use pd_port::{ContractChange, What};
 use pd_setup::Happening;
+use pd_show::Seen;
 use std::alloc::{AllocError, Global};
 use std::marker::Model;
 
@@ -80,11 +81,11 @@ fn tells_budget(what: &What) -> bool
 }
 
 /// Whether a move is a step: a contract or the budget changes, and the window isn't over.
-fn has_level(frame: Frame, step: &Step) -> bool
-    ensures { result ≡ has_level frame step.now }
+fn has_level(frame: Frame, seen: &Seen) -> bool
+    ensures { result ≡ has_level frame seen.now }
 {
-    step.entry.at <= u64::from(frame.to)
-        && (step.entry.contract.is_some() || tells_budget(&step.entry.due.what))
+    seen.entry.at <= u64::from(frame.to)
+        && (seen.entry.contract.is_some() || tells_budget(&seen.entry.due.what))
 }
 
 impl Curves {
@@ -132,20 +133,20 @@ impl Curves {
     /// # Errors
     /// There is no memory.
     #[tactic(auto, unfolding(crate::specs::Curves::curves_after))]
-    pub fn see(&mut self, frame: Frame, step: &Step) -> Result<(), AllocError>
-        requires from_one { 1 ≤ step.now.port }
-        requires known { step.now.port ≤ 8 }
-        ensures { OnOk result (self.new ≡ curves_after frame self.old step.now) }
+    pub fn see(&mut self, frame: Frame, seen: &Seen) -> Result<(), AllocError>
+        requires from_one { 1 ≤ seen.now.port }
+        requires known { seen.now.port ≤ 8 }
+        ensures { OnOk result (self.new ≡ curves_after frame self.old seen.now) }
     {
-        let powers = noted(self.powers, step.port, step.entry.contract);
-        if !has_level(frame, step) {
+        let powers = noted(self.powers, seen.port, seen.entry.contract);
+        if !has_level(frame, seen) {
             self.powers = powers;
             return Ok(());
         }
-        let at = (step.entry.at as u32).max(frame.from);
+        let at = (seen.entry.at as u32).max(frame.from);
         self.push_level(Level {
             at,
-            budget: step.budget,
+            budget: seen.budget,
             powers,
         })
     }

@@ -23,7 +23,7 @@ pub(crate) fn scaled(part: u32, whole: u32, length: u32) -> u32
 impl Frame {
     /// The x of a time: what is before the window stands at its left, what is after it at its right.
     #[tactic(auto, unfolding(crate::specs::Scale::x_of))]
-    pub(crate) fn x_of(self, at: u64) -> u64
+    pub fn x_of(self, at: u64) -> u64
         ensures value { result ≡ x_of self at }
         ensures within { result ≤ 700 + self.width }
     {
@@ -33,7 +33,7 @@ impl Frame {
     }
 
     /// The x at which the window ends.
-    pub(crate) fn right(self) -> u64
+    pub fn right(self) -> u64
         ensures { result ≡ right_of self }
     {
         700 + u64::from(self.width)

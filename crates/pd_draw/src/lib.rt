@@ -1,4 +1,4 @@
-//! A run as a picture: the shared budget and the ports' contracts over time.
+//! The chart of a run: the shared budget and the ports' contracts over time.
 #![tactic(auto)]
 
 mod amounts;
@@ -7,11 +7,9 @@ mod curves;
 mod frame;
 mod look;
 mod picture;
-mod step;
-mod walk;
 
+pub use chart::push_port_name;
 pub use curves::{Curve, Curves, Level};
 pub use frame::Frame;
 pub use look::Look;
-pub use step::Step;
-pub use walk::draw;
+pub use picture::{push_chart, push_head};

@@ -6,18 +6,20 @@ ghost use Rattle.pd_draw.specs.Picture.{frame_of};
 use crate::Frame;
 use pd_run::Plan;
 
-/// What is drawn of a run: the window of time, in microseconds, and the width of the picture, in pixels.
+/// What is drawn of a run: the window of time, in microseconds, the width of the picture, in pixels, and the port whose lane is
+/// drawn, numbered from 1, or all of them.
 #[derive(Clone, Copy, Debug)]
 pub struct Look {
     pub from: u64,
     pub to: u64,
     pub width: u32,
+    pub port: Option<usize>,
 }
 
 impl Look {
     /// The window in a plan, and the width of the chart.
     #[tactic(auto, unfolding(crate::specs::Picture::frame_of))]
-    pub(crate) fn frame<const N: usize>(self, plan: &Plan<N>) -> Frame
+    pub fn frame<const N: usize>(self, plan: &Plan<N>) -> Frame
         ensures { result ≡ frame_of plan.now self }
     {
         let to = self.to.min(plan.end()) as u32;

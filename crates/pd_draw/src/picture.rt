@@ -1,10 +1,10 @@
-//! The picture of a run.
+//! The chart of a picture, and the picture's size.
 
-ghost use Rattle.std.specs.Prelude.{◌≡◌, ◌++◌, ◌≤◌, OnOk, codes, decimal};
+ghost use Rattle.std.specs.Prelude.{◌≡◌, ◌∷◌, ◌++◌, ◌≤◌, OnOk, codes, decimal};
 ghost use Rattle.std.specs.List.{flat_map};
-ghost use Rattle.pd_svg.specs.Elements.{attribute_text, drawing_text, element_text};
+ghost use Rattle.pd_svg.specs.Elements.{attribute_text, element_text};
 ghost use Rattle.pd_draw.specs.Picture.{axes_text, curves_text, elements_of, head_of, keys_text};
-ghost use Rattle.pd_draw.specs.Picture.{least_elements, picture, rules, top_of, whole_width};
+ghost use Rattle.pd_draw.specs.Picture.{least_elements, rules, top_of, whole_width};
 
 use crate::chart::{
     push_areas, push_budget, push_keys, push_margin_mark, push_margin_words, push_power_ticks,
@@ -35,28 +35,39 @@ fn top_of(levels: &[Level]) -> u32
     greatest(levels).min(1_000_000_000) as u32
 }
 
-/// Writes the part of the picture that the chart stands in.
-fn push_view(text: &mut Vec<u8>, width: u64) -> Result<(), AllocError>
-    ensures { OnOk result (text.new.items ≡ text.old.items ++ (codes "0 0 " ++ (decimal width ++ codes " 3900"))) }
+/// Writes the part of the plane that the picture shows.
+fn push_view(text: &mut Vec<u8>, width: u64, height: u64) -> Result<(), AllocError>
+    ensures { OnOk result (text.new.items ≡ text.old.items ++ (codes "0 0 " ++ (decimal width ++ (32 ∷ decimal height)))) }
 {
     text.extend_from_slice(b"0 0 ")?;
     push_number(text, width)?;
-    text.extend_from_slice(b" 3900")
+    text.push(b' ')?;
+    push_number(text, height)
 }
 
-/// Writes the picture's size.
+/// Writes the picture's size: it is so high, in tenths of a pixel.
+///
+/// # Errors
+/// There is no memory for it; some of it may stand in the text.
 #[tactic(auto, unfolding(crate::specs::Picture::head_of))]
-fn push_head(alloc: Global, text: &mut Vec<u8>, frame: Frame) -> Result<(), AllocError>
-    ensures { OnOk result (text.new.items ≡ text.old.items ++ flat_map attribute_text (head_of frame)) }
+pub fn push_head(
+    alloc: Global,
+    text: &mut Vec<u8>,
+    frame: Frame,
+    bottom: u64,
+) -> Result<(), AllocError>
+    ensures { OnOk result (text.new.items ≡ text.old.items ++ flat_map attribute_text (head_of frame bottom)) }
 {
     let whole = u64::from(frame.width) + 1_100;
     let mut width = Vec::new(alloc);
+    let mut height = Vec::new(alloc);
     let mut view = Vec::new(alloc);
     push_number(&mut width, whole / 10)?;
-    push_view(&mut view, whole)?;
+    push_number(&mut height, bottom / 10)?;
+    push_view(&mut view, whole, bottom)?;
     push_attribute(text, b"xmlns", b"http://www.w3.org/2000/svg")?;
     push_attribute(text, b"width", width.as_slice())?;
-    push_attribute(text, b"height", b"390")?;
+    push_attribute(text, b"height", height.as_slice())?;
     push_attribute(text, b"viewBox", view.as_slice())
 }
 
@@ -113,53 +124,39 @@ fn push_axes(
     alloc: Global,
     text: &mut Vec<u8>,
     frame: Frame,
+    bottom: u64,
     levels: &[Level],
 ) -> Result<(), AllocError>
-    ensures { OnOk result (text.new.items ≡ text.old.items ++ axes_text frame levels.now) }
+    ensures { OnOk result (text.new.items ≡ text.old.items ++ axes_text frame bottom levels.now) }
 {
     let top = top_of(levels);
     push_time_ticks(
         alloc,
         text,
         frame,
-        3_500,
+        bottom,
         &[0, 1, 2, 3, 4, 5, 6, 7, 8, 9, 10],
     )?;
     push_power_ticks(alloc, text, frame, top, &[0, 1, 2, 3, 4, 5])
 }
 
-/// Draws all elements.
-fn push_elements(
+/// Draws the chart; the lines of times go down to the picture's end, in tenths of a pixel.
+///
+/// # Errors
+/// There is no memory for it; some of it may stand in the text.
+pub fn push_chart(
     alloc: Global,
     text: &mut Vec<u8>,
     frame: Frame,
+    bottom: u64,
     ports: usize,
     levels: &[Level],
 ) -> Result<(), AllocError>
     requires { ports ≤ 8 }
-    ensures { OnOk result (text.new.items ≡ text.old.items ++ flat_map element_text (elements_of frame ports levels.now)) }
+    ensures { OnOk result (text.new.items ≡ text.old.items ++ flat_map element_text (elements_of frame bottom ports levels.now)) }
 {
     push_style(text, rules())?;
     push_all_keys(alloc, text, ports)?;
-    push_axes(alloc, text, frame, levels)?;
+    push_axes(alloc, text, frame, bottom, levels)?;
     push_curves(alloc, text, frame, ports, levels)
-}
-
-/// Draws the picture of the steps of so many ports.
-#[tactic(auto, unfolding(crate::specs::Picture::picture))]
-pub(crate) fn push_picture(
-    alloc: Global,
-    text: &mut Vec<u8>,
-    frame: Frame,
-    ports: usize,
-    levels: &[Level],
-) -> Result<(), AllocError>
-    requires { ports ≤ 8 }
-    ensures { OnOk result (text.new.items ≡ text.old.items ++ drawing_text (picture frame ports levels.now)) }
-{
-    text.extend_from_slice(b"<svg")?;
-    push_head(alloc, text, frame)?;
-    text.extend_from_slice(b">\n")?;
-    push_elements(alloc, text, frame, ports, levels)?;
-    text.extend_from_slice(b"</svg>\n")
 }

@@ -3,5 +3,5 @@
 
 mod texts;
 
-pub use pd_draw::Look;
+pub use pd_lanes::Look;
 pub use texts::{DrawFault, draw_text};

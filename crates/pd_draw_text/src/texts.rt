@@ -2,16 +2,17 @@
 
 ghost use Rattle.std.specs.Prelude.{◌≡◌, ◌≤◌, IfOk, MatchResult, Ok};
 ghost use Rattle.std.specs.Str.Lines.{lines};
+ghost use Rattle.pd_scenario.specs.Limits.{is_port};
 ghost use Rattle.pd_scenario.specs.Plans.{plan_of};
 ghost use Rattle.pd_scenario_tables.specs.Ports.{counted};
 ghost use Rattle.pd_scenario_text.specs.File.{members_of};
 ghost use Rattle.pd_run_text.specs.Texts.{ForTexts};
 ghost use Rattle.pd_script.specs.Script.{followed};
-ghost use Rattle.pd_draw.specs.Picture.{DrewRun};
+ghost use Rattle.pd_lanes.specs.Picture.{DrewRun};
 ghost use Rattle.pd_draw_text.specs.declared.texts.DrawFault.TheVariants.{Memory as memory};
-ghost use Rattle.pd_draw_text.specs.Texts.{DrewText, NotDrawn};
+ghost use Rattle.pd_draw_text.specs.Texts.{DrewText, NotDrawn, has_port};
 
-use pd_draw::{Look, draw};
+use pd_lanes::{Look, draw};
 use pd_run::Plan;
 use pd_scenario::Scenario;
 use pd_scenario_text::{ScenarioFault, ScenarioFile};
@@ -23,6 +24,8 @@ use std::alloc::Global;
 pub enum DrawFault {
     /// The text has no scenario.
     Scenario(ScenarioFault),
+    /// The scenario doesn't have the port whose lane was to be drawn.
+    NoSuchPort,
     /// There was no memory.
     Memory,
 }
@@ -41,17 +44,27 @@ macro_rules! draw_by {
 /// nothing.
 ///
 /// # Errors
-/// `Scenario` where the text is refused, and `Memory` where there is none.
+/// `Scenario` where the text is refused, `NoSuchPort` where it hasn't the port that is chosen, and `Memory` where there is none.
 pub fn draw_text(
     alloc: Global,
     text: &[u8],
     script: &[u8],
     look: Look,
 ) -> Result<Vec<u8>, DrawFault>
-    ensures { MatchResult result (λ drawn. DrewText text.now script.now look drawn.items) (NotDrawn text.now) }
+    ensures { MatchResult result (λ drawn. DrewText text.now script.now look drawn.items) (NotDrawn text.now look) }
 {
     let file = ScenarioFile::parse(alloc, text).map_err(DrawFault::Scenario)?;
     draw_by!(alloc, file, script, look; 1 2 3 4 5 6 7 8)
+}
+
+// Whether the port that is chosen is among so many.
+fn has_port(ports: usize, port: Option<usize>) -> bool
+    ensures { result ≡ has_port ports port }
+{
+    match port {
+        None => true,
+        Some(port) => 1 <= port && port <= ports,
+    }
 }
 
 // Draws the run of the scenario of a file of N ports, as a script leaves it.
@@ -64,12 +77,15 @@ fn draw_file<const N: usize>(
     requires from_one { 1 ≤ N }
     requires to_eight { N ≤ 8 }
     requires counts { counted (members_of file) ≡ Ok N }
-    ensures { ForTexts file (λ text. MatchResult result (λ drawn. DrewText text script.now look drawn.items) (NotDrawn text)) }
+    ensures { ForTexts file (λ text. MatchResult result (λ drawn. DrewText text script.now look drawn.items) (NotDrawn text look)) }
 {
     let scenario = match file.scenario::<N>(alloc) {
         Ok(scenario) => scenario,
         Err(fault) => return Err(DrawFault::Scenario(fault)),
     };
+    if !has_port(N, look.port) {
+        return Err(DrawFault::NoSuchPort);
+    }
     draw_scenario(alloc, scenario, script, look)
 }
 

@@ -1,14 +1,15 @@
 //! A run as a picture.
 
 ghost use Rattle.std.specs.Prelude.{IfOk};
-ghost use Rattle.pd_draw.specs.Picture.{DrewRun};
+ghost use Rattle.pd_lanes.specs.Picture.{DrewRun};
 
-use crate::Look;
-use crate::curves::Curves;
 use crate::picture::push_picture;
-use crate::step::take_step;
+use crate::{Lanes, Look};
+use pd_draw::Curves;
 use pd_port::Meter;
 use pd_run::{Live, Plan};
+use pd_show::step_seen;
+use pd_watch::at_rest;
 use std::alloc::{AllocError, Global};
 
 /// Runs a plan, and draws what is chosen of it.
@@ -24,13 +25,24 @@ pub fn draw<const N: usize>(
 {
     let frame = look.frame(plan);
     let mut live = Live::new(alloc, plan)?;
+    let mut watches = at_rest(alloc, N)?;
     let mut curves = Curves::new(alloc, frame, plan.force(u64::from(frame.from)))?;
+    let mut lanes = Lanes::new(alloc, frame);
     let mut meter = Meter::new();
     while let Some((port, due)) = live.next(plan) {
-        let step = take_step(alloc, plan, &mut live, port, &due, &mut meter)?;
-        curves.see(frame, &step)?;
+        let seen = step_seen(alloc, plan, &mut live, &mut watches, port, &due, &mut meter)?;
+        curves.see(frame, &seen)?;
+        lanes.see(alloc, frame, look.port, &seen)?;
     }
     let mut text = Vec::new(alloc);
-    push_picture(alloc, &mut text, frame, N, curves.levels())?;
+    push_picture(
+        alloc,
+        &mut text,
+        frame,
+        N,
+        look.port,
+        curves.levels(),
+        &lanes,
+    )?;
     Ok(text)
 }

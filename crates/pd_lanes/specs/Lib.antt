@@ -1,0 +1,5 @@
+pub mod Bands
+pub mod Lanes
+pub mod Marks
+pub mod Picture
+pub mod Places

@@ -1,0 +1,20 @@
+//! A run as a picture: below the chart of the budget a lane for each port, with the phases of its source, its events, contracts,
+//! faults and packets.
+#![tactic(auto)]
+
+mod bands;
+mod lane;
+mod lanes;
+mod marks;
+mod moves;
+mod phase;
+mod picture;
+mod place;
+mod walk;
+
+pub use lane::Lane;
+pub use lanes::Lanes;
+pub use pd_draw::Look;
+pub use phase::Phase;
+pub use place::{Place, Row};
+pub use walk::draw;
