@@ -1,6 +1,6 @@
-mod FoldLemmas
+pub mod FoldLemmas
 mod HitLemmas
 mod IdLemmas
-mod JoinLemmas
+pub mod JoinLemmas
 mod QuietLemmas
 mod SweepLemmas

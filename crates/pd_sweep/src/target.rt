@@ -84,7 +84,10 @@ fn push_chosen_at<const N: usize, T: Runner<N>>(
 }
 
 /// The packets of a run that are tried, in the run's order.
-pub(crate) fn chosen<const N: usize, T: Runner<N>>(
+///
+/// # Errors
+/// There is no memory.
+pub fn chosen<const N: usize, T: Runner<N>>(
     alloc: Global,
     run: &T,
     choice: &Choice,

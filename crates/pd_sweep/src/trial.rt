@@ -7,7 +7,7 @@ ghost use Rattle.pd_sweep.specs.Variants.{variant};
 
 use crate::summary::{Summary, summary_of};
 use crate::target::is_disturbed;
-use crate::variant::{Obstacle, variant};
+use crate::variant::{Obstacle, variant_of};
 use crate::{Loss, Target};
 use pd_device::BenchFault;
 use pd_line::Start;
@@ -64,8 +64,8 @@ fn hits_at<const N: usize, T: Runner<N>>(target: &Target, run: &T, index: usize)
     }
 }
 
-/// Whether a packet is hit in a run.
-fn is_hit<const N: usize, T: Runner<N>>(target: &Target, run: &T) -> bool
+/// Whether a packet is hit in a run: one that starts then on its port doesn't arrive as it was sent.
+pub fn is_hit<const N: usize, T: Runner<N>>(target: &Target, run: &T) -> bool
     ensures { result ≡ is_hit target.now (T.entries run.now) }
 {
     let note = Note::Packet { port: target.port };
@@ -90,7 +90,7 @@ fn outcome_of<const N: usize, T: Runner<N>>(
     ensures value { IfOk result (λ outcome. IsOfVariant (variant N scenario.now loss target.now) target.now outcome) }
     ensures memory { IfErr result (λ fault. fault ≡ no_memory) }
 {
-    let variant = match variant(alloc, scenario, loss, target) {
+    let variant = match variant_of(alloc, scenario, loss, target) {
         Ok(Ok(variant)) => variant,
         Ok(Err(obstacle)) => return Ok(Outcome::Barred(obstacle)),
         Err(fault) => return Err(fault),

@@ -94,7 +94,7 @@ fn insertion(loss: Loss, target: &Target, id: u64) -> Edit
 /// # Errors
 /// There is no memory.
 #[tactic(auto, unfolding(crate::specs::Variants::variant))]
-pub(crate) fn variant<const N: usize>(
+pub fn variant_of<const N: usize>(
     alloc: Global,
     scenario: &Scenario<N>,
     loss: Loss,

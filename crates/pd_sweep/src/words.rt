@@ -206,7 +206,10 @@ fn push_run(text: &mut Vec<u8>, old: &Summary, new: &Summary) -> Result<(), Allo
 }
 
 /// Writes why a packet can't be lost.
-fn push_obstacle(text: &mut Vec<u8>, obstacle: &Obstacle) -> Result<(), AllocError>
+///
+/// # Errors
+/// There is no memory for it; some of it may stand in the text.
+pub fn push_obstacle(text: &mut Vec<u8>, obstacle: &Obstacle) -> Result<(), AllocError>
     ensures { OnOk result (text.new.items ≡ text.old.items ++ obstacle_words obstacle.now) }
 {
     match obstacle {

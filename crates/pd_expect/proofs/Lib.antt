@@ -1,0 +1,4 @@
+mod JoinLemmas
+mod LineLemmas
+mod QuietLemmas
+mod SeekLemmas

@@ -1,0 +1,11 @@
+use Rattle.std.proofs.Common.{codes, [], ◌∷◌}
+use Rattle.pd_sweep.proofs.JoinLemmas.{joined_six}
+use Rattle.pd_expect.specs.Words.{failure_line}
+use Rattle.pd_expect.proofs.words.push_failure.Goals as goal
+
+pub returns : goal.returns
+unfolding failure_line
+returns c =
+    joined_six _ _ _ _ _ _ _ _ (codes "failed: ") _ (codes "; there is ") _ (10 ∷ []) c.in_ok-extend_from_slice.ensures.items
+    c.in_ok-extend_from_slice-2.ensures.items c.in_ok-extend_from_slice-3.ensures.items c.in_ok-extend_from_slice-4.ensures.items
+    c.in_ok-push_found.ensures c.in_ok-push.ensures.items

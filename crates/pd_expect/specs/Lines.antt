@@ -1,0 +1,212 @@
+-- The lines of a test script. It has the lines of an edit script, and beside them
+--     expect contract PORT at TIME [voltage RANGE] [current RANGE]
+--     expect no contract PORT at TIME
+--     expect margin at_least MICROWATTS
+--     expect faults none
+--     expect fault PORT "WORDS"
+--     expect packet PORT SIDE NAME between FROM TO
+--     lose NTH NAME of port PORT
+-- RANGE is a number, or two with .. between them. What stands behind a word that begins with # is passed over.
+use Rattle.std.specs.Prelude.{ℕ, ◌+◌, ◌==◌, Bool, true, false, List, [], ◌∷◌, ◌++◌, find, take, drop, codes, Option, Some, None, option_map}
+use Rattle.std.specs.Prelude.{bytes_eq, if◌then◌else◌}
+use Rattle.std.specs.List.{position_from}
+use Rattle.pd_header.specs.declared.kind.Kind.{Kind}
+use Rattle.pd_header.specs.declared.side.Side.{Side}
+use Rattle.pd_header.specs.declared.side.Side.TheVariants.{Source, Sink, Plug}
+use Rattle.pd_header.specs.Kinds.{name_of, control_messages, data_messages}
+use Rattle.pd_edit_lines.specs.Words.{words, number, next, number_at, ◌>>=◌}
+use Rattle.pd_expect.specs.declared.lines.Expectation.{Expectation}
+use Rattle.pd_expect.specs.declared.lines.Expectation.TheVariants as expect
+use Rattle.pd_expect.specs.declared.lines.Lost.{Lost}
+use Rattle.pd_expect.specs.declared.lines.TestLine.{TestLine}
+use Rattle.pd_expect.specs.declared.lines.TestLine.TheVariants as line_is
+use Rattle.pd_expect.specs.declared.span.Span.{Span}
+
+abbrev pub Words : Type 0
+Words = List (List ℕ)
+
+-- ---- words
+
+-- the bytes before the one at a place, and those behind it
+abbrev pub around : List ℕ → ℕ → List ℕ × List ℕ
+around bytes place = (take place bytes, drop (place + 1) bytes)
+
+-- the bytes before the first of a kind, and those behind it
+abbrev pub cut : ℕ → List ℕ → Option (List ℕ × List ℕ)
+cut byte bytes = option_map (around bytes) (position_from (λ other. other == byte) 0 bytes)
+
+abbrev pub is_comment : List ℕ → Bool
+is_comment [] = false
+is_comment (c ∷ cs) = c == 35
+
+-- the line is over, or what is left of it is a comment
+abbrev pub is_over : Words → Bool
+is_over [] = true
+is_over (word ∷ more) = is_comment word
+
+abbrev pub alone : {A : Type 0} → A → Words → Option A
+alone a ws = if is_over ws then Some a else None
+
+-- what stands behind a word
+abbrev pub after_word : List ℕ → Words → Option Words
+after_word word [] = None
+after_word word (first ∷ more) = if bytes_eq first word then Some more else None
+
+-- ---- ranges
+
+-- any number of 64 bits
+abbrev pub any_span : Span
+any_span = record { from = 0; to = 18446744073709551615 }
+
+abbrev pub one_span : ℕ → Span
+one_span n = record { from = n; to = n }
+
+-- what stands behind the second dot
+abbrev pub behind_dot : List ℕ → Option (List ℕ)
+behind_dot [] = None
+behind_dot (c ∷ cs) = if c == 46 then Some cs else None
+
+abbrev pub two_ends : List ℕ → List ℕ → Option Span
+two_ends low high = do
+  from ← number low
+  word ← behind_dot high
+  to ← number word
+  Some (record { from = from; to = to })
+
+abbrev pub span_from : List ℕ → Option (List ℕ × List ℕ) → Option Span
+span_from word None = option_map one_span (number word)
+span_from word (Some ends) = two_ends ends.0 ends.1
+
+-- A, or A..B
+abbrev pub span_of : List ℕ → Option Span
+span_of word = span_from word (cut 46 word)
+
+abbrev pub span_at : Words → Option (Span × Words)
+span_at ws = do
+  w ← next ws
+  s ← span_of w.0
+  Some (s, w.1)
+
+-- a range behind a word, or any number where the word isn't there
+abbrev pub optional_span : List ℕ → Words → Option (Span × Words)
+optional_span word [] = Some (any_span, [])
+optional_span word (first ∷ more) = if bytes_eq first word then span_at more else Some (any_span, first ∷ more)
+
+-- ---- names
+
+abbrev pub side_named : List ℕ → Option Side
+side_named word =
+    if bytes_eq word (codes "src") then Some Source
+    else if bytes_eq word (codes "snk") then Some Sink
+    else if bytes_eq word (codes "cbl") then Some Plug
+    else None
+
+-- the kind of message of a name, as a transcript has it
+abbrev pub kind_named : List ℕ → Option Kind
+kind_named word = find (λ kind. bytes_eq (name_of kind) word) (control_messages ++ data_messages)
+
+abbrev pub kind_at : Words → Option (Kind × Words)
+kind_at ws = do
+  w ← next ws
+  k ← kind_named w.0
+  Some (k, w.1)
+
+-- ---- expectations
+
+abbrev pub contract_of : Words → Option Expectation
+contract_of ws = do
+  port ← number_at ws
+  rest ← after_word (codes "at") port.1
+  at ← number_at rest
+  voltage ← optional_span (codes "voltage") at.1
+  current ← optional_span (codes "current") voltage.1
+  alone (expect.Contract port.0 at.0 voltage.0 current.0) current.1
+
+abbrev pub no_contract_of : Words → Option Expectation
+no_contract_of ws = do
+  named ← after_word (codes "contract") ws
+  port ← number_at named
+  rest ← after_word (codes "at") port.1
+  at ← number_at rest
+  alone (expect.NoContract port.0 at.0) at.1
+
+abbrev pub margin_of : Words → Option Expectation
+margin_of ws = do
+  named ← after_word (codes "at_least") ws
+  least ← number_at named
+  alone (expect.Margin least.0) least.1
+
+abbrev pub faults_of : Words → Option Expectation
+faults_of ws = do
+  named ← after_word (codes "none") ws
+  alone expect.NoFaults named
+
+-- what stands in the first quotation marks of a line, and what stands behind them
+abbrev pub quoted : List ℕ → Option (List ℕ × List ℕ)
+quoted line = do
+  opened ← cut 34 line
+  cut 34 opened.1
+
+abbrev pub fault_of : List ℕ → Words → Option Expectation
+fault_of line ws = do
+  port ← number_at ws
+  inside ← quoted line
+  alone (expect.Fault port.0) (words inside.1)
+
+abbrev pub packet_of : Words → Option Expectation
+packet_of ws = do
+  port ← number_at ws
+  named ← next port.1
+  side ← side_named named.0
+  kind ← kind_at named.1
+  between ← after_word (codes "between") kind.1
+  from ← number_at between
+  to ← number_at from.1
+  alone (expect.Packet port.0 side kind.0 from.0 to.0) to.1
+
+abbrev pub expectation_named : List ℕ → List ℕ → Words → Option Expectation
+expectation_named line word ws =
+    if bytes_eq word (codes "contract") then contract_of ws
+    else if bytes_eq word (codes "no") then no_contract_of ws
+    else if bytes_eq word (codes "margin") then margin_of ws
+    else if bytes_eq word (codes "faults") then faults_of ws
+    else if bytes_eq word (codes "fault") then fault_of line ws
+    else if bytes_eq word (codes "packet") then packet_of ws
+    else None
+
+-- what stands behind `expect`
+abbrev pub expectation_of : List ℕ → Words → Option Expectation
+expectation_of line ws = do
+  w ← next ws
+  expectation_named line w.0 w.1
+
+-- what stands behind `lose`
+abbrev pub lost_of : Words → Option Lost
+lost_of ws = do
+  nth ← number_at ws
+  kind ← kind_at nth.1
+  of_it ← after_word (codes "of") kind.1
+  named ← after_word (codes "port") of_it
+  port ← number_at named
+  alone (record { nth = nth.0; kind = kind.0; port = port.0 }) port.1
+
+-- ---- lines
+
+abbrev pub expect_line : Option Expectation → TestLine
+expect_line None = line_is.NoTest
+expect_line (Some expectation) = line_is.Expect expectation
+
+abbrev pub lose_line : Option Lost → TestLine
+lose_line None = line_is.NoTest
+lose_line (Some lost) = line_is.Lose lost
+
+abbrev pub line_named : List ℕ → Option (List ℕ × Words) → TestLine
+line_named line None = line_is.Edit
+line_named line (Some first) =
+    if bytes_eq first.0 (codes "expect") then expect_line (expectation_of line first.1)
+    else if bytes_eq first.0 (codes "lose") then lose_line (lost_of first.1)
+    else line_is.Edit
+
+-- what a line of a test script is; one that begins with neither word is a line of an edit script
+unfoldable pub test_line : List ℕ → TestLine
+test_line line = line_named line (next (words line))

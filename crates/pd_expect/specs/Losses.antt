@@ -1,0 +1,46 @@
+-- A packet that is lost by its name.
+use Rattle.std.specs.Prelude.{◌≡◌, ℕ, zero, suc, Bool, List, slice_get, if◌then◌else◌, MatchBool, Option, Some, None, Result, Ok, Err}
+use Rattle.pd_port.specs.declared.entry.Entry.{Entry}
+use Rattle.pd_run.specs.Shown.{Shows}
+use Rattle.pd_scenario.specs.Plans.{plan_of}
+use Rattle.pd_scenario.specs.Scenarios.{ScenarioData}
+use Rattle.pd_sweep.specs.Choices.{chosen}
+use Rattle.pd_sweep.specs.Trials.{is_hit}
+use Rattle.pd_sweep.specs.Variants.{variant}
+use Rattle.pd_sweep.specs.declared.choice.Choice.{Choice}
+use Rattle.pd_sweep.specs.declared.choice.Loss.TheVariants as harm
+use Rattle.pd_sweep.specs.declared.target.Target.{Target}
+use Rattle.pd_sweep.specs.declared.variant.Obstacle.{Obstacle}
+use Rattle.pd_expect.specs.declared.lines.Lost.{Lost}
+use Rattle.pd_expect.specs.declared.loss.LoseFault.{LoseFault}
+use Rattle.pd_expect.specs.declared.loss.LoseFault.TheVariants as fault
+
+-- the packets of the kind on the port
+abbrev pub choice_of : Lost → Choice
+choice_of lost = record { port = Some lost.port; from = 0; to = 18446744073709551615; kind = Some lost.kind }
+
+-- one of a list, numbered from 1
+abbrev pub nth_of : ℕ → List Target → Option Target
+nth_of zero targets = None
+nth_of (suc before) targets = slice_get targets before
+
+-- the packet that is named, in a run
+abbrev pub lost_packet : Lost → List (ℕ × Entry) → Option Target
+lost_packet lost moves = nth_of lost.nth (chosen (choice_of lost) moves)
+
+-- the scenario in which it is lost, where the event hits it
+abbrev pub LosesIn : Result ScenarioData Obstacle → Target → Result ScenarioData LoseFault → Type 0
+LosesIn (Err obstacle) target outcome = outcome ≡ Err (fault.Barred obstacle)
+LosesIn (Ok after) target outcome =
+    (moves : List (ℕ × Entry)) × Shows (plan_of after) moves
+    × (outcome ≡ (if is_hit target moves then Ok after else Err fault.Missed))
+
+abbrev pub LosesPacket : ℕ → ScenarioData → Option Target → Result ScenarioData LoseFault → Type 0
+LosesPacket n c None outcome = outcome ≡ Err fault.NoPacket
+LosesPacket n c (Some target) outcome =
+    MatchBool target.disturbed (outcome ≡ Err fault.Disturbed) (LosesIn (variant n c harm.Lost target) target outcome)
+
+-- The scenario with the event that loses the packet that is named in its run, or why there is none.
+abbrev pub IsLoss : ℕ → ScenarioData → Lost → Result ScenarioData LoseFault → Type 0
+IsLoss n c lost outcome =
+    (moves : List (ℕ × Entry)) × Shows (plan_of c) moves × LosesPacket n c (lost_packet lost moves) outcome

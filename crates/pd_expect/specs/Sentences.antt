@@ -1,0 +1,113 @@
+-- What an expectation says of a run, and when it is met.
+use Rattle.std.specs.Prelude.{◌≡◌, ℕ, ◌==◌, ◌&&◌, nat_le, Bool, true, false, List, [], fold, if◌then◌else◌, bytes_eq, Option, Some, None}
+use Rattle.std.specs.List.{list_any}
+use Rattle.pd_header.specs.declared.kind.Kind.{Kind}
+use Rattle.pd_header.specs.declared.side.Side.{Side}
+use Rattle.pd_header.specs.Kinds.{kind_of_header, name_of}
+use Rattle.pd_tell.specs.Words.{side_words}
+use Rattle.pd_objects.specs.declared.contract.Contract.{Contract}
+use Rattle.pd_line.specs.declared.notes.Fault.{Fault}
+use Rattle.pd_line.specs.declared.notes.Start.{Start}
+use Rattle.pd_line.specs.declared.notes.Start.TheVariants as start
+use Rattle.pd_port.specs.declared.entry.ContractChange.{ContractChange}
+use Rattle.pd_port.specs.declared.entry.Entry.{Entry}
+use Rattle.pd_scenario.specs.Limits.{is_port}
+use Rattle.pd_scenario.specs.Plan.{Plan}
+use Rattle.pd_report.specs.FaultLines.{fault_words}
+use Rattle.pd_report.specs.LeastMargin.{IsLeastMargin}
+use Rattle.pd_sweep.specs.Summaries.{contract_left, mishaps_of}
+use Rattle.pd_expect.specs.Lines.{quoted}
+use Rattle.pd_expect.specs.declared.found.Found.{Found}
+use Rattle.pd_expect.specs.declared.found.Found.TheVariants as found
+use Rattle.pd_expect.specs.declared.lines.Expectation.{Expectation}
+use Rattle.pd_expect.specs.declared.lines.Expectation.TheVariants as expect
+use Rattle.pd_expect.specs.declared.span.Span.{Span}
+
+abbrev pub Moves : Type 0
+Moves = List (ℕ × Entry)
+
+abbrev pub is_within : Span → ℕ → Bool
+is_within span n = nat_le span.from n && nat_le n span.to
+
+-- ---- contracts
+
+abbrev pub left_by : Option Contract → Option ContractChange → Option Contract
+left_by stood None = stood
+left_by stood (Some change) = contract_left change
+
+-- an entry of the port up to a time may change its contract
+abbrev pub stands_after : ℕ → ℕ → Option Contract → ℕ × Entry → Option Contract
+stands_after port at stood move = if move.0 == port && nat_le move.1.at at then left_by stood move.1.contract else stood
+
+-- the contract of a port at the end of an instant, the ports being numbered from 1
+abbrev pub contract_at : ℕ → ℕ → Moves → Option Contract
+contract_at port at moves = fold (stands_after port at) None moves
+
+-- ---- faults
+
+-- such a thing goes wrong on the port, in the words of the show of faults
+abbrev pub has_fault : ℕ → List ℕ → ℕ × Entry → Bool
+has_fault port words move = move.0 == port && list_any (λ fault. bytes_eq (fault_words fault) words) move.1.faults.items
+
+-- what stands in the quotation marks of a line, and nothing where it has none
+abbrev pub words_of : Option (List ℕ × List ℕ) → List ℕ
+words_of None = []
+words_of (Some it) = it.0
+
+-- ---- packets
+
+-- a packet of this side and kind starts
+abbrev pub starts : Side → Kind → Option Start → Bool
+starts side kind None = false
+starts side kind (Some (start.HardReset other)) = false
+starts side kind (Some (start.Packet other packet fate)) =
+    bytes_eq (side_words other) (side_words side) && bytes_eq (name_of (kind_of_header packet.header)) (name_of kind)
+
+abbrev pub has_packet : ℕ → Side → Kind → ℕ → ℕ → ℕ × Entry → Bool
+has_packet port side kind from to move =
+    (move.0 == port && (nat_le from move.1.at && nat_le move.1.at to)) && starts side kind move.1.start
+
+-- ---- what a run has of what is expected
+abbrev pub IsFound : Plan → Moves → List ℕ → Expectation → Found → Type 0
+IsFound plan moves line (expect.Contract port at voltage current) (found.Contract stands) = stands ≡ contract_at port at moves
+IsFound plan moves line (expect.NoContract port at) (found.Contract stands) = stands ≡ contract_at port at moves
+IsFound plan moves line (expect.Margin least) (found.Least margin) = IsLeastMargin plan moves margin
+IsFound plan moves line expect.NoFaults (found.Faults count) = count ≡ (mishaps_of moves).faults
+IsFound plan moves line (expect.Fault port) (found.Fault there) = there ≡ list_any (has_fault port (words_of (quoted line))) moves
+IsFound plan moves line (expect.Packet port side kind from to) (found.Packet there) =
+    there ≡ list_any (has_packet port side kind from to) moves
+IsFound plan moves line _ _ = ⊥
+
+-- ---- whether that is what is expected
+
+abbrev pub is_such : Span → Span → Option Contract → Bool
+is_such voltage current None = false
+is_such voltage current (Some c) = is_within voltage c.mv && is_within current c.ma
+
+abbrev pub is_none : Option Contract → Bool
+is_none None = true
+is_none (Some c) = false
+
+abbrev pub is_met : Expectation → Found → Bool
+is_met (expect.Contract port at voltage current) (found.Contract stands) = is_such voltage current stands
+is_met (expect.NoContract port at) (found.Contract stands) = is_none stands
+is_met (expect.Margin least) (found.Least margin) = nat_le least margin.left
+is_met expect.NoFaults (found.Faults count) = count == 0
+is_met (expect.Fault port) (found.Fault there) = there
+is_met (expect.Packet port side kind from to) (found.Packet there) = there
+is_met _ _ = false
+
+-- ---- ports
+
+-- the port that an expectation names
+abbrev pub port_of : Expectation → Option ℕ
+port_of (expect.Contract port at voltage current) = Some port
+port_of (expect.NoContract port at) = Some port
+port_of (expect.Margin least) = None
+port_of expect.NoFaults = None
+port_of (expect.Fault port) = Some port
+port_of (expect.Packet port side kind from to) = Some port
+
+abbrev pub unknown_port : ℕ → Option ℕ → Option ℕ
+unknown_port n None = None
+unknown_port n (Some port) = if is_port n port then None else Some port

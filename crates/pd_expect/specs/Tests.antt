@@ -1,0 +1,95 @@
+-- What a test script comes to.
+use Rattle.std.specs.Prelude.{◌≡◌, ℕ, ◌+◌, List, [], ◌∷◌, ◌++◌, if◌then◌else◌, Option, Some, None, Result, Ok, Err}
+use Rattle.pd_port.specs.declared.entry.Entry.{Entry}
+use Rattle.pd_run.specs.Shown.{Shows}
+use Rattle.pd_scenario.specs.Plans.{plan_of}
+use Rattle.pd_scenario.specs.Scenarios.{ScenarioData}
+use Rattle.pd_explain.specs.Sentences.{sentence}
+use Rattle.pd_explain.specs.declared.place.Place.TheVariants as place
+use Rattle.pd_script.specs.Script.{after_line, at_line, line_text, reason_line}
+use Rattle.pd_expect.specs.Lines.{test_line}
+use Rattle.pd_expect.specs.Losses.{IsLoss}
+use Rattle.pd_expect.specs.Sentences.{IsFound, is_met, port_of, unknown_port}
+use Rattle.pd_expect.specs.Words.{failure_line, loss_line, no_test_line}
+use Rattle.pd_expect.specs.declared.found.Found.{Found}
+use Rattle.pd_expect.specs.declared.lines.Expectation.{Expectation}
+use Rattle.pd_expect.specs.declared.lines.Lost.{Lost}
+use Rattle.pd_expect.specs.declared.lines.TestLine.{TestLine}
+use Rattle.pd_expect.specs.declared.lines.TestLine.TheVariants as line_is
+use Rattle.pd_expect.specs.declared.loss.LoseFault.{LoseFault}
+use Rattle.pd_expect.specs.declared.tally.TestTally.{TestTally}
+
+-- ---- counts
+
+abbrev pub no_test : TestTally
+no_test = record { passed = 0; failed = 0; refused = 0 }
+
+abbrev pub one_passed : TestTally → TestTally
+one_passed t = record t { passed = t.passed + 1 }
+
+abbrev pub one_failed : TestTally → TestTally
+one_failed t = record t { failed = t.failed + 1 }
+
+abbrev pub one_refused : TestTally → TestTally
+one_refused t = record t { refused = t.refused + 1 }
+
+-- how many lines were answered
+abbrev pub answered : TestTally → ℕ
+answered t = t.passed + t.failed + t.refused
+
+-- a line of which something is said is refused
+abbrev pub counted_by : List ℕ → TestTally → TestTally
+counted_by [] tally = tally
+counted_by (byte ∷ more) tally = one_refused tally
+
+-- ---- what a line comes to: what is said of it, the counts after it, and the scenario after it
+pub record Answer : Type 0 where
+  pub said : List ℕ
+  pub tally : TestTally
+  pub after : ScenarioData
+
+-- an expectation that is met is passed over in silence
+abbrev pub judged : ScenarioData → List ℕ → List ℕ → TestTally → Expectation → Found → Answer
+judged c at line tally expectation what =
+    if is_met expectation what then record { said = []; tally = one_passed tally; after = c }
+    else record { said = failure_line at line what; tally = one_failed tally; after = c }
+
+-- it is held against the run of the scenario as edited by then
+abbrev pub Judges : ScenarioData → List ℕ → List ℕ → TestTally → Expectation → Answer → Type 0
+Judges c at line tally expectation answer =
+    (moves : List (ℕ × Entry)) × Shows (plan_of c) moves × (what : Found) × IsFound (plan_of c) moves line expectation what
+    × (answer ≡ judged c at line tally expectation what)
+
+-- one of a port that isn't there is refused
+abbrev pub Expects : ℕ → ScenarioData → List ℕ → List ℕ → TestTally → Expectation → Option ℕ → Answer → Type 0
+Expects n c at line tally expectation None answer = Judges c at line tally expectation answer
+Expects n c at line tally expectation (Some port) answer =
+    answer ≡ record { said = reason_line at 23 (sentence n c (place.Port port)); tally = one_refused tally; after = c }
+
+abbrev pub lost_answer : ScenarioData → List ℕ → TestTally → Result ScenarioData LoseFault → Answer
+lost_answer c at tally (Ok after) = record { said = []; tally = tally; after = after }
+lost_answer c at tally (Err why) = record { said = loss_line at why; tally = one_refused tally; after = c }
+
+abbrev pub Loses : ℕ → ScenarioData → List ℕ → TestTally → Lost → Answer → Type 0
+Loses n c at tally lost answer =
+    (outcome : Result ScenarioData LoseFault) × IsLoss n c lost outcome × (answer ≡ lost_answer c at tally outcome)
+
+abbrev pub AnswersAs : ℕ → ScenarioData → List ℕ → List ℕ → TestTally → TestLine → Answer → Type 0
+AnswersAs n c at line tally line_is.Edit answer =
+    answer ≡ record { said = line_text at n c line; tally = counted_by (line_text at n c line) tally; after = after_line n c line }
+AnswersAs n c at line tally (line_is.Expect expectation) answer =
+    Expects n c at line tally expectation (unknown_port n (port_of expectation)) answer
+AnswersAs n c at line tally (line_is.Lose lost) answer = Loses n c at tally lost answer
+AnswersAs n c at line tally line_is.NoTest answer =
+    answer ≡ record { said = no_test_line at; tally = one_refused tally; after = c }
+
+-- what a line of a script comes to, of the scenario as edited by then
+abbrev pub IsAnswer : ℕ → ScenarioData → List ℕ → List ℕ → TestTally → Answer → Type 0
+IsAnswer n c at line tally answer = AnswersAs n c at line tally (test_line line) answer
+
+-- ---- what the lines come to, one after the other; the first has this number
+unfoldable pub Tests : ℕ → ScenarioData → List ℕ → ℕ → TestTally → List (List ℕ) → List ℕ → TestTally → Type 0
+Tests n c name number tally [] text end = (text ≡ []) × (end ≡ tally)
+Tests n c name number tally (line ∷ lines) text end =
+    (answer : Answer) × (rest : List ℕ) × IsAnswer n c (at_line name number) line tally answer
+    × Tests n answer.after name (number + 1) answer.tally lines rest end × (text ≡ answer.said ++ rest)

@@ -1,0 +1,63 @@
+-- What is said of a line of a test script: this product's own form, docs/FORMATS.md, "Tests".
+use Rattle.std.specs.Prelude.{ℕ, zero, suc, List, [], ◌∷◌, ◌++◌, codes, decimal, Option, Some, None}
+use Rattle.pd_objects.specs.declared.contract.Contract.{Contract}
+use Rattle.pd_sweep.specs.Words.{obstacle_words}
+use Rattle.pd_expect.specs.declared.found.Found.{Found}
+use Rattle.pd_expect.specs.declared.found.Found.TheVariants as found
+use Rattle.pd_expect.specs.declared.loss.LoseFault.{LoseFault}
+use Rattle.pd_expect.specs.declared.loss.LoseFault.TheVariants as fault
+use Rattle.pd_expect.specs.declared.tally.TestTally.{TestTally}
+
+-- a contract, as in the show of contracts
+abbrev pub known_words : ℕ → ℕ → ℕ → List ℕ
+known_words position mv ma =
+    codes "contract " ++ (decimal position ++ (32 ∷ (decimal mv ++ (codes " mV " ++ (decimal ma ++ codes " mA")))))
+
+abbrev pub contract_words : Option Contract → List ℕ
+contract_words None = codes "no contract"
+contract_words (Some c) = known_words c.position c.mv c.ma
+
+-- what there is in place of what is expected
+unfoldable pub found_words : Found → List ℕ
+found_words (found.Contract stands) = contract_words stands
+found_words (found.Least margin) = codes "margin " ++ (decimal margin.left ++ (codes " at " ++ decimal margin.at))
+found_words (found.Faults count) = decimal count ++ codes " faults"
+found_words (found.Fault there) = codes "no such fault"
+found_words (found.Packet there) = codes "no such packet"
+
+-- an expectation that isn't met: where its line stands, the line, and what there is
+unfoldable pub failure_line : List ℕ → List ℕ → Found → List ℕ
+failure_line at line what = at ++ (codes "failed: " ++ (line ++ (codes "; there is " ++ (found_words what ++ 10 ∷ []))))
+
+-- what may stand behind `expect`
+abbrev pub contract_forms : List ℕ
+contract_forms = codes "`expect contract PORT at TIME [voltage RANGE] [current RANGE]`, `expect no contract PORT at TIME`, "
+
+abbrev pub other_forms : List ℕ
+other_forms = codes "`expect margin at_least MICROWATTS`, `expect faults none`, `expect fault PORT \"WORDS\"`, "
+
+abbrev pub packet_forms : List ℕ
+packet_forms = codes "`expect packet PORT SIDE NAME between FROM TO` or `lose NTH NAME of port PORT`\n"
+
+-- a line that begins as one of a test, and is none
+unfoldable pub no_test_line : List ℕ → List ℕ
+no_test_line at = at ++ (codes "refused 20: expected " ++ (contract_forms ++ (other_forms ++ packet_forms)))
+
+-- why a packet isn't lost
+abbrev pub loss_words : LoseFault → List ℕ
+loss_words fault.NoPacket = codes "not lost: there is no such packet\n"
+loss_words fault.Disturbed = codes "not lost: the scenario disturbs that packet already\n"
+loss_words fault.Missed = codes "not lost: the event doesn't hit that packet\n"
+loss_words (fault.Barred obstacle) = obstacle_words obstacle ++ codes "\n"
+
+unfoldable pub loss_line : List ℕ → LoseFault → List ℕ
+loss_line at why = at ++ loss_words why
+
+-- what all lines come to
+abbrev pub refused_words : ℕ → List ℕ
+refused_words zero = codes "\n"
+refused_words (suc n) = codes ", " ++ (decimal (suc n) ++ codes " refused\n")
+
+unfoldable pub tally_words : TestTally → List ℕ
+tally_words tally =
+    decimal tally.passed ++ (codes " passed, " ++ (decimal tally.failed ++ (codes " failed" ++ refused_words tally.refused)))

@@ -1,0 +1,125 @@
+//! What a run has of what is expected.
+
+ghost use Rattle.std.specs.Prelude.{◌≡◌};
+ghost use Rattle.pd_scenario.specs.Plans.{plan_of};
+ghost use Rattle.pd_expect.specs.Lines.{quoted};
+ghost use Rattle.pd_expect.specs.Sentences.{IsFound, is_met, is_none, is_such, port_of, words_of};
+
+use crate::contract::contract_at;
+use crate::lines::{Expectation, quoted};
+use crate::seek::{Sought, has_fault};
+use crate::span::Span;
+use pd_objects::Contract;
+use pd_report::{Margin, least_margin};
+use pd_run::Runner;
+use pd_scenario::Scenario;
+use pd_sweep::summary_of;
+
+/// What a run has of what is expected.
+#[derive(Clone, Copy, Debug)]
+pub enum Found {
+    /// The contract of the port at the end of that instant.
+    Contract(Option<Contract>),
+    /// The least that the contracts leave of the budget.
+    Least(Margin),
+    /// So many faults.
+    Faults(u128),
+    /// Whether the port has such a fault.
+    Fault(bool),
+    /// Whether such a packet starts.
+    Packet(bool),
+}
+
+/// What stands in the quotation marks of a line, and nothing where it has none.
+fn words_of(line: &[u8]) -> &[u8]
+    ensures { result.now ≡ words_of (quoted line.now) }
+{
+    match quoted(line) {
+        Some((words, _)) => words,
+        None => b"",
+    }
+}
+
+impl Expectation {
+    /// What a run has of what is expected by a line.
+    pub(crate) fn found<const N: usize, T: Runner<N>>(
+        &self,
+        run: &T,
+        scenario: &Scenario<N>,
+        line: &[u8],
+    ) -> Found
+        ensures { IsFound (plan_of scenario.now) (T.entries run.now) line.now self.now result }
+    {
+        match *self {
+            Expectation::Contract { port, at, .. } | Expectation::NoContract { port, at } => {
+                Found::Contract(contract_at(run, port, at))
+            }
+            Expectation::Margin { .. } => Found::Least(least_margin(run, scenario)),
+            Expectation::NoFaults => Found::Faults(summary_of(run).mishaps.faults),
+            Expectation::Fault { port } => Found::Fault(has_fault(run, port, words_of(line))),
+            Expectation::Packet {
+                port,
+                side,
+                kind,
+                from,
+                to,
+            } => {
+                let sought = Sought {
+                    port,
+                    side,
+                    kind,
+                    from,
+                    to,
+                };
+                Found::Packet(sought.is_in(run))
+            }
+        }
+    }
+
+    /// Whether what a run has is what is expected.
+    pub(crate) fn is_met(&self, found: &Found) -> bool
+        ensures { result ≡ is_met self.now found.now }
+    {
+        match (*self, *found) {
+            (
+                Expectation::Contract {
+                    voltage,
+                    current,
+                    ..
+                },
+                Found::Contract(stands),
+            ) => is_such(voltage, current, stands),
+            (Expectation::NoContract { .. }, Found::Contract(stands)) => stands.is_none(),
+            (Expectation::Margin { least }, Found::Least(margin)) => least <= margin.left,
+            (Expectation::NoFaults, Found::Faults(count)) => count == 0,
+            (Expectation::Fault { .. }, Found::Fault(there))
+            | (Expectation::Packet { .. }, Found::Packet(there)) => there,
+            _ => false,
+        }
+    }
+
+    /// The port that is named.
+    pub(crate) fn port(&self) -> Option<u64>
+        ensures { result ≡ port_of self.now }
+    {
+        match *self {
+            Expectation::Contract { port, .. }
+            | Expectation::NoContract { port, .. }
+            | Expectation::Fault { port }
+            | Expectation::Packet { port, .. } => Some(port),
+            Expectation::Margin { .. } | Expectation::NoFaults => None,
+        }
+    }
+}
+
+/// Whether a contract is of such a voltage and such a current.
+fn is_such(voltage: Span, current: Span, stands: Option<Contract>) -> bool
+    ensures { result ≡ is_such voltage current stands }
+{
+    match stands {
+        None => false,
+        Some(contract) => {
+            voltage.has(u64::from(contract.mv)) && current.has(u64::from(contract.ma))
+        }
+    }
+}

@@ -1,0 +1,22 @@
+//! Test scripts: what is expected of the runs of a scenario, and whether it is so.
+#![tactic(auto)]
+
+mod contract;
+mod found;
+pub mod laws;
+mod lines;
+mod loss;
+mod script;
+mod seek;
+mod span;
+mod tally;
+mod texts;
+mod words;
+
+pub use found::Found;
+pub use lines::{Expectation, Lost, TestLine};
+pub use loss::{LoseFault, lose};
+pub use script::{TestReport, test_lines};
+pub use span::Span;
+pub use tally::TestTally;
+pub use texts::{TestFault, scenario_name, test_text};

@@ -1,0 +1,242 @@
+//! The lines of a test script, one after the other.
+
+ghost use Rattle.std.specs.Prelude.{◌≡◌, ◌+◌, ◌-◌, ◌<◌, ◌≤◌, ◌^◌, ◌++◌, IfOk, OnOk};
+ghost use Rattle.std.specs.Str.Lines.{lines};
+ghost use Rattle.pd_explain.specs.Sentences.{sentence};
+ghost use Rattle.pd_explain.specs.declared.place.Place.TheVariants.{Port as port_place};
+ghost use Rattle.pd_script.specs.Script.{reason_line};
+ghost use Rattle.pd_expect.specs.Sentences.{port_of, unknown_port};
+ghost use Rattle.pd_expect.specs.Tests.{AnswersAs, Expects, IsAnswer, Judges, Loses, Tests, answered, no_test, one_refused};
+ghost use Rattle.pd_expect.specs.Words.{no_test_line};
+ghost use Rattle.pd_expect.specs.declared.lines.TestLine.TheVariants.{Edit as line_is_edit};
+
+use crate::lines::{Expectation, Lost, TestLine};
+use crate::loss::lose;
+use crate::tally::TestTally;
+use crate::words::{push_failure, push_loss, push_no_test};
+use pd_explain::{Place, is_port, push_sentence};
+use pd_port::Meter;
+use pd_run::Runner;
+use pd_scenario::Scenario;
+use pd_script::{at_line, explain_line, first_line};
+use pd_tell::push_number;
+use std::alloc::{AllocError, Global};
+
+/// What is said of the lines of a test script, and how they count.
+#[derive(Drop)]
+pub struct TestReport {
+    pub text: Vec<u8>,
+    pub tally: TestTally,
+}
+
+/// The port among those that an expectation names that isn't there.
+fn unknown_port(ports: usize, port: Option<u64>) -> Option<u64>
+    ensures { result ≡ unknown_port ports port }
+{
+    match port {
+        Some(port) if !is_port(ports, port) => Some(port),
+        _ => None,
+    }
+}
+
+/// Writes that no port has a number.
+#[tactic(auto, unfolding(pd_script::specs::Script::reason_line))]
+fn push_no_port<const N: usize>(
+    text: &mut Vec<u8>,
+    at: &[u8],
+    scenario: &Scenario<N>,
+    port: u64,
+) -> Result<(), AllocError>
+    ensures { OnOk result (text.new.items ≡ text.old.items ++ reason_line at.now 23 (sentence N scenario.now (port_place port))) }
+{
+    text.extend_from_slice(at)?;
+    text.extend_from_slice(b"refused ")?;
+    push_number(text, 23)?;
+    text.extend_from_slice(b": ")?;
+    push_sentence(text, scenario, &Place::Port { port })?;
+    text.push(b'\n')?;
+    Ok(())
+}
+
+/// Makes the edit of a line, or says why it is refused.
+fn edit<const N: usize>(
+    alloc: Global,
+    scenario: &mut Scenario<N>,
+    at: &[u8],
+    line: &[u8],
+    tally: TestTally,
+) -> Result<TestReport, AllocError>
+    requires room { answered tally < 2 ^ 64 - 1 }
+    ensures value { IfOk result (λ report. AnswersAs N scenario.old at.now line.now tally line_is_edit
+        (record { said = report.text.items; tally = report.tally; after = scenario.new })) }
+    ensures room { IfOk result (λ report. answered report.tally ≤ answered tally + 1) }
+{
+    let mut text = Vec::new(alloc);
+    explain_line(alloc, &mut text, at, scenario, line)?;
+    let tally = tally.counted_by(text.as_slice());
+    Ok(TestReport { text, tally })
+}
+
+/// Holds an expectation against the run of a scenario.
+fn judge<const N: usize, T: Runner<N>>(
+    alloc: Global,
+    run: &mut T,
+    scenario: &Scenario<N>,
+    at: &[u8],
+    line: &[u8],
+    expectation: &Expectation,
+    tally: TestTally,
+    meter: &mut Meter,
+) -> Result<TestReport, AllocError>
+    requires room { answered tally < 2 ^ 64 - 1 }
+    ensures value { IfOk result (λ report. Judges scenario.now at.now line.now tally expectation.now
+        (record { said = report.text.items; tally = report.tally; after = scenario.now })) }
+    ensures room { IfOk result (λ report. answered report.tally ≤ answered tally + 1) }
+{
+    run.replace(alloc, scenario, meter)?;
+    let found = expectation.found(run, scenario, line);
+    let mut text = Vec::new(alloc);
+    if expectation.is_met(&found) {
+        let tally = tally.one_passed();
+        return Ok(TestReport { text, tally });
+    }
+    push_failure(&mut text, at, line, &found)?;
+    let tally = tally.one_failed();
+    Ok(TestReport { text, tally })
+}
+
+/// Holds an expectation against the run of a scenario, where the port that it names is there.
+fn expect<const N: usize, T: Runner<N>>(
+    alloc: Global,
+    run: &mut T,
+    scenario: &Scenario<N>,
+    at: &[u8],
+    line: &[u8],
+    expectation: &Expectation,
+    tally: TestTally,
+    meter: &mut Meter,
+) -> Result<TestReport, AllocError>
+    requires room { answered tally < 2 ^ 64 - 1 }
+    ensures value { IfOk result (λ report. Expects N scenario.now at.now line.now tally expectation.now
+        (unknown_port N (port_of expectation.now))
+        (record { said = report.text.items; tally = report.tally; after = scenario.now })) }
+    ensures room { IfOk result (λ report. answered report.tally ≤ answered tally + 1) }
+{
+    match unknown_port(N, expectation.port()) {
+        None => judge(alloc, run, scenario, at, line, expectation, tally, meter),
+        Some(port) => {
+            let mut text = Vec::new(alloc);
+            push_no_port(&mut text, at, scenario, port)?;
+            let tally = tally.one_refused();
+            Ok(TestReport { text, tally })
+        }
+    }
+}
+
+/// Loses the packet that a line names, or says why it can't be.
+fn lose_named<const N: usize, T: Runner<N>>(
+    alloc: Global,
+    run: &mut T,
+    scenario: &mut Scenario<N>,
+    at: &[u8],
+    lost: &Lost,
+    tally: TestTally,
+    meter: &mut Meter,
+) -> Result<TestReport, AllocError>
+    requires room { answered tally < 2 ^ 64 - 1 }
+    ensures value { IfOk result (λ report. Loses N scenario.old at.now tally lost.now
+        (record { said = report.text.items; tally = report.tally; after = scenario.new })) }
+    ensures room { IfOk result (λ report. answered report.tally ≤ answered tally + 1) }
+{
+    let mut text = Vec::new(alloc);
+    match lose(alloc, run, scenario, lost, meter) {
+        Ok(Ok(after)) => {
+            *scenario = after;
+            Ok(TestReport { text, tally })
+        }
+        Ok(Err(fault)) => {
+            push_loss(&mut text, at, &fault)?;
+            let tally = tally.one_refused();
+            Ok(TestReport { text, tally })
+        }
+        Err(_) => Err(AllocError),
+    }
+}
+
+/// Says that a line is none of a test script.
+fn refuse(alloc: Global, at: &[u8], tally: TestTally) -> Result<TestReport, AllocError>
+    requires room { answered tally < 2 ^ 64 - 1 }
+    ensures text { IfOk result (λ report. report.text.items ≡ no_test_line at.now) }
+    ensures tally { IfOk result (λ report. report.tally ≡ one_refused tally) }
+    ensures room { IfOk result (λ report. answered report.tally ≤ answered tally + 1) }
+{
+    let mut text = Vec::new(alloc);
+    push_no_test(&mut text, at)?;
+    let tally = tally.one_refused();
+    Ok(TestReport { text, tally })
+}
+
+/// What a line of a test script comes to.
+fn answer_line<const N: usize, T: Runner<N>>(
+    alloc: Global,
+    run: &mut T,
+    scenario: &mut Scenario<N>,
+    at: &[u8],
+    line: &[u8],
+    tally: TestTally,
+    meter: &mut Meter,
+) -> Result<TestReport, AllocError>
+    requires room { answered tally < 2 ^ 64 - 1 }
+    ensures value { IfOk result (λ report. IsAnswer N scenario.old at.now line.now tally
+        (record { said = report.text.items; tally = report.tally; after = scenario.new })) }
+    ensures room { IfOk result (λ report. answered report.tally ≤ answered tally + 1) }
+{
+    match TestLine::read(line) {
+        TestLine::Edit => edit(alloc, scenario, at, line, tally),
+        TestLine::Expect(expectation) => {
+            expect(alloc, run, scenario, at, line, &expectation, tally, meter)
+        }
+        TestLine::Lose(lost) => lose_named(alloc, run, scenario, at, &lost, tally, meter),
+        TestLine::NoTest => refuse(alloc, at, tally),
+    }
+}
+
+/// Goes through the lines of a test script, each with the scenario as edited by then: makes edits, loses packets that are named,
+/// and holds what is expected against the run. Says of each line that fails or is refused why, behind the script's name and the
+/// number of the line.
+///
+/// # Errors
+/// There is no memory.
+pub fn test_lines<const N: usize, T: Runner<N>>(
+    alloc: Global,
+    run: &mut T,
+    scenario: Scenario<N>,
+    name: &[u8],
+    script: &[u8],
+) -> Result<TestReport, AllocError>
+    ensures { IfOk result (λ report. Tests N scenario.entry name.now 1 no_test (lines script.now) report.text.items report.tally) }
+{
+    let mut scenario = scenario;
+    let mut text = Vec::new(alloc);
+    let mut tally = TestTally::none();
+    let mut meter = Meter::new();
+    let mut rest = script;
+    let mut number = 1;
+    while let Some((line, others)) = first_line(rest) {
+        let at = at_line(alloc, name, number)?;
+        let answer = answer_line(
+            alloc,
+            run,
+            &mut scenario,
+            at.as_slice(),
+            line,
+            tally,
+            &mut meter,
+        )?;
+        text.extend_from_slice(answer.text.as_slice())?;
+        tally = answer.tally;
+        rest = others;
+        number += 1;
+    }
+    Ok(TestReport { text, tally })
+}

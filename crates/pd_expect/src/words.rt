@@ -1,0 +1,144 @@
+//! What is said of a line of a test script.
+
+ghost use Rattle.std.specs.Prelude.{◌≡◌, ◌++◌, OnOk, decimal};
+ghost use Rattle.pd_sweep.specs.Words.{obstacle_words};
+ghost use Rattle.pd_expect.specs.Words.{contract_words, failure_line, found_words, known_words, loss_line, loss_words, no_test_line};
+
+use crate::found::Found;
+use crate::loss::LoseFault;
+use itoa::Buffer;
+use pd_objects::Contract;
+use pd_sweep::push_obstacle;
+use pd_tell::push_number;
+use std::alloc::AllocError;
+
+/// What may stand behind `expect`, of contracts.
+const CONTRACT_FORMS: &[u8] =
+    b"`expect contract PORT at TIME [voltage RANGE] [current RANGE]`, `expect no contract PORT at TIME`, ";
+
+/// What else may stand there.
+const OTHER_FORMS: &[u8] =
+    b"`expect margin at_least MICROWATTS`, `expect faults none`, `expect fault PORT \"WORDS\"`, ";
+
+/// What may stand there of packets, and behind `lose`.
+const PACKET_FORMS: &[u8] =
+    b"`expect packet PORT SIDE NAME between FROM TO` or `lose NTH NAME of port PORT`\n";
+
+/// Writes a contract by its position, its voltage in millivolts and its current in milliamperes.
+fn push_known(text: &mut Vec<u8>, position: u64, mv: u64, ma: u64) -> Result<(), AllocError>
+    ensures { OnOk result (text.new.items ≡ text.old.items ++ known_words position mv ma) }
+{
+    text.extend_from_slice(b"contract ")?;
+    push_number(text, position)?;
+    text.push(b' ')?;
+    push_number(text, mv)?;
+    text.extend_from_slice(b" mV ")?;
+    push_number(text, ma)?;
+    text.extend_from_slice(b" mA")?;
+    Ok(())
+}
+
+/// Writes a contract, or that there is none.
+fn push_contract(text: &mut Vec<u8>, stands: &Option<Contract>) -> Result<(), AllocError>
+    ensures { OnOk result (text.new.items ≡ text.old.items ++ contract_words stands.now) }
+{
+    match stands {
+        None => text.extend_from_slice(b"no contract"),
+        Some(contract) => push_known(
+            text,
+            u64::from(contract.position),
+            u64::from(contract.mv),
+            u64::from(contract.ma),
+        ),
+    }
+}
+
+/// Writes a wide number in decimal digits.
+fn push_wide(text: &mut Vec<u8>, number: u128) -> Result<(), AllocError>
+    ensures { OnOk result (text.new.items ≡ text.old.items ++ decimal number) }
+{
+    let mut buffer = Buffer::new();
+    text.extend_from_slice(buffer.format(number).as_bytes())
+}
+
+/// Writes what there is in place of what is expected.
+#[tactic(auto, unfolding(crate::specs::Words::found_words))]
+fn push_found(text: &mut Vec<u8>, found: &Found) -> Result<(), AllocError>
+    ensures { OnOk result (text.new.items ≡ text.old.items ++ found_words found.now) }
+{
+    match found {
+        Found::Contract(stands) => push_contract(text, stands),
+        Found::Least(margin) => {
+            text.extend_from_slice(b"margin ")?;
+            push_number(text, margin.left)?;
+            text.extend_from_slice(b" at ")?;
+            push_number(text, margin.at)
+        }
+        Found::Faults(count) => {
+            push_wide(text, *count)?;
+            text.extend_from_slice(b" faults")
+        }
+        Found::Fault(_) => text.extend_from_slice(b"no such fault"),
+        Found::Packet(_) => text.extend_from_slice(b"no such packet"),
+    }
+}
+
+/// Writes that an expectation isn't met: where its line stands, the line, and what there is.
+#[tactic(auto, unfolding(crate::specs::Words::failure_line))]
+pub(crate) fn push_failure(
+    text: &mut Vec<u8>,
+    at: &[u8],
+    line: &[u8],
+    found: &Found,
+) -> Result<(), AllocError>
+    ensures { OnOk result (text.new.items ≡ text.old.items ++ failure_line at.now line.now found.now) }
+{
+    text.extend_from_slice(at)?;
+    text.extend_from_slice(b"failed: ")?;
+    text.extend_from_slice(line)?;
+    text.extend_from_slice(b"; there is ")?;
+    push_found(text, found)?;
+    text.push(b'\n')?;
+    Ok(())
+}
+
+/// Writes what may stand where a line is none of a test script.
+#[tactic(auto, unfolding(crate::specs::Words::no_test_line))]
+pub(crate) fn push_no_test(text: &mut Vec<u8>, at: &[u8]) -> Result<(), AllocError>
+    ensures { OnOk result (text.new.items ≡ text.old.items ++ no_test_line at.now) }
+{
+    text.extend_from_slice(at)?;
+    text.extend_from_slice(b"refused 20: expected ")?;
+    text.extend_from_slice(CONTRACT_FORMS)?;
+    text.extend_from_slice(OTHER_FORMS)?;
+    text.extend_from_slice(PACKET_FORMS)?;
+    Ok(())
+}
+
+/// Writes why a packet isn't lost.
+fn push_fault(text: &mut Vec<u8>, fault: &LoseFault) -> Result<(), AllocError>
+    ensures { OnOk result (text.new.items ≡ text.old.items ++ loss_words fault.now) }
+{
+    match fault {
+        LoseFault::NoPacket => text.extend_from_slice(b"not lost: there is no such packet\n"),
+        LoseFault::Disturbed => {
+            text.extend_from_slice(b"not lost: the scenario disturbs that packet already\n")
+        }
+        LoseFault::Missed => {
+            text.extend_from_slice(b"not lost: the event doesn't hit that packet\n")
+        }
+        LoseFault::Barred(obstacle) => {
+            push_obstacle(text, obstacle)?;
+            text.extend_from_slice(b"\n")
+        }
+    }
+}
+
+/// Writes where a line stands, and why its packet isn't lost.
+#[tactic(auto, unfolding(crate::specs::Words::loss_line))]
+pub(crate) fn push_loss(text: &mut Vec<u8>, at: &[u8], fault: &LoseFault) -> Result<(), AllocError>
+    ensures { OnOk result (text.new.items ≡ text.old.items ++ loss_line at.now fault.now) }
+{
+    text.extend_from_slice(at)?;
+    push_fault(text, fault)
+}
