@@ -1,20 +1,23 @@
-//! The engineer's desk as a program: `pdlab live`, `pdlab show`, `pdlab why`, `pdlab sweep`, `pdlab explain` and `pdlab decode`.
+//! The engineer's desk as a program: `pdlab live`, `show`, `why`, `sweep`, `test`, `draw`, `explain` and `decode`.
 #![tactic(auto)]
 
 mod at_keyboard;
 mod bounds;
+mod drawn;
 mod explained;
 mod fault;
 mod log;
 mod script_file;
 mod shown;
 mod swept;
+mod tested;
 mod words;
 
 use at_keyboard::live;
 use bounds::{bounds, question_of};
 use clap::ArgMatches;
 use clap::error::ErrorKind;
+use drawn::{drawn, look_of};
 use explained::explained;
 use fault::tell;
 use log::decode;
@@ -26,6 +29,7 @@ use std::process::ExitCode;
 use std::rt::{Env, Files};
 use std::{env, io};
 use swept::{OrderFault, order_of, swept, tell_no_kind};
+use tested::tested;
 use words::{USAGE, command, help_of};
 
 /// How the program ends.
@@ -96,6 +100,9 @@ where
         let file = matches.get_str("FILE").unwrap_or("-");
         return decode(rt, errors, file, matches.get_flag("json"));
     }
+    if name == "test" {
+        return tested(rt, errors, matches);
+    }
     let Some(scenario) = matches.get_str("SCENARIO") else {
         return answer_words(rt, errors, words, ErrorKind::MissingRequiredArgument);
     };
@@ -103,7 +110,11 @@ where
         "show" => show(rt, errors, scenario, matches),
         "why" => why(rt, errors, scenario, matches),
         "sweep" => sweep(rt, errors, scenario, matches),
-        "explain" => explained(rt, errors, scenario, matches.get_str("EDITS")),
+        "draw" => draw(rt, errors, scenario, matches),
+        "explain" => {
+            let edits = matches.get_str("EDITS");
+            explained(rt, errors, scenario, edits, matches.get_flag("json"))
+        }
         _ => live(rt, errors, scenario),
     }
 }
@@ -145,6 +156,19 @@ fn sweep<R: Files + Input + Print + Alloc<A = Global>, E: Print>(
         Ok(order) => swept(rt, errors, scenario, matches.get_str("EDITS"), &order),
         Err(OrderFault::Number) => answer_words(rt, errors, &[], ErrorKind::InvalidValue),
         Err(OrderFault::Name) => tell_no_kind(errors),
+    }
+}
+
+/// Draws a run, by the words behind `draw`.
+fn draw<R: Files + Input + Print + Alloc<A = Global>, E: Print>(
+    rt: &R,
+    errors: &E,
+    scenario: &str,
+    matches: &ArgMatches<'_>,
+) -> Ending {
+    match look_of(matches) {
+        Ok(look) => drawn(rt, errors, scenario, matches.get_str("EDITS"), look),
+        Err(_) => answer_words(rt, errors, &[], ErrorKind::InvalidValue),
     }
 }
 

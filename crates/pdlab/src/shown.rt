@@ -7,12 +7,23 @@ use clap::ArgMatches;
 use pd_device::{BenchFault, write_all};
 use pd_explain_text::{ExplainFault, explain_text};
 use pd_run_text::read_whole;
-use pd_show_text::{Choice, ShowFault, show_text};
+use pd_show_text::{Choice, Form, ShowFault, show_text};
 use std::alloc::Global;
 use std::num::ParseIntError;
 use std::rt::Files;
 
-/// What the words of the command line choose of a run.
+/// The form of a run, by the words of the command line.
+fn form_of(matches: &ArgMatches<'_>) -> Form {
+    if matches.get_flag("json") {
+        Form::Json
+    } else if matches.get_flag("csv") {
+        Form::Csv
+    } else {
+        Form::Words
+    }
+}
+
+/// What the words of the command line choose of a run, and how it is shown.
 ///
 /// # Errors
 /// One of the numbers is none.
@@ -23,6 +34,7 @@ pub fn choice_of(matches: &ArgMatches<'_>) -> Result<Choice, ParseIntError> {
         to: matches.try_get_one("to")?.unwrap_or(u64::MAX),
         good_crc: !matches.get_flag("no-goodcrc"),
         codes: matches.get_flag("codes"),
+        form: form_of(matches),
     })
 }
 

@@ -6,7 +6,8 @@ use std::alloc::{AllocError, Global};
 /// What stands where the words are others.
 pub const USAGE: &str =
     "usage: pdlab live SCENARIO | show SCENARIO [EDITS] [OPTIONS] | why SCENARIO EDITS PORT [AT] | \
-     sweep SCENARIO [EDITS] [OPTIONS] | explain SCENARIO [EDITS] | decode [--json] [FILE] | --help";
+     sweep SCENARIO [EDITS] [OPTIONS] | test SCRIPT.. | draw SCENARIO [EDITS] [OPTIONS] | \
+     explain [--json] SCENARIO [EDITS] | decode [--json] [FILE] | --help";
 
 /// What `--help` prints.
 pub const HELP: &str = "pdlab: the engineer's desk
@@ -18,6 +19,8 @@ usage: pdlab COMMAND ..
   why SCENARIO EDITS PORT [AT]
                             what bounds a port's offers, and what came of them
   sweep SCENARIO [EDITS]    each packet lost in turn, and what that leads to
+  test SCRIPT..             whether runs are as scripts expect them
+  draw SCENARIO [EDITS]     a picture of a run, as SVG for a browser
   explain SCENARIO [EDITS]  why a scenario, or lines of an edit script, are refused,
                             and what is surely not meant
   decode [--json] [FILE]    what the lines of a log say
@@ -68,8 +71,13 @@ begins with its time and the time since the line before, in microseconds.
   --to T         up to this time
   --no-goodcrc   without the GoodCRC messages
   --codes        packets with the codes on the line
+  --json         a JSON object for each line, with units in its keys (_us, _mv,
+                 _ma, _mw, _uw)
+  --csv          comma-separated values for each line, behind a line with their
+                 names: at_us,since_us,port,kind,text
 
 example: pdlab show --no-goodcrc --port 1 examples/charger_65w.toml
+  pdlab show --json examples/charger_65w.toml | grep contract
 
 status: 0 the run was shown, 1 the scenario is refused, or has no such port,
         2 the words are others, 3 a file can't be read, or a fault
@@ -126,11 +134,67 @@ status: 0 the packets were tried, 1 the scenario is refused, or has no such port
         2 the words are others, 3 a file can't be read, or a fault
 ";
 
+/// What `draw --help` prints.
+pub const DRAW_HELP: &str = "pdlab draw: a picture of a run
+
+usage: pdlab draw SCENARIO [EDITS] [OPTIONS]
+
+Runs the charger of the file SCENARIO, as the edit script EDITS leaves it (- is
+standard input), and writes a picture of the run, an SVG that any browser shows:
+the shared budget as a line over time, the contracts of the ports stacked below it,
+and the least margin with its value and its time; and below that a lane for each
+port, with the phases of its source, events, contracts, faults and packets. A
+browser tells more of each where the pointer is on it. Why lines of EDITS are
+refused is told on standard error, and they change nothing.
+
+  --port P       the lane of this port alone; ports are numbered from 1
+  --from T       from this time on, in microseconds
+  --to T         up to this time
+  --width PX     the width of the picture, 1000 to 10000 pixels; 1200 if left out
+
+example: pdlab draw examples/derating.toml > derating.svg
+
+status: 0 the run was drawn, 1 the scenario is refused, or has no such port,
+        2 the words are others, 3 a file can't be read, or a fault
+";
+
+/// What `test --help` prints.
+pub const TEST_HELP: &str = "pdlab test: whether runs are as scripts expect them
+
+usage: pdlab test SCRIPT..
+
+Goes through the file SCRIPT, whose line `# scenario FILE` names the scenario, a file
+beside it. Its other lines are those of an edit script, and beside them
+
+  expect contract PORT at TIME [voltage RANGE] [current RANGE]
+  expect no contract PORT at TIME
+  expect margin at_least MICROWATTS
+  expect faults none
+  expect fault PORT \"WORDS\"
+  expect packet PORT SIDE NAME between FROM TO
+  lose NTH NAME of port PORT
+
+Each expectation is held against the run of the scenario as the lines before it left
+it. Times are in microseconds, voltages in mV, currents in mA; RANGE is a number, or
+two as 1500..3000; TIME means the end of that instant, and a margin is left at the end
+of every one; WORDS are those of show faults; SIDE is src, snk or cbl, and NAME that of
+a message, as Request. lose loses the NTH such packet of the run, wherever edits have
+moved it. What stands behind a # is passed over, and shows are too.
+
+Each line that fails is told with what there is, and each that is refused with the
+reason; at the end how many expectations passed and failed.
+
+example: pdlab test examples/charger_65w.test
+
+status: 0 all passed, 1 one failed, or a line or a scenario is refused,
+        2 the words are others, 3 a file can't be read, or a fault
+";
+
 /// What `explain --help` prints.
 pub const EXPLAIN_HELP: &str =
     "pdlab explain: why a scenario, or lines of an edit script, are refused
 
-usage: pdlab explain SCENARIO [EDITS]
+usage: pdlab explain [--json] SCENARIO [EDITS]
 
 Goes through the edit script EDITS, or standard input where it is -, against the
 charger of the file SCENARIO, and tells of each line that pdbench would refuse
@@ -143,7 +207,13 @@ first: 20 of them at most, and how many more there are.
 Else warns of what is surely not meant in the scenario, as EDITS leaves it: events
 after the end, events that do nothing and why, disturbances that meet no packet,
 cables and sinks that no event attaches, and ports that get too little power beside
-the floors of the others. The status stays as it is.
+the floors of the others. A warning begins with the line of EDITS that made what
+it is of, or changed it last, else with SCENARIO. The status stays as it is.
+
+Where something else is likelier meant than the number says, a hint ends the line.
+
+  --json   a JSON object for each line: file, line, refusal or warning, table,
+           number, key, sentence and hint
 
 Numbers are those of pdbench: times in microseconds, voltages in mV, currents in
 mA, powers in mW.
@@ -152,8 +222,8 @@ example: pdlab explain mine.toml
   mine.toml: refused 5: event 3: `at` is 130000000, not 0 to 120000000
   mine.toml: refused 10: event 1: `sink` is `fone`, the name of no sink; there are `phone`
 example: pdlab explain mine.toml mine.edits
-  mine.edits:4: refused 24: no cable is named `thick`; there are thin, c5
-  mine.toml: warning: event 12 at 3000000 is after the end, 2000000: it never happens
+  mine.edits:4: refused 24: no cable is named `thic`; there are thick, c5; hint: did you mean `thick`?
+  mine.edits:9: warning: event 12 at 3000000 is after the end, 2000000: it never happens
 
 status: 0 no line is refused, 1 a line or the scenario is refused,
         3 a file can't be read, or a fault
@@ -213,7 +283,9 @@ fn show<'a>(alloc: Global) -> Result<Command<'a>, AllocError> {
         .arg(option(alloc, "from", ArgAction::Set))?
         .arg(option(alloc, "to", ArgAction::Set))?
         .arg(option(alloc, "no-goodcrc", ArgAction::SetTrue))?
-        .arg(option(alloc, "codes", ArgAction::SetTrue))
+        .arg(option(alloc, "codes", ArgAction::SetTrue))?
+        .arg(option(alloc, "json", ArgAction::SetTrue))?
+        .arg(option(alloc, "csv", ArgAction::SetTrue).conflicts_with("json")?)
 }
 
 /// A word that stands behind others, or may.
@@ -244,10 +316,31 @@ fn sweep<'a>(alloc: Global) -> Result<Command<'a>, AllocError> {
         .arg(option(alloc, "damage", ArgAction::SetTrue))
 }
 
-/// `pdlab explain SCENARIO [EDITS]`.
+/// `pdlab draw SCENARIO [EDITS]`, with its options.
+fn draw<'a>(alloc: Global) -> Result<Command<'a>, AllocError> {
+    Command::new(alloc, "draw")
+        .arg(scenario(alloc))?
+        .arg(edits(alloc))?
+        .arg(option(alloc, "port", ArgAction::Set))?
+        .arg(option(alloc, "from", ArgAction::Set))?
+        .arg(option(alloc, "to", ArgAction::Set))?
+        .arg(option(alloc, "width", ArgAction::Set))
+}
+
+/// `pdlab test SCRIPT..`.
+fn test<'a>(alloc: Global) -> Result<Command<'a>, AllocError> {
+    let scripts = Arg::new(alloc, "SCRIPT")
+        .required(true)
+        .num_args(1..)
+        .action(ArgAction::Append);
+    Command::new(alloc, "test").arg(scripts)
+}
+
+/// `pdlab explain [--json] SCENARIO [EDITS]`.
 fn explain<'a>(alloc: Global) -> Result<Command<'a>, AllocError> {
     let edits = Arg::new(alloc, "EDITS").action(ArgAction::Set);
     Command::new(alloc, "explain")
+        .arg(option(alloc, "json", ArgAction::SetTrue))?
         .arg(scenario(alloc))?
         .arg(edits)
 }
@@ -268,6 +361,8 @@ pub fn command<'a>(alloc: Global) -> Result<Command<'a>, AllocError> {
         .subcommand(show(alloc)?)?
         .subcommand(why(alloc)?)?
         .subcommand(sweep(alloc)?)?
+        .subcommand(test(alloc)?)?
+        .subcommand(draw(alloc)?)?
         .subcommand(explain(alloc)?)?
         .subcommand(decode(alloc)?)
 }
@@ -279,6 +374,8 @@ pub fn help_of(word: &str) -> &'static str {
         "show" => SHOW_HELP,
         "why" => WHY_HELP,
         "sweep" => SWEEP_HELP,
+        "test" => TEST_HELP,
+        "draw" => DRAW_HELP,
         "explain" => EXPLAIN_HELP,
         "decode" => DECODE_HELP,
         _ => HELP,

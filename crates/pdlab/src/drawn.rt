@@ -1,0 +1,59 @@
+//! `pdlab draw SCENARIO [EDITS]`.
+
+use crate::Ending;
+use crate::fault::{output, tell, tell_no_port, tell_refused, tell_unread};
+use crate::script_file::read_script;
+use crate::shown::tell_lines;
+use clap::ArgMatches;
+use pd_device::{BenchFault, write_all};
+use pd_draw_text::{DrawFault, Look, draw_text};
+use pd_run_text::read_whole;
+use std::alloc::Global;
+use std::num::ParseIntError;
+use std::rt::Files;
+
+/// The width of a picture, in pixels, where none is asked for.
+const WIDTH: u32 = 1_200;
+
+/// What the words of the command line choose of a picture.
+///
+/// # Errors
+/// One of the numbers is none.
+pub fn look_of(matches: &ArgMatches<'_>) -> Result<Look, ParseIntError> {
+    Ok(Look {
+        from: matches.try_get_one("from")?.unwrap_or(0),
+        to: matches.try_get_one("to")?.unwrap_or(u64::MAX),
+        width: matches.try_get_one("width")?.unwrap_or(WIDTH),
+        port: matches.try_get_one("port")?,
+    })
+}
+
+/// Draws the run of the scenario of a file, as the edits of a script leave it.
+pub fn drawn<R: Files + Input + Print + Alloc<A = Global>, E: Print>(
+    rt: &R,
+    errors: &E,
+    scenario: &str,
+    edits: Option<&str>,
+    look: Look,
+) -> Ending {
+    let Ok(text) = read_whole(rt, scenario) else {
+        return tell_unread(errors, scenario);
+    };
+    let (text, name) = (text.as_slice(), edits.unwrap_or("-"));
+    let Ok(script) = read_script(rt, edits) else {
+        return tell_unread(errors, name);
+    };
+    let script = script.as_slice();
+    if let Err(fault) = tell_lines(rt, errors, text, name, script) {
+        return tell(errors, fault);
+    }
+    match draw_text(rt.alloc(), text, script, look) {
+        Ok(picture) => match write_all(&mut output(rt), picture.as_slice()) {
+            Ok(()) => Ending::Done,
+            Err(fault) => tell(errors, fault),
+        },
+        Err(DrawFault::Scenario(fault)) => tell_refused(errors, scenario, fault),
+        Err(DrawFault::NoSuchPort) => tell_no_port(errors),
+        Err(DrawFault::Memory) => tell(errors, BenchFault::Memory),
+    }
+}

@@ -1,0 +1,115 @@
+//! `pdlab test SCRIPT..`.
+
+use crate::Ending;
+use crate::fault::{output, tell, tell_refused, tell_unread};
+use clap::ArgMatches;
+use pd_device::{BenchFault, write_all};
+use pd_expect::{TestFault, TestReport, TestTally, scenario_name, test_text};
+use pd_run_text::read_whole;
+use std::alloc::{AllocError, Global};
+use std::rt::Files;
+
+/// The path of a file that stands beside another; a path that begins with a slash stands for itself.
+fn beside(alloc: Global, script: &str, file: &str) -> Result<String, AllocError> {
+    match script.rsplit_once('/') {
+        Some((folder, _)) if !file.starts_with('/') => format!(in alloc; "{folder}/{file}"),
+        _ => String::from_str(alloc, file),
+    }
+}
+
+/// The scenario that a script names, as a path from where the program stands; none where the script names none.
+fn scenario_of(alloc: Global, script: &str, text: &[u8]) -> Result<Option<String>, AllocError> {
+    let Some(Ok(file)) = scenario_name(text).map(|name| std::str::from_utf8(name)) else {
+        return Ok(None);
+    };
+    Ok(Some(beside(alloc, script, file)?))
+}
+
+/// Goes through a script, and writes what is said of its lines.
+fn report_of<R: Files + Print + Alloc<A = Global>, E: Print>(
+    rt: &R,
+    errors: &E,
+    script: &str,
+) -> Result<TestTally, Ending> {
+    let Ok(lines) = read_whole(rt, script) else {
+        return Err(tell_unread(errors, script));
+    };
+    let scenario = match scenario_of(rt.alloc(), script, lines.as_slice()) {
+        Ok(Some(scenario)) => scenario,
+        Ok(None) => {
+            let _ = println!(errors; "{script}: no line `# scenario FILE` names a scenario");
+            return Err(Ending::Refused);
+        }
+        Err(_) => return Err(tell(errors, BenchFault::Memory)),
+    };
+    let Ok(text) = read_whole(rt, scenario.as_str()) else {
+        return Err(tell_unread(errors, scenario.as_str()));
+    };
+    match test_text(
+        rt.alloc(),
+        text.as_slice(),
+        script.as_bytes(),
+        lines.as_slice(),
+    ) {
+        Ok(report) => written(rt, errors, &report),
+        Err(TestFault::Scenario(fault)) => Err(tell_refused(errors, scenario.as_str(), fault)),
+        Err(TestFault::Memory) => Err(tell(errors, BenchFault::Memory)),
+    }
+}
+
+/// Writes what is said of the lines of a script.
+fn written<R: Print, E: Print>(
+    rt: &R,
+    errors: &E,
+    report: &TestReport,
+) -> Result<TestTally, Ending> {
+    match write_all(&mut output(rt), report.text.as_slice()) {
+        Ok(()) => Ok(report.tally),
+        Err(fault) => Err(tell(errors, fault)),
+    }
+}
+
+/// The counts of two scripts.
+fn both(first: TestTally, second: TestTally) -> TestTally {
+    TestTally {
+        passed: first.passed.saturating_add(second.passed),
+        failed: first.failed.saturating_add(second.failed),
+        refused: first.refused.saturating_add(second.refused),
+    }
+}
+
+/// Writes how many expectations passed and failed, and how many lines were refused.
+fn close<R: Print + Alloc<A = Global>, E: Print>(rt: &R, errors: &E, tally: TestTally) -> Ending {
+    let mut text = Vec::new(rt.alloc());
+    if tally.push(&mut text).is_err() {
+        return tell(errors, BenchFault::Memory);
+    }
+    if let Err(fault) = write_all(&mut output(rt), text.as_slice()) {
+        return tell(errors, fault);
+    }
+    if tally.failed == 0 && tally.refused == 0 {
+        Ending::Done
+    } else {
+        Ending::Refused
+    }
+}
+
+/// Goes through the scripts that the words of the command line name, and tells of each line that fails or is refused. The first
+/// script that can't be gone through ends it.
+pub fn tested<R: Files + Print + Alloc<A = Global>, E: Print>(
+    rt: &R,
+    errors: &E,
+    matches: &ArgMatches<'_>,
+) -> Ending {
+    let mut tally = TestTally::none();
+    let Some(scripts) = matches.get_strs("SCRIPT") else {
+        return close(rt, errors, tally);
+    };
+    for script in scripts {
+        match report_of(rt, errors, script) {
+            Ok(more) => tally = both(tally, more),
+            Err(ending) => return ending,
+        }
+    }
+    close(rt, errors, tally)
+}
