@@ -8,6 +8,3 @@ mod stop;
 pub use rows::{Front, Row};
 pub use slot::Slot;
 pub use stop::{Stop, stop_of};
-
-#[cfg(test)]
-mod tests;

@@ -18,6 +18,3 @@ pub use kind::{ObjectKind, kind_at};
 pub use row::{Row, Unit};
 pub use tables::{RowList, rows};
 pub use values::push_number;
-
-#[cfg(test)]
-mod tests;

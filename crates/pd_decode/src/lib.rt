@@ -12,6 +12,3 @@ pub use argument::read_codes;
 pub use decoded::Decoded;
 pub use decoding::decode;
 pub use printing::print_decoded;
-
-#[cfg(test)]
-mod tests;

@@ -18,6 +18,3 @@ pub use place::{Counted, NumberWord, Place};
 pub use refused::causes;
 pub use sentences::push_sentence;
 pub use stops::push_syntax;
-
-#[cfg(test)]
-mod tests;

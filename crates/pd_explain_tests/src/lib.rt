@@ -1,5 +1,23 @@
-//! Tests of what is said of refused lines of an edit script.
+//! Tests of what is said of refused lines and files, and of warnings.
 #![tactic(auto)]
 
 #[cfg(test)]
+mod causes;
+#[cfg(test)]
+mod explain_text;
+#[cfg(test)]
+mod misfits;
+#[cfg(test)]
+mod near;
+#[cfg(test)]
+mod places;
+#[cfg(test)]
+mod reasons;
+#[cfg(test)]
+mod script;
+#[cfg(test)]
+mod sentences;
+#[cfg(test)]
 mod tests;
+#[cfg(test)]
+mod warnings;

@@ -6,6 +6,3 @@ mod texts;
 
 pub use objects::push_objects;
 pub use texts::{ExplainFault, explain_text};
-
-#[cfg(test)]
-mod tests;

@@ -9,6 +9,3 @@ mod side;
 pub use header::{Header, header_count, header_id, header_kind, header_revision};
 pub use kind::{Kind, kind_of};
 pub use side::Side;
-
-#[cfg(test)]
-mod tests;

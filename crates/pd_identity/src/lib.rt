@@ -36,6 +36,3 @@ pub struct Cable {
     pub plug: CablePlug,
     pub rating: Rating,
 }
-
-#[cfg(test)]
-mod tests;

@@ -7,6 +7,3 @@ mod string;
 
 pub use object::push_object;
 pub use string::push_string;
-
-#[cfg(test)]
-mod tests;

@@ -6,6 +6,3 @@ mod list;
 mod words;
 
 pub use list::list_scenario;
-
-#[cfg(test)]
-mod tests;

@@ -15,6 +15,3 @@ mod words;
 pub use answer::Answer;
 pub use mark::Mark;
 pub use reading::read;
-
-#[cfg(test)]
-mod tests;

@@ -6,6 +6,3 @@ mod line;
 
 pub use json::push_json;
 pub use line::push_line;
-
-#[cfg(test)]
-mod tests;

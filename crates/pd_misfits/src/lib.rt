@@ -11,6 +11,3 @@ mod wanted;
 pub use file::{explain_tables, file_front, table_front};
 pub use text::{explain_file, push_line};
 pub use values::{push_number, push_quoted};
-
-#[cfg(test)]
-mod tests;

@@ -5,6 +5,3 @@ pub mod laws;
 mod slip;
 
 pub use slip::{is_slip, nearest, push_meant};
-
-#[cfg(test)]
-mod tests;

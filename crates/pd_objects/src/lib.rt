@@ -20,6 +20,3 @@ pub use sink_supply::SinkSupply;
 pub use supply::{Supply, same_supplies};
 pub use supply_list::SupplyList;
 pub use word::field;
-
-#[cfg(test)]
-mod tests;

@@ -19,6 +19,3 @@ pub use packet::Packet;
 pub use reading::read;
 pub use timing::{duration, hard_reset_duration, packet_duration};
 pub use writing::write;
-
-#[cfg(test)]
-mod tests;

@@ -12,6 +12,3 @@ mod text;
 
 pub use places::push_places;
 pub use text::{MOST_PLACES, explain_places};
-
-#[cfg(test)]
-mod tests;

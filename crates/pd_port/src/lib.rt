@@ -16,6 +16,3 @@ pub use meter::Meter;
 pub use pd_line::{Fault, Start};
 pub use pd_setup::{Event, EventKind, Happening, PortEventKind, Settings};
 pub use port::Port;
-
-#[cfg(test)]
-mod tests;

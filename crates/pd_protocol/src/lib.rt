@@ -8,6 +8,3 @@ mod outstanding;
 
 pub use layer::{Layer, LayerAct};
 pub use message::{Message, good_crc_for};
-
-#[cfg(test)]
-mod tests;

@@ -76,6 +76,3 @@ fn fault_reason(number: u8) -> Option<&'static str>
         _ => None,
     }
 }
-
-#[cfg(test)]
-mod tests;

@@ -12,6 +12,3 @@ mod words;
 pub use same::is_same;
 pub use saved::{SaveFault, scenario_text};
 pub use words::{kind_word, mode_word, plug_word, rating_number, revision_number};
-
-#[cfg(test)]
-mod tests;

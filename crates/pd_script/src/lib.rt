@@ -10,6 +10,3 @@ pub use followed::follow;
 pub use lines::first_line;
 pub use made::{MadeEdit, make_edits};
 pub use script::{at_line, explain_line, explain_script};
-
-#[cfg(test)]
-mod tests;

@@ -5,6 +5,3 @@ mod texts;
 
 pub use pd_show::{Choice, Form};
 pub use texts::{ShowFault, show_text};
-
-#[cfg(test)]
-mod tests;

@@ -7,6 +7,3 @@ mod shapes;
 
 pub use elements::{push_attribute, push_escaped};
 pub use shapes::{Area, push_box, push_path, push_style, push_words};
-
-#[cfg(test)]
-mod tests;

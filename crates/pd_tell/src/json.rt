@@ -11,6 +11,3 @@ pub use faults::push_fault_members;
 pub use members::{push_number_member, push_text_member};
 pub use offers::{asked_kind, push_asked_members, push_contract_members, push_hold_members};
 pub use starts::{push_start_members, push_state_members, start_kind};
-
-#[cfg(test)]
-mod tests;

@@ -19,6 +19,3 @@ pub use json::{
 pub use offers::{push_asked, push_contract, push_hold};
 pub use starts::{push_start, side_text};
 pub use states::{push_states, sink_name, source_name};
-
-#[cfg(test)]
-mod tests;

@@ -8,6 +8,3 @@ mod texts;
 pub use lines::last_line;
 pub use sentences::push_warning;
 pub use texts::{WarnFault, warn_text};
-
-#[cfg(test)]
-mod tests;

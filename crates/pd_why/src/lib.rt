@@ -16,6 +16,3 @@ mod walk;
 
 pub use question::Question;
 pub use walk::why;
-
-#[cfg(test)]
-mod tests;

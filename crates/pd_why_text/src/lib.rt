@@ -5,6 +5,3 @@ mod texts;
 
 pub use pd_why::Question;
 pub use texts::{WhyFault, why_text};
-
-#[cfg(test)]
-mod tests;

@@ -1,0 +1,79 @@
+//! Spoiled files with places of more than one refusal, told from docs/FORMATS.md apart from the program.
+
+use pd_places::explain_places;
+use std::test::Fail;
+
+const MANY: &[u8] = b"version = 2
+end = 1000000
+budget = 3000
+colour = 1
+[[port]]
+floor = 2500
+identity_tries = 0
+supplies = [[9000, 3000]]
+[[port]]
+floor = 2500
+supplies = [[5000, 3000]]
+[[cable]]
+name = \"thin\"
+plug = \"none\"
+rating = 3000
+[[cable]]
+name = \"thin\"
+plug = \"wide\"
+rating = 5000
+[[event]]
+id = 1
+at = 0
+port = 1
+kind = \"attach\"
+cable = \"thick\"
+sink = \"phone\"
+[[event]]
+id = 1
+at = -1
+kind = \"budget\"
+mw = 4999
+";
+
+const MANY_SAID: &[u8] =
+    b"a.toml: refused 2: `colour` is no key of this table; there are version end budget port cable sink event
+a.toml: refused 5: cable 2: `plug` is `wide`, not one of none, ack, nak, busy, silent, drop
+a.toml: refused 5: event 2: `at` is -1, not 0 to 120000000
+a.toml: refused 7: cable 2: `name` is `thin`, as of cable 1
+a.toml: refused 7: event 2: `id` is 1, as of event 1
+a.toml: refused 8: port 1: `supplies` is a list, not 1 to 7 pairs, the first of 5000 mV, each voltage above the one before
+a.toml: refused 9: `budget` is 3000, below 5000, what the floors add to
+a.toml: refused 9: event 2: `mw` is 4999, below 5000, what the floors add to
+a.toml: refused 10: event 1: `cable` is `thick`, the name of no cable; there are `thin` `thin`
+a.toml: refused 10: event 1: `sink` is `phone`, the name of no sink; there are none
+";
+
+/// Places of each refusal, the least first.
+#[test]
+fn many_refusals(rt: HostRuntime) -> Result<(), Fail> {
+    let said = explain_places(rt.alloc(), b"a.toml", MANY)?;
+    assert_eq!(rt; said.as_slice(), MANY_SAID);
+    Ok(())
+}
+
+/// A port more than there may be: the other refusals aren't told.
+#[test]
+fn nine_ports(rt: HostRuntime) -> Result<(), Fail> {
+    let text =
+        b"colour = 1\n[[port]]\n[[port]]\n[[port]]\n[[port]]\n[[port]]\n[[port]]\n[[port]]\n[[port]]\n[[port]]\n";
+    let said = explain_places(rt.alloc(), b"a\nb", text)?;
+    assert_eq!(rt;
+        said.as_slice(),
+        b"a?b: refused 11: there are 9 ports, not 1 to 8\n".as_slice()
+    );
+    Ok(())
+}
+
+/// A text that is no TOML.
+#[test]
+fn no_toml(rt: HostRuntime) -> Result<(), Fail> {
+    let said = explain_places(rt.alloc(), b"a.toml", b"version = 2\nend = \n")?;
+    assert!(rt; said.starts_with(b"a.toml:2: refused 1: "));
+    Ok(())
+}

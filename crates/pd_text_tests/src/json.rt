@@ -1,0 +1,50 @@
+//! Lines and their objects, written by hand.
+
+use pd_json::push_object;
+use std::test::Fail;
+
+const LINES: [(&[u8], &[u8]); 8] = [
+    (
+        b": refused 2: port 12: `flor` is no key of this table; there are floor; hint: did you mean `floor`?",
+        b"{\"file\":\"a\\\"b\",\"refusal\":2,\"table\":\"port\",\"number\":12,\"key\":\"flor\",\
+\"sentence\":\"`flor` is no key of this table; there are floor\",\"hint\":\"did you mean `floor`?\"}\n",
+    ),
+    (
+        b": refused 4: `end` is missing",
+        b"{\"file\":\"a\\\"b\",\"refusal\":4,\"key\":\"end\",\"sentence\":\"`end` is missing\"}\n",
+    ),
+    (
+        b": refused 11: there are 9 ports, not 1 to 8",
+        b"{\"file\":\"a\\\"b\",\"refusal\":11,\"sentence\":\"there are 9 ports, not 1 to 8\"}\n",
+    ),
+    (
+        b":40: refused 21: event 1 is there already",
+        b"{\"file\":\"c\",\"line\":40,\"refusal\":21,\"sentence\":\"event 1 is there already\"}\n",
+    ),
+    (
+        b":4: warning: event 5 at 3 is after the end, 2: it never happens",
+        b"{\"file\":\"c\",\"line\":4,\"warning\":true,\"sentence\":\"event 5 at 3 is after the end, 2: it never happens\"}\n",
+    ),
+    (
+        b": warning: no event attaches the cable `thin`",
+        b"{\"file\":\"a\\\"b\",\"warning\":true,\"sentence\":\"no event attaches the cable `thin`\"}\n",
+    ),
+    (
+        b": 3 more places",
+        b"{\"file\":\"a\\\"b\",\"sentence\":\"3 more places\"}\n",
+    ),
+    (
+        b":2: refused 1: a\\b\t\x1f\"",
+        b"{\"file\":\"c\",\"line\":2,\"refusal\":1,\"sentence\":\"a\\\\b\\u0009\\u001f\\\"\"}\n",
+    ),
+];
+
+#[test]
+fn objects(rt: HostRuntime) -> Result<(), Fail> {
+    for (line, object) in LINES.iter() {
+        let mut text = Vec::new(rt.alloc());
+        push_object(&mut text, b"a\"b", b"c", line)?;
+        assert_eq!(rt; text.as_slice(), *object);
+    }
+    Ok(())
+}
