@@ -9,7 +9,7 @@ use Rattle.pd_device.proofs.DeviceLemmas.{WrotePart-after, WrotePart-longer}
 use Rattle.pd_desk.specs.Reasons.{as_line}
 
 -- more, written after a text
-writes_after : (told : Result (Unit {0}) BenchFault) (a b c : Option (List ℕ)) (text more : List ℕ) → Appends a b text
+pub writes_after : (told : Result (Unit {0}) BenchFault) (a b c : Option (List ℕ)) (text more : List ℕ) → Appends a b text
     → Writes b c told more → Writes a c told (text ++ more)
 writes_after (Ok done) a b c text more first w = Appends-trans a b c text more first w
 writes_after (Err fault) a b c text more first w = (w.0, WrotePart-after a b c text more first w.1)

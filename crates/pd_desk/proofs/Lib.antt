@@ -1,2 +1,6 @@
+mod AsSession
 mod DeskLemmas
-mod RefusalsOfLines
+mod Joins
+mod Kept
+mod TakeLine
+mod Told

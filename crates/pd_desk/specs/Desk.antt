@@ -1,6 +1,6 @@
 -- What the desk writes for the lines that it reads: a session's answers, and those to its own lines.
-use Rattle.std.specs.Prelude.{◌≡◌, ◌⊎◌, ℕ, Bool, true, false, nat_lt, List, [], ◌∷◌, ◌++◌, length, drop, codes, Option, Some, None}
-use Rattle.std.specs.Prelude.{Result, Ok, if◌then◌else◌}
+use Rattle.std.specs.Prelude.{◌≡◌, ◌≢◌, ◌⊎◌, ◌<◌, ℕ, Bool, true, false, nat_lt, List, [], ◌∷◌, ◌++◌, length, drop, codes}
+use Rattle.std.specs.Prelude.{Option, Some, None, Result, Ok, if◌then◌else◌}
 use Rattle.pd_scenario.specs.Scenarios.{ScenarioData}
 use Rattle.pd_scenario.specs.Plans.{plan_of}
 use Rattle.pd_scenario_text.specs.Reading.{Reads}
@@ -11,16 +11,23 @@ use Rattle.pd_why.specs.declared.question.Question.{Question}
 use Rattle.pd_edit_lines.specs.Grammar.{line_of}
 use Rattle.pd_edit_lines.specs.Words.{words}
 use Rattle.pd_edit_lines.specs.declared.line.Line.{Line}
+use Rattle.pd_edit_lines.specs.Numbers.{number_of}
 use Rattle.pd_edit_lines.specs.declared.fault.EditFault.{EditFault}
 use Rattle.pd_bench.specs.declared.tally.Tally.{Tally}
 use Rattle.pd_bench.specs.declared.tally.Outcome.{Outcome}
 use Rattle.pd_bench.specs.declared.tally.Outcome.TheVariants.{Skipped, Accepted, Refused, Shown}
-use Rattle.pd_bench.specs.Session.{Reply, counted, no_lines, done_text}
+use Rattle.pd_bench.specs.Session.{Reply, counted, no_lines, refused_text}
 use Rattle.pd_colon.specs.declared.colon.Colon.{Colon}
 use Rattle.pd_colon.specs.declared.colon.Colon.TheVariants as colon
 use Rattle.pd_colon.specs.Commands.{is_colon, colon_of, second}
 use Rattle.pd_colon.specs.Diff.{diff_text}
 use Rattle.pd_colon.specs.Reports.{TellsDiff}
+use Rattle.pd_colon.specs.Reasons.{reasons_text}
+use Rattle.pd_reasons.specs.Reasons.{reason_of}
+use Rattle.pd_desk.specs.Reasons.{as_line}
+use Rattle.pd_desk.specs.OwnFaults.{own_sentence}
+use Rattle.pd_desk.specs.declared.own.OwnFault.{OwnFault}
+use Rattle.pd_desk.specs.declared.own.OwnFault.TheVariants.{Unknown, NoEdit, NoSuchPort, Differs, NotSaved, Memory}
 
 -- what the desk has come to: the scenario that stands, those that stood before the last accepted edits, the latest last, and
 -- the counts
@@ -48,10 +55,32 @@ Remembers Skipped s earlier earlier' = earlier' ≡ earlier
 Remembers Refused s earlier earlier' = earlier' ≡ earlier
 Remembers Shown s earlier earlier' = earlier' ≡ earlier
 
--- the session's reply to what a line says
-abbrev pub LineReply : ℕ → Standing → Result Line EditFault → List ℕ → Standing → Type 0
-LineReply n d r reply d' = (outcome : Outcome) × Reply n d.scenario r reply d'.scenario outcome × (d'.tally ≡ counted d.tally outcome)
+-- the session's reply to what a line says, and what becomes of the line
+abbrev pub Becomes : ℕ → Standing → Result Line EditFault → Outcome → List ℕ → Standing → Type 0
+Becomes n d r outcome reply d' = Reply n d.scenario r reply d'.scenario outcome × (d'.tally ≡ counted d.tally outcome)
     × Remembers outcome d.scenario d.earlier d'.earlier
+
+-- the fault of a refused line, none of any other
+abbrev pub IsFaultOf : Option EditFault → Outcome → List ℕ → Type 0
+IsFaultOf None outcome reply = outcome ≢ Refused
+IsFaultOf (Some fault) outcome reply = (outcome ≡ Refused) × (reply ≡ refused_text (number_of fault))
+
+-- What is told beside a refusal: why the line is refused, or else the sentence for its number. So it is for want of memory.
+abbrev pub TellsWhyNot : List ℕ → List ℕ → List ℕ → Type 0
+TellsWhyNot reasons reply told =
+    ((told ≡ reasons) × (reasons ≢ []))
+    ⊎ ((fault : EditFault) × (reply ≡ refused_text (number_of fault)) × (told ≡ as_line (reason_of (number_of fault))))
+
+-- Beside another answer nothing is told.
+abbrev pub LineTells : Outcome → List ℕ → List ℕ → List ℕ → Type 0
+LineTells Refused reasons reply told = TellsWhyNot reasons reply told
+LineTells Skipped reasons reply told = told ≡ []
+LineTells Accepted reasons reply told = told ≡ []
+LineTells Shown reasons reply told = told ≡ []
+
+abbrev pub ToldReply : ℕ → Standing → List ℕ → List ℕ → List ℕ → Standing → Type 0
+ToldReply n d line reply told d' = (outcome : Outcome) × Becomes n d (line_of line) outcome reply d'
+    × LineTells outcome (reasons_text n d.scenario line) reply told
 
 -- ---- a line of the desk's own
 
@@ -68,7 +97,7 @@ pub record Undoes (d : Standing) (text : List ℕ) (d' : Standing) : Type 0 wher
   pub text_is : text ≡ codes "= undo\n" ++ diff_text listed listed_back
 
 -- what the last accepted edit that can be taken back changed
-pub record Differs (d : Standing) (text : List ℕ) : Type 0 where
+pub record TellsChanges (d : Standing) (text : List ℕ) : Type 0 where
   pub before : ScenarioData
   pub front : List ScenarioData
   pub earlier_are : d.earlier ≡ front ++ before ∷ []
@@ -90,26 +119,51 @@ Tells n d None file text d' = ⊥
 Tells n d (Some colon.Help) file text d' = d' ≡ d
 Tells n d (Some colon.Listing) file text d' = Lists d.scenario text × (d' ≡ d)
 Tells n d (Some colon.Undo) file text d' = Undoes d text d'
-Tells n d (Some colon.Diff) file text d' = Differs d text × (d' ≡ d)
+Tells n d (Some colon.Diff) file text d' = TellsChanges d text × (d' ≡ d)
 Tells n d (Some colon.Save) file text d' = Saves n d file text × (d' ≡ d)
 Tells n d (Some (colon.Why port to)) file text d' =
     TellsWhy (plan_of d.scenario) (record { port = port; to = to }) [] text × (d' ≡ d)
 
--- What such a line writes. Where it can't be done, nothing is written, and all is as it was.
-abbrev pub OwnReply : ℕ → Standing → Option Colon → Option (List ℕ) → List ℕ → Standing → Type 0
-OwnReply n d own file reply d' = Tells n d own file reply d' ⊎ ((reply ≡ []) × (d' ≡ d))
+-- why an edit isn't taken back, or none of its changes told
+abbrev pub FailsEdit : List ScenarioData → OwnFault → Type 0
+FailsEdit earlier fault = ((fault ≡ NoEdit) × (earlier ≡ [])) ⊎ (fault ≡ Memory)
+
+-- why the scenario isn't saved
+abbrev pub FailsSave : Option (List ℕ) → OwnFault → Type 0
+FailsSave file fault = ((fault ≡ Unknown) × (file ≡ None)) ⊎ ((fault ≡ Memory) ⊎ ((fault ≡ Differs) ⊎ (fault ≡ NotSaved)))
+
+-- why it isn't told what bounds a port
+abbrev pub FailsWhy : ℕ → ℕ → OwnFault → Type 0
+FailsWhy n port fault = ((fault ≡ NoSuchPort) × ((port < 1) ⊎ (n < port))) ⊎ (fault ≡ Memory)
+
+-- why such a line does nothing
+abbrev pub Fails : ℕ → Standing → Option Colon → Option (List ℕ) → OwnFault → Type 0
+Fails n d None file fault = fault ≡ Unknown
+Fails n d (Some colon.Help) file fault = fault ≡ Memory
+Fails n d (Some colon.Listing) file fault = fault ≡ Memory
+Fails n d (Some colon.Undo) file fault = FailsEdit d.earlier fault
+Fails n d (Some colon.Diff) file fault = FailsEdit d.earlier fault
+Fails n d (Some colon.Save) file fault = FailsSave file fault
+Fails n d (Some (colon.Why port to)) file fault = FailsWhy n port fault
+
+-- What such a line writes, and what is told beside it. Where it can't be done, the fault is told, and all is as it was.
+abbrev pub OwnReply : ℕ → Standing → Option Colon → Option (List ℕ) → List ℕ → List ℕ → Standing → Type 0
+OwnReply n d own file reply told d' =
+    (Tells n d own file reply d' × (told ≡ []))
+    ⊎ ((fault : OwnFault) × Fails n d own file fault × (reply ≡ []) × (told ≡ own_sentence fault) × (d' ≡ d))
 
 -- ---- any line
 
-abbrev pub ReplyBy : Bool → ℕ → Standing → List ℕ → List ℕ → Standing → Type 0
-ReplyBy true n d line reply d' = OwnReply n d (colon_of line) (second (words line)) reply d'
-ReplyBy false n d line reply d' = LineReply n d (line_of line) reply d'
+abbrev pub ReplyBy : Bool → ℕ → Standing → List ℕ → List ℕ → List ℕ → Standing → Type 0
+ReplyBy true n d line reply told d' = OwnReply n d (colon_of line) (second (words line)) reply told d'
+ReplyBy false n d line reply told d' = ToldReply n d line reply told d'
 
-abbrev pub DeskReply : ℕ → Standing → List ℕ → List ℕ → Standing → Type 0
-DeskReply n d line reply d' = ReplyBy (is_colon line) n d line reply d'
+abbrev pub DeskReply : ℕ → Standing → List ℕ → List ℕ → List ℕ → Standing → Type 0
+DeskReply n d line reply told d' = ReplyBy (is_colon line) n d line reply told d'
 
--- the replies to these lines in their order, and what the desk has come to after them
-abbrev pub DeskReplies : ℕ → Standing → List (List ℕ) → List ℕ → Standing → Type 0
-DeskReplies n d [] text d' = (text ≡ []) × (d' ≡ d)
-DeskReplies n d (line ∷ more) text d' = (reply : List ℕ) × (rest : List ℕ) × (next : Standing)
-    × DeskReply n d line reply next × (text ≡ reply ++ rest) × DeskReplies n next more rest d'
+-- the replies to these lines in their order, what is told beside each, and what the desk has come to after them
+abbrev pub DeskReplies : ℕ → Standing → List (List ℕ) → List ℕ → List (List ℕ) → Standing → Type 0
+DeskReplies n d [] text tolds d' = (text ≡ []) × (tolds ≡ []) × (d' ≡ d)
+DeskReplies n d (line ∷ more) text tolds d' =
+    (reply : List ℕ) × (told : List ℕ) × (rest : List ℕ) × (others : List (List ℕ)) × (next : Standing)
+    × DeskReply n d line reply told next × (text ≡ reply ++ rest) × (tolds ≡ told ∷ others) × DeskReplies n next more rest others d'

@@ -1,9 +1,26 @@
--- The answer to each line that is refused goes with the sentence for its number.
-use Rattle.pd_edit_lines.specs.Numbers.{number_of}
-use Rattle.pd_edit_lines.specs.declared.fault.EditFault.{EditFault}
-use Rattle.pd_bench.specs.Session.{refused_text}
-use Rattle.pd_reasons.specs.Reasons.{reason_of}
-use Rattle.pd_desk.specs.Reasons.{IsReason, as_line}
+-- What is proved of the definitions alone.
+use Rattle.std.specs.Prelude.{◌≡◌, ◌≢◌, ℕ, false, List, [], All, Result, Option}
+use Rattle.std.specs.Str.Lines.{lines}
+use Rattle.pd_scenario.specs.Scenarios.{ScenarioData}
+use Rattle.pd_device.specs.declared.fault.BenchFault.{BenchFault}
+use Rattle.pd_bench.specs.declared.tally.Tally.{Tally}
+use Rattle.pd_bench.specs.declared.tally.Outcome.TheVariants.{Refused}
+use Rattle.pd_bench.specs.Session.{SessionEnds}
+use Rattle.pd_colon.specs.Commands.{is_colon}
+use Rattle.pd_desk.specs.Desk.{LineTells}
+use Rattle.pd_desk.specs.Ends.{Beside, DeskEnds, read_of}
 
+-- no line of these bytes is the desk's own
+abbrev pub NoneIsOwn : List ℕ → Type 0
+NoneIsOwn bytes = All (λ line. is_colon line ≡ false) (lines bytes)
+
+-- Where no line that was read is the desk's own, the desk ended as a session does.
+abbrev pub DeskIsSession : Type 0
+DeskIsSession =
+    (n : ℕ) (result : Result Tally BenchFault) (left left' taken taken' : Option (List ℕ)) (w w' : Beside) (s : ScenarioData)
+    (ends : DeskEnds n result left left' taken taken' w w' s)
+    → NoneIsOwn (read_of n result left left' taken taken' w w' s ends) → SessionEnds n result left left' taken taken' s
+
+-- Beside each refusal something is told.
 abbrev pub RefusalsAreTold : Type 0
-RefusalsAreTold = (fault : EditFault) → IsReason (refused_text (number_of fault)) (as_line (reason_of (number_of fault)))
+RefusalsAreTold = (reasons reply told : List ℕ) → LineTells Refused reasons reply told → told ≢ []

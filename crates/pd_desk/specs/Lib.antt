@@ -1,6 +1,9 @@
 pub mod Bytes
 pub mod Desk
+pub mod Ends
 pub mod Laws
 pub mod Live
+pub mod OwnFaults
 pub mod Reasons
 pub mod Shelf
+pub mod Taking

@@ -1,23 +1,27 @@
--- What a session over a reader comes to, for the scenario of a text.
+-- What the desk over a reader comes to, for the scenario of a text.
 use Rattle.std.specs.Prelude.{◌≡◌, ℕ, List, Result, Ok, Err, Option}
 use Rattle.pd_scenario.specs.Scenarios.{ScenarioData}
 use Rattle.pd_device.specs.declared.fault.BenchFault.{BenchFault}
 use Rattle.pd_bench.specs.declared.tally.Tally.{Tally}
-use Rattle.pd_bench.specs.Session.{CountsFault, SessionEnds}
+use Rattle.pd_bench.specs.Session.{CountsFault}
 use Rattle.pd_run_text.specs.declared.texts.RunFault.{RunFault}
 use Rattle.pd_run_text.specs.declared.texts.RunFault.TheVariants as faults
 use Rattle.pd_run_text.specs.Texts.{IsRefused, IsScenarioText}
+use Rattle.pd_desk.specs.Ends.{Beside, DeskEnds}
 
--- the session ended so, for the scenario of the text
-abbrev pub EndsFor : Result Tally BenchFault → List ℕ → Option (List ℕ) → Option (List ℕ) → Option (List ℕ) → Option (List ℕ) → Type 0
-EndsFor result text left left' taken taken' =
-    (n : ℕ) × (s : ScenarioData) × IsScenarioText text n s × SessionEnds n result left left' taken taken' s
+-- the desk ended so, for the scenario of the text
+abbrev pub EndsFor : Result Tally BenchFault → List ℕ → Option (List ℕ) → Option (List ℕ) → Option (List ℕ) → Option (List ℕ) →
+    Beside → Beside → Type 0
+EndsFor result text left left' taken taken' w w' =
+    (n : ℕ) × (s : ScenarioData) × IsScenarioText text n s × DeskEnds n result left left' taken taken' w w' s
 
--- a refused text: nothing is read or written
-abbrev pub LiveEnds : Result Tally RunFault → List ℕ → Option (List ℕ) → Option (List ℕ) → Option (List ℕ) → Option (List ℕ) → Type 0
-LiveEnds (Ok tally) text left left' taken taken' = EndsFor (Ok tally) text left left' taken taken'
-LiveEnds (Err (faults.Scenario fault)) text left left' taken taken' = IsRefused text fault × (left' ≡ left) × (taken' ≡ taken)
-LiveEnds (Err (faults.Session fault)) text left left' taken taken' = EndsFor (Err fault) text left left' taken taken'
+-- a refused text: nothing is read, written or told
+abbrev pub LiveEnds : Result Tally RunFault → List ℕ → Option (List ℕ) → Option (List ℕ) → Option (List ℕ) → Option (List ℕ) →
+    Beside → Beside → Type 0
+LiveEnds (Ok tally) text left left' taken taken' w w' = EndsFor (Ok tally) text left left' taken taken' w w'
+LiveEnds (Err (faults.Scenario fault)) text left left' taken taken' w w' =
+    IsRefused text fault × (left' ≡ left) × (taken' ≡ taken) × (w' ≡ w)
+LiveEnds (Err (faults.Session fault)) text left left' taken taken' w w' = EndsFor (Err fault) text left left' taken taken' w w'
 
 -- which device failed, by the counts of failed reads and writes
 abbrev pub LiveCounts : Result Tally RunFault → ℕ → ℕ → ℕ → ℕ → Type 0

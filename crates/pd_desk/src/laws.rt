@@ -1,8 +1,13 @@
-//! A law of the definitions. It runs nothing.
+//! Laws of the definitions. They run nothing.
 
-ghost use Rattle.pd_desk.specs.Laws.{RefusalsAreTold};
+ghost use Rattle.pd_desk.specs.Laws.{DeskIsSession, RefusalsAreTold};
 
-/// The answer to each line that is refused goes with the sentence for its number.
+/// Over input that has no line of the desk's own, the desk reads and writes what a session does, and ends as one.
+pub fn desk_is_session()
+    ensures { DeskIsSession }
+{}
+
+/// Beside each refusal something is told.
 pub fn refusals_are_told()
     ensures { RefusalsAreTold }
 {}

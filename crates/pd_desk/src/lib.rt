@@ -1,20 +1,23 @@
-//! The engineer's desk: sessions at the keyboard, which say why a line is refused.
+//! The engineer's desk: sessions at the keyboard, which say why a line is refused, and have lines of their own.
 #![tactic(auto)]
 
+mod answers;
 mod byte_in;
 mod desk;
 pub mod laws;
+mod line_in;
+mod lines;
 mod live;
+mod outlets;
 mod own;
-mod reasoned_out;
 mod reasons;
 mod shelf;
 
 pub use byte_in::ByteIn;
 pub use live::run_live;
+pub use outlets::Outlets;
 pub use own::OwnFault;
-pub use reasoned_out::ReasonedOut;
-pub use reasons::{refusal_of, tell_reason};
+pub use reasons::tell_reason;
 pub use shelf::Shelf;
 
 #[cfg(test)]

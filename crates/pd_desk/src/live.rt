@@ -1,12 +1,15 @@
-//! A session at the keyboard.
+//! The desk at the keyboard.
 
 ghost use Rattle.std.specs.Prelude.{◌≡◌, ◌≤◌, Ok};
 ghost use Rattle.pd_scenario_tables.specs.Ports.{counted};
 ghost use Rattle.pd_scenario_text.specs.File.{members_of};
 ghost use Rattle.pd_run_text.specs.Texts.{ForTexts};
+ghost use Rattle.pd_desk.specs.Ends.{beside};
 ghost use Rattle.pd_desk.specs.Live.{LiveCounts, LiveEnds};
 
-use pd_bench::{Tally, session};
+use crate::lines::desk_session;
+use crate::{Outlets, Shelf};
+use pd_bench::Tally;
 use pd_device::{TextIn, TextOut};
 use pd_keep::Kept;
 use pd_port::Meter;
@@ -15,47 +18,61 @@ use pd_run_text::RunFault;
 use pd_scenario_text::{ScenarioFault, ScenarioFile};
 use std::alloc::Global;
 
-// Runs a session with a runner of as many ports as the file has.
+// Runs the desk with a runner of as many ports as the file has.
 macro_rules! live_by {
-    ($alloc:ident, $file:ident, $reader:ident, $writer:ident; $($n:literal)*) => {
-        match $file.port_count().map_err(RunFault::Scenario)? {
-            $($n => live_file::<$n, R, W>($alloc, $file, $reader, $writer),)*
+    ($ports:ident, $alloc:ident, $file:ident, $reader:ident, $outlets:ident; $($n:literal)*) => {
+        match $ports {
+            $($n => live_file::<$n, R, W, E, S>($alloc, $file, $reader, $outlets),)*
             _ => Err(RunFault::Scenario(ScenarioFault::Limit)),
         }
     };
 }
 
-/// Runs a session over the lines of a reader, for the scenario of a text, which has 1 to 8 ports. The moves of each run
+/// Runs the desk over the lines of a reader, for the scenario of a text, which has 1 to 8 ports: each line is answered
+/// before the next is read. A line with a colon first is the desk's own; each other one is answered as `session` answers it,
+/// and the counts are of these alone. Beside the answers goes why a line is refused, or did nothing. The moves of each run
 /// are kept for the next.
 ///
 /// # Errors
-/// `Scenario` where the text is refused, and nothing is read or written; `Session` where the session fails.
-pub fn run_live<R: TextIn, W: TextOut>(
+/// `Scenario` where the text is refused, and nothing is read or written; `Session` where the session fails, as `session`
+/// says.
+pub fn run_live<R: TextIn, W: TextOut, E: TextOut, S: Shelf>(
     alloc: Global,
     text: &[u8],
     reader: &mut R,
-    writer: &mut W,
+    outlets: &mut Outlets<W, E, S>,
 ) -> Result<Tally, RunFault>
-    ensures text { LiveEnds result text.now (R.left reader.old) (R.left reader.new) (W.taken writer.old) (W.taken writer.new) }
-    ensures counts { LiveCounts result (R.failures reader.old) (R.failures reader.new) (W.failures writer.old) (W.failures writer.new) }
+    ensures text { LiveEnds result text.now (R.left reader.old) (R.left reader.new)
+        (W.taken outlets.old.answers) (W.taken outlets.new.answers)
+        (beside (E.taken outlets.old.reasons) (E.failures outlets.old.reasons))
+        (beside (E.taken outlets.new.reasons) (E.failures outlets.new.reasons)) }
+    ensures counts { LiveCounts result (R.failures reader.old) (R.failures reader.new)
+        (W.failures outlets.old.answers) (W.failures outlets.new.answers) }
 {
     let file = ScenarioFile::parse(alloc, text).map_err(RunFault::Scenario)?;
-    live_by!(alloc, file, reader, writer; 1 2 3 4 5 6 7 8)
+    let ports = match file.port_count() {
+        Ok(ports) => ports,
+        Err(fault) => return Err(RunFault::Scenario(fault)),
+    };
+    live_by!(ports, alloc, file, reader, outlets; 1 2 3 4 5 6 7 8)
 }
 
-// Runs a session for the scenario of a file of N ports.
-fn live_file<const N: usize, R: TextIn, W: TextOut>(
+// Runs the desk for the scenario of a file of N ports.
+fn live_file<const N: usize, R: TextIn, W: TextOut, E: TextOut, S: Shelf>(
     alloc: Global,
     file: ScenarioFile,
     reader: &mut R,
-    writer: &mut W,
+    outlets: &mut Outlets<W, E, S>,
 ) -> Result<Tally, RunFault>
     requires from_one { 1 ≤ N }
     requires to_eight { N ≤ 8 }
     requires counts { counted (members_of file) ≡ Ok N }
     ensures text { ForTexts file (λ text. LiveEnds result text (R.left reader.old) (R.left reader.new)
-        (W.taken writer.old) (W.taken writer.new)) }
-    ensures counts { LiveCounts result (R.failures reader.old) (R.failures reader.new) (W.failures writer.old) (W.failures writer.new) }
+        (W.taken outlets.old.answers) (W.taken outlets.new.answers)
+        (beside (E.taken outlets.old.reasons) (E.failures outlets.old.reasons))
+        (beside (E.taken outlets.new.reasons) (E.failures outlets.new.reasons))) }
+    ensures counts { LiveCounts result (R.failures reader.old) (R.failures reader.new)
+        (W.failures outlets.old.answers) (W.failures outlets.new.answers) }
 {
     let scenario = match file.scenario::<N>(alloc) {
         Ok(scenario) => scenario,
@@ -63,5 +80,7 @@ fn live_file<const N: usize, R: TextIn, W: TextOut>(
     };
     let mut runner = Kept::<N>::empty(alloc);
     let mut meter = Meter::new();
-    session(alloc, scenario, &mut runner, reader, writer, &mut meter).map_err(RunFault::Session)
+    desk_session(alloc, scenario, &mut runner, reader, outlets, &mut meter).map_err(
+        RunFault::Session,
+    )
 }

@@ -1,6 +1,6 @@
 //! Answers to the desk's own lines.
 
-ghost use Rattle.std.specs.Prelude.{◌≡◌, ◌++◌, codes, List, [], ℕ, IfOk, OnOk, OnErr, MatchResult, Ok, Some};
+ghost use Rattle.std.specs.Prelude.{◌≡◌, ◌++◌, codes, List, [], ℕ, IfOk, IfErr, OnOk, OnErr, MatchResult, Ok, Some};
 ghost use Rattle.pd_edit_lines.specs.Words.{words};
 ghost use Rattle.pd_scenario.specs.Plans.{plan_of};
 ghost use Rattle.pd_scenario_text.specs.Reading.{Reads};
@@ -10,7 +10,8 @@ ghost use Rattle.pd_colon.specs.Commands.{colon_of, second};
 ghost use Rattle.pd_list.specs.Lines.{Lists};
 ghost use Rattle.pd_colon.specs.Diff.{diff_text};
 ghost use Rattle.pd_why.specs.Story.{TellsWhy};
-ghost use Rattle.pd_desk.specs.Desk.{Tells, Undoes, Differs, saved_text, standing};
+ghost use Rattle.pd_desk.specs.Desk.{Fails, FailsEdit, FailsSave, FailsWhy, Tells, TellsChanges, Undoes, saved_text, standing};
+ghost use Rattle.pd_desk.specs.OwnFaults.{own_sentence};
 ghost use Rattle.pd_desk.specs.Shelf.{Puts};
 ghost use Rattle.pd_desk.specs.declared.own.OwnFault.TheVariants.{Memory as memory};
 
@@ -50,7 +51,9 @@ impl From<AllocError> for OwnFault {
 
 impl OwnFault {
     /// What is said of it.
-    pub fn sentence(self) -> &'static [u8] {
+    pub fn sentence(self) -> &'static [u8]
+        ensures { result.now ≡ own_sentence self }
+    {
         match self {
             OwnFault::Unknown => {
                 b"the desk's own lines are :help, :list, :undo, :diff, :save FILE and :why PORT [AT]\n"
@@ -111,8 +114,8 @@ fn undo<const N: usize, T: Runner<N>>(
     ensures text { MatchResult result
         (λ text. Undoes (standing desk.old.state.scenario desk.old.earlier.items desk.old.state.tally) text.items
         (standing desk.new.state.scenario desk.new.earlier.items desk.new.state.tally))
-        (λ _. standing desk.new.state.scenario desk.new.earlier.items desk.new.state.tally
-        ≡ standing desk.old.state.scenario desk.old.earlier.items desk.old.state.tally) }
+        (λ fault. (standing desk.new.state.scenario desk.new.earlier.items desk.new.state.tally
+        ≡ standing desk.old.state.scenario desk.old.earlier.items desk.old.state.tally) × FailsEdit desk.old.earlier.items fault) }
     ensures runs { IsRunning (T.plan runner.new) (T.entries runner.new) desk.new.state.scenario }
     ensures tally { desk.new.state.tally ≡ desk.old.state.tally }
 {
@@ -128,7 +131,9 @@ fn undo<const N: usize, T: Runner<N>>(
 
 /// What the last accepted edit changed.
 fn diff<const N: usize>(alloc: Global, desk: &Desk<N>) -> Result<Vec<u8>, OwnFault>
-    ensures { IfOk result (λ text. Differs (standing desk.now.state.scenario desk.now.earlier.items desk.now.state.tally) text.items) }
+    ensures { MatchResult result
+        (λ text. TellsChanges (standing desk.now.state.scenario desk.now.earlier.items desk.now.state.tally) text.items)
+        (λ fault. FailsEdit desk.now.earlier.items fault) }
 {
     let Some(before) = desk.earlier.as_slice().last() else {
         return Err(OwnFault::NoEdit);
@@ -150,6 +155,7 @@ fn save<const N: usize, S: Shelf>(
     ensures text { IfOk result (λ text. (file : List ℕ) × (second (words line.now) ≡ Some file) × (text.items ≡ saved_text file)
         × Reads N (file_text scenario.now) (Ok scenario.now)
         × Puts (S.kept shelf.old) (S.kept shelf.new) file (file_text scenario.now)) }
+    ensures fault { IfErr result (FailsSave (second (words line.now))) }
 {
     let Some(file) = file_of(line) else {
         return Err(OwnFault::Unknown);
@@ -176,7 +182,8 @@ fn bounds<const N: usize>(
     port: u64,
     to: Option<u64>,
 ) -> Result<Vec<u8>, OwnFault>
-    ensures { IfOk result (λ text. TellsWhy (plan_of scenario.now) (record { port = port; to = to }) [] text.items) }
+    ensures text { IfOk result (λ text. TellsWhy (plan_of scenario.now) (record { port = port; to = to }) [] text.items) }
+    ensures fault { IfErr result (FailsWhy N port) }
 {
     if port < 1 || port > N as u64 {
         return Err(OwnFault::NoSuchPort);
@@ -204,8 +211,10 @@ pub(crate) fn own_text<const N: usize, T: Runner<N>, S: Shelf>(
     ensures text { MatchResult result
         (λ text. Tells N (standing desk.old.state.scenario desk.old.earlier.items desk.old.state.tally) (colon_of line.now)
         (second (words line.now)) text.items (standing desk.new.state.scenario desk.new.earlier.items desk.new.state.tally))
-        (λ _. standing desk.new.state.scenario desk.new.earlier.items desk.new.state.tally
-        ≡ standing desk.old.state.scenario desk.old.earlier.items desk.old.state.tally) }
+        (λ fault. (standing desk.new.state.scenario desk.new.earlier.items desk.new.state.tally
+        ≡ standing desk.old.state.scenario desk.old.earlier.items desk.old.state.tally)
+        × Fails N (standing desk.old.state.scenario desk.old.earlier.items desk.old.state.tally) (colon_of line.now)
+        (second (words line.now)) fault) }
     ensures runs { IsRunning (T.plan runner.new) (T.entries runner.new) desk.new.state.scenario }
     ensures tally { desk.new.state.tally ≡ desk.old.state.tally }
 {

@@ -1,37 +1,11 @@
-//! Which answers are refusals, and what is said of them.
+//! What is said of a refusal, by its number.
 
-ghost use Rattle.std.specs.Prelude.{◌≡◌, ◌≢◌, ℕ, MatchOption};
-ghost use Rattle.pd_bench.specs.Session.{refused_text};
 ghost use Rattle.pd_device.specs.Device.{CountsFailure, Writes};
-ghost use Rattle.pd_desk.specs.Reasons.{IsOfLine, as_line};
+ghost use Rattle.pd_desk.specs.Reasons.{as_line};
 ghost use Rattle.pd_reasons.specs.Reasons.{reason_of};
 
-use pd_device::{BenchFault, Text, TextOut, write_all};
+use pd_device::{BenchFault, TextOut, write_all};
 use pd_reasons::reason_of;
-
-/// The number of a refused line, 20 to 30, where the bytes are its answer, and nothing else.
-pub fn refusal_of(bytes: &[u8]) -> Option<u8>
-    ensures { MatchOption result ((number : ℕ) → IsOfLine number → bytes.now ≢ refused_text number)
-        (λ number. IsOfLine number × (bytes.now ≡ refused_text number)) }
-{
-    for number in 20u8..=30 {
-        if refused(number).as_slice() == bytes {
-            return Some(number);
-        }
-    }
-    None
-}
-
-// The answer to a line that is refused.
-fn refused(number: u8) -> Text<32>
-    ensures { result ≡ refused_text number }
-{
-    let mut text = Text::new();
-    text.push_all(b"refused ");
-    text.push_number(u64::from(number));
-    text.push_all(b"\n");
-    text
-}
 
 /// Writes why something of this number is refused, as a line. A number that no refusal has is passed over.
 ///

@@ -1,7 +1,7 @@
 //! Devices over memory: what they give and take, and what they do where one under them fails.
 
 use super::*;
-use pd_device::{DeviceFault, Output, TextIn, TextOut};
+use pd_device::{DeviceFault, Output, SliceIn, TextIn};
 use std::io;
 use std::io::Read;
 use std::test::Fail;
@@ -72,28 +72,98 @@ fn failed_read(rt: HostRuntime) -> Result<(), Fail> {
     Ok(())
 }
 
-/// Reasons stand beside refusals alone; all else is passed on.
-#[test]
-fn reasons_beside_refusals(rt: HostRuntime) -> Result<(), Fail> {
-    let mut writer = ReasonedOut {
-        writer: page(rt),
-        reasons: page(rt),
-    };
-    let answers: [&[u8]; 6] = [
-        b"ok\n",
-        b"refused 22\n",
-        b"= contracts\n",
-        b"refused 12\n",
-        b"refused 31\n",
-        b"refused 24\n",
-    ];
-    for answer in answers {
-        assert_eq!(rt; writer.write(answer), Ok(answer.len()));
+/// One port of 5 V and 3 A, and a phone that wants 15 W.
+const SCENARIO: &[u8] = b"version = 1
+end = 1000000
+budget = 60000
+[[port]]
+floor = 2500
+supplies = [[5000, 3000]]
+[[cable]]
+name = \"thin\"
+plug = \"none\"
+rating = 3000
+[[sink]]
+name = \"phone\"
+max = 5000
+demand = 15000
+[[event]]
+id = 1
+at = 0
+port = 1
+kind = \"attach\"
+cable = \"thin\"
+sink = \"phone\"
+";
+
+/// Keeps the texts that were put there, one after the other.
+#[derive(Drop)]
+struct Drawer {
+    texts: Vec<u8>,
+    is_full: bool,
+}
+
+impl Shelf for Drawer {
+    fn put(&mut self, _: &[u8], text: &[u8]) -> Result<(), DeviceFault> {
+        if self.is_full || self.texts.extend_from_slice(text).is_err() {
+            return Err(DeviceFault);
+        }
+        Ok(())
     }
-    let all = b"ok\nrefused 22\n= contracts\nrefused 12\nrefused 31\nrefused 24\n";
-    let reasons = b"no event has this id\nno cable, or no sink, has this name\n";
-    assert!(rt; writer.writer.writer.as_slice() == all.as_slice());
-    assert!(rt; writer.reasons.writer.as_slice() == reasons.as_slice());
+}
+
+/// What the desk comes to over a script: what it answered, what it told beside that, and what it saved.
+fn run(
+    rt: HostRuntime,
+    scenario: &[u8],
+    script: &[u8],
+    is_full: bool,
+) -> (Vec<u8>, Vec<u8>, Vec<u8>) {
+    let mut outlets = Outlets {
+        answers: page(rt),
+        reasons: page(rt),
+        shelf: Drawer {
+            texts: Vec::new(rt.alloc()),
+            is_full,
+        },
+    };
+    let mut reader = SliceIn { rest: script };
+    let _ = run_live(rt.alloc(), scenario, &mut reader, &mut outlets);
+    (
+        outlets.answers.writer,
+        outlets.reasons.writer,
+        outlets.shelf.texts,
+    )
+}
+
+/// Reasons stand beside refusals, and sentences beside lines of the desk's own that did nothing; these aren't counted.
+#[test]
+fn told_beside(rt: HostRuntime) -> Result<(), Fail> {
+    let script = b"remove 9\n:undo\nremove 1\n:nothing\n:save it\nmove 1 5x";
+    let (answers, told, _) = run(rt, SCENARIO, script, true);
+    let right = b"refused 22\nok\nrefused 20\ndone 1 edits 2 refused 0 shows\n";
+    assert!(rt; answers.as_slice() == right.as_slice());
+    let right = b"no event is 9; there are 1
+no accepted edit is left to take back
+the desk's own lines are :help, :list, :undo, :diff, :save FILE and :why PORT [AT]
+not saved: the file can't be written
+word 3: expected AT in 1 to 10 digits, found `5x`
+";
+    assert!(rt; told.as_slice() == right.as_slice());
+    Ok(())
+}
+
+/// An edit is taken back; what is saved gives the same answers.
+#[test]
+fn undone_and_saved(rt: HostRuntime) -> Result<(), Fail> {
+    let script = b"remove 1\n:undo\n:save it\nshow transcript 1\n";
+    let (answers, _, saved) = run(rt, SCENARIO, script, false);
+    let begin = b"ok\n= undo\n+ insert 1 0 1 attach thin phone\nsaved it\n= transcript 1\n";
+    assert!(rt; answers.as_slice().starts_with(begin));
+    let (first, _, _) = run(rt, SCENARIO, b"show transcript 1\n", false);
+    let (again, _, _) = run(rt, saved.as_slice(), b"show transcript 1\n", false);
+    assert!(rt; first.as_slice() == again.as_slice());
+    assert!(rt; first.len() > 100);
     Ok(())
 }
 

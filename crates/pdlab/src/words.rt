@@ -38,8 +38,18 @@ usage: pdlab live SCENARIO
 
 Runs the charger of the file SCENARIO, reads edits and shows from standard input,
 a line at a time, and answers each on standard output before it reads the next;
-after refused N, says on standard error what rule the line breaks; in a terminal
-asks for each line by a prompt.
+after refused N, says on standard error where the line breaks the rule and what
+would be right there; in a terminal asks for each line by a prompt.
+
+A line with a colon first is the desk's own. It is not counted, and where it can
+do nothing, standard error says why:
+  :list            the scenario as edit lines
+  :undo            takes back the last edit that was made, again and again
+  :diff            lines of contracts, faults and margins that this edit took
+                   away (-) and brought (+)
+  :why PORT [AT]   what bounds a port: its last offer, or each one up to AT
+  :save FILE       writes the scenario to a file, which reads back as the same
+  :help            tells of these lines
 
 Lines, files and numbers are those of pdbench: times in microseconds, voltages in
 mV, currents in mA, powers in mW. The last line tells how many edits were made,
@@ -48,7 +58,8 @@ lines were refused and shows were written.
 example: pdlab live examples/derating.toml
   show contracts
   budget 40000
-  show contracts
+  :diff
+  :undo
 
 status: 0 the lines were answered to their end, 1 the scenario is refused,
         3 a file can't be read, or a fault

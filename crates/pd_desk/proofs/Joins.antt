@@ -1,0 +1,342 @@
+-- How the desk's answers join.
+use Rattle.std.proofs.Common.{◌≡◌, ℕ, ◌+◌, ◌<◌, ◌≤◌, Bool, true, false, cond, eqb, List, [], ◌∷◌, ◌++◌, length, map, All}
+use Rattle.std.proofs.Common.{refl, sym, ap, ◌∙◌, append_assoc, arith, Option, Result, Ok, Err}
+use Rattle.std.specs.Prelude.{MatchResult}
+use Rattle.std.specs.Str.Lines.{lines, strip_carriage_return}
+use Rattle.std.specs.Io.KnownBytes.{Appends, Consumes, IsAtEnd}
+use Rattle.std.proofs.KnownBytes.{Appends-nil, Appends-trans, Consumes-nil, Consumes-trans}
+use Rattle.std.proofs.lemmas.Bool.{ne_eqb}
+use Rattle.std.proofs.lemmas.List.{append-nil, length-append, map-append}
+use Rattle.std.proofs.lemmas.List.Elements.{All-nil, All-push}
+use Rattle.pd_port.specs.declared.entry.Entry.{Entry}
+use Rattle.pd_scenario.specs.Scenarios.{ScenarioData}
+use Rattle.pd_scenario.specs.Plan.{Plan}
+use Rattle.pd_device.specs.Device.{Writes, WrotePart}
+use Rattle.pd_device.specs.declared.fault.BenchFault.{BenchFault}
+use Rattle.pd_device.specs.declared.fault.BenchFault.TheVariants.{ReadFailed, WriteFailed, Memory, ReaderTooLong}
+use Rattle.pd_device.proofs.DeviceLemmas.{WrotePart-after, WrotePart-longer}
+use Rattle.pd_bench.specs.declared.tally.Tally.{Tally}
+use Rattle.pd_bench.specs.Pending.{IsPending}
+use Rattle.pd_bench.specs.Session.{done_text}
+use Rattle.pd_bench.specs.Stream.{IsRunning}
+use Rattle.pd_bench.specs.Traces.{HasNoLineFeed, ended}
+use Rattle.pd_bench.proofs.PendingLemmas.{empty-kept, lines-last}
+use Rattle.pd_bench.proofs.TakenOut.{lines_can_be_taken_out}
+use Rattle.pd_desk.specs.Desk.{DeskReply, DeskReplies, Standing, at_first}
+use Rattle.pd_desk.specs.Ends.{Beside, GoesOut, GoOut, ToldAfter, DeskText, DeskDone, DeskStopped, DeskCut, DeskEnds}
+use Rattle.pd_desk.specs.Taking.{TakingLine, TookLine, TookLast, StopsAt, Answering, AnsweredEnded, last_line, FinishedAll, FinishedSome}
+use Rattle.pd_desk.proofs.DeskLemmas.{writes_after}
+use Rattle.pd_desk.proofs.Kept.{DeskReply-kept, DeskReply-cut}
+
+-- 1. Replies, and what is told beside them
+
+DeskReplies-one : (n : ℕ) (d : Standing) (line reply told : List ℕ) (d' : Standing) → DeskReply n d line reply told d' →
+    DeskReplies n d (line ∷ []) reply (told ∷ []) d'
+DeskReplies-one n d line reply told d' h = (reply, told, [], [], d', h, sym (append-nil reply), refl, (refl, refl, refl))
+
+DeskReplies-append : (n : ℕ) (d : Standing) (ls : List (List ℕ)) (text : List ℕ) (tolds : List (List ℕ)) (d' : Standing)
+    (ls' : List (List ℕ)) (text' : List ℕ) (tolds' : List (List ℕ)) (d'' : Standing)
+    → DeskReplies n d ls text tolds d' → DeskReplies n d' ls' text' tolds' d'' →
+    DeskReplies n d (ls ++ ls') (text ++ text') (tolds ++ tolds') d''
+DeskReplies-append n d [] text tolds d' ls' text' tolds' d'' (text_is, tolds_are, same) second =
+    rw (text_is, tolds_are) (rw same at second)
+DeskReplies-append n d (line ∷ more) text tolds d' ls' text' tolds' d'' (reply, told, rest, others, next, is, text_is, tolds_are, replies)
+    second = (
+      reply,
+      told,
+      rest ++ text',
+      others ++ tolds',
+      next,
+      is,
+      ap (λ v. v ++ text') text_is ∙ append_assoc reply rest text',
+      ap (λ (v : List (List ℕ)). v ++ tolds') tolds_are,
+      DeskReplies-append n next more rest others d' ls' text' tolds' d'' replies second,
+    )
+
+GoOut-one : (told : List ℕ) (a b : Beside) → GoesOut told a b → GoOut (told ∷ []) a b
+GoOut-one told a b h = (b, h, refl)
+
+GoOut-append : (tolds tolds' : List (List ℕ)) (a b c : Beside) → GoOut tolds a b → GoOut tolds' b c → GoOut (tolds ++ tolds') a c
+GoOut-append [] tolds' a b c same second = rw same at second
+GoOut-append (told ∷ more) tolds' a b c (next, first, others) second = (next, first, GoOut-append more tolds' next b c others second)
+
+-- 2. Lines
+
+ended-push : (whole : List (List ℕ)) (raw : List ℕ) → ended (whole ++ raw ∷ []) ≡ ended whole ++ (raw ++ 10 ∷ [])
+ended-push [] raw = refl
+ended-push (line ∷ more) raw =
+    ap (λ v. line ++ 10 ∷ v) (ended-push more raw) ∙ sym (append_assoc line (10 ∷ ended more) (raw ++ 10 ∷ []))
+
+-- so many lines, and then what no line feed ends
+pub lines-open : (whole : List (List ℕ)) (rest : List ℕ) → All HasNoLineFeed whole →
+    lines (ended whole ++ rest) ≡ map strip_carriage_return whole ++ lines rest
+lines-open whole rest h = (lines_can_be_taken_out.ended_line whole [] rest h (λ i x within. absurd (omega arith))).without_line
+
+last-replies : (n : ℕ) (d : Standing) (raw kept reply : List ℕ) (tolds : List (List ℕ)) (d' : Standing) → IsPending raw kept →
+    DeskReplies n d (last_line kept) reply tolds d' → DeskReplies n d (lines raw) reply tolds d'
+last-replies n d raw [] reply tolds d' pending replies =
+    let none : eqb (length raw) 0 ≡ true = empty-kept raw [] pending.stands in
+    rw (lines-last raw pending.open_yet, none) replies
+last-replies n d raw (byte ∷ more) reply tolds d' pending (one, told, rest, others, next, is, text_is, tolds_are, replies) =
+    let some : eqb (length raw) 0 ≡ false = empty-kept raw (byte ∷ more) pending.stands ∙ ne_eqb (length (byte ∷ more)) 0 (λ e. omega arith)
+    in rw (lines-last raw pending.open_yet, some)
+    (one, told, rest, others, next, DeskReply-kept n d raw (byte ∷ more) one told next pending.stands is, text_is, tolds_are, replies)
+
+pub last_line-some : (line : List ℕ) → 0 < length line → last_line line ≡ line ∷ []
+last_line-some [] some = absurd (omega arith)
+last_line-some (byte ∷ more) some = refl
+
+pub last_line-none : (line : List ℕ) → length line ≡ 0 → last_line line ≡ []
+last_line-none [] none = refl
+last_line-none (byte ∷ more) none = absurd (omega arith)
+
+-- 3. The lines that line feeds end
+
+pub Answering-none : (n : ℕ) (left taken : Option (List ℕ)) (w : Beside) (s : ScenarioData) →
+    Answering n left left taken taken w w s (at_first s) 0
+Answering-none n left taken w s = record {
+  whole = [];
+  are_whole = All-nil HasNoLineFeed;
+  consumes = Consumes-nil left;
+  counts = refl;
+  out = [];
+  appends = Appends-nil taken;
+  tolds = [];
+  tells = refl;
+  are_replies = (refl, refl, refl);
+}
+
+-- one line more, which was answered
+pub Answering-more : (n : ℕ) (a b c p q r : Option (List ℕ)) (w w' w'' : Beside) (s : ScenarioData) (d d' : Standing) (total total' : ℕ)
+    (kept reply told : List ℕ)
+    → Answering n a b p q w w' s d total → TookLine b c total total' kept → DeskReply n d kept reply told d' → Appends q r reply →
+    GoesOut told w' w'' → Answering n a c p r w w'' s d' total'
+Answering-more n a b c p q r w w' w'' s d d' total total' kept reply told so_far took replies appends goes =
+    let is = DeskReply-cut n d took.raw took.uncut reply told d' took.pending.stands (rw took.cut at replies) in
+    record {
+      whole = so_far.whole ++ took.raw ∷ [];
+      are_whole = All-push HasNoLineFeed so_far.whole took.raw so_far.are_whole took.pending.open_yet;
+      consumes = rw (ended-push so_far.whole took.raw)
+          (Consumes-trans a b c (ended so_far.whole) (took.raw ++ 10 ∷ []) so_far.consumes took.consumes);
+      counts = omega (
+        arith,
+        ap length (ended-push so_far.whole took.raw),
+        length-append (ended so_far.whole) (took.raw ++ 10 ∷ []),
+        length-append took.raw (10 ∷ []),
+        took.counts,
+        so_far.counts,
+      );
+      out = so_far.out ++ reply;
+      appends = Appends-trans p q r so_far.out reply so_far.appends appends;
+      tolds = so_far.tolds ++ told ∷ [];
+      tells = GoOut-append so_far.tolds (told ∷ []) w w' w'' so_far.tells (GoOut-one told w' w'' goes);
+      are_replies = rw (map-append strip_carriage_return so_far.whole (took.raw ∷ []))
+          (DeskReplies-append n (at_first s) (map strip_carriage_return so_far.whole) so_far.out so_far.tolds d
+          (strip_carriage_return took.raw ∷ []) reply (told ∷ []) d' so_far.are_replies
+          (DeskReplies-one n d (strip_carriage_return took.raw) reply told d' is));
+    }
+
+-- reading ended within a line
+DeskStopped-from : (n : ℕ) (a b c p q : Option (List ℕ)) (w w' : Beside) (s : ScenarioData) (d : Standing) (total total' : ℕ)
+    (kept : List ℕ) (plan : Option Plan) (entries : List (ℕ × Entry))
+    → Answering n a b p q w w' s d total → TakingLine b c total total' kept → IsRunning plan entries d.scenario →
+    DeskStopped n a c p q w w' s total'
+DeskStopped-from n a b c p q w w' s d total total' kept plan entries so_far taking runs = record {
+  whole = so_far.whole;
+  open_yet = taking.raw;
+  are_whole = so_far.are_whole;
+  is_open = taking.pending.open_yet;
+  consumes = Consumes-trans a b c (ended so_far.whole) taking.raw so_far.consumes taking.consumes;
+  counts = omega (arith, length-append (ended so_far.whole) taking.raw, taking.counts, so_far.counts);
+  out = so_far.out;
+  appends = so_far.appends;
+  tolds = so_far.tolds;
+  tells = so_far.tells;
+  after = d;
+  are_replies = so_far.are_replies;
+  run = (entries, runs.1);
+}
+
+pub DeskEnds-stopped : (fault : BenchFault) (n : ℕ) (a b c p q : Option (List ℕ)) (w w' : Beside) (s : ScenarioData) (d : Standing)
+    (total total' : ℕ) (kept : List ℕ) (plan : Option Plan) (entries : List (ℕ × Entry))
+    → Answering n a b p q w w' s d total → TakingLine b c total total' kept × StopsAt fault total' → IsRunning plan entries d.scenario →
+    DeskEnds n (Err fault) a c p q w w' s
+DeskEnds-stopped ReadFailed n a b c p q w w' s d total total' kept plan entries so_far taking runs =
+    (total', taking.1, DeskStopped-from n a b c p q w w' s d total total' kept plan entries so_far taking.0 runs)
+DeskEnds-stopped WriteFailed n a b c p q w w' s d total total' kept plan entries so_far taking runs = absurd taking.1
+DeskEnds-stopped Memory n a b c p q w w' s d total total' kept plan entries so_far taking runs = absurd taking.1
+DeskEnds-stopped ReaderTooLong n a b c p q w w' s d total total' kept plan entries so_far taking runs =
+    rw taking.1 at (DeskStopped-from n a b c p q w w' s d total total' kept plan entries so_far taking.0 runs)
+
+-- the writer failed within the reply to a line
+pub DeskCut-line : (n : ℕ) (a b c p q r : Option (List ℕ)) (w w' : Beside) (s : ScenarioData) (d d' : Standing) (total total' : ℕ)
+    (kept reply told : List ℕ)
+    → Answering n a b p q w w' s d total → TookLine b c total total' kept → DeskReply n d kept reply told d' → WrotePart q r reply →
+    DeskCut n a c p r w w' s
+DeskCut-line n a b c p q r w w' s d d' total total' kept reply told so_far took replies wrote =
+    let is = DeskReply-cut n d took.raw took.uncut reply told d' took.pending.stands (rw took.cut at replies) in
+    let part = WrotePart-longer p r (so_far.out ++ reply) (done_text d'.tally)
+    (WrotePart-after p q r so_far.out reply so_far.appends wrote) in
+    record {
+      bytes = ended so_far.whole ++ (took.raw ++ 10 ∷ []);
+      consumes = Consumes-trans a b c (ended so_far.whole) (took.raw ++ 10 ∷ []) so_far.consumes took.consumes;
+      few = omega (
+        arith,
+        length-append (ended so_far.whole) (took.raw ++ 10 ∷ []),
+        length-append took.raw (10 ∷ []),
+        took.counts,
+        took.few,
+        so_far.counts,
+      );
+      out = part.out;
+      appends = part.appends;
+      tolds = so_far.tolds;
+      later = told ∷ [];
+      tells = so_far.tells;
+      whole = (so_far.out ++ reply) ++ done_text d'.tally;
+      tally = d'.tally;
+      text = record {
+        replies = so_far.out ++ reply;
+        after = d';
+        are_replies = rw ((lines_can_be_taken_out.ended_line so_far.whole took.raw [] so_far.are_whole took.pending.open_yet).with_line)
+            (DeskReplies-append n (at_first s) (map strip_carriage_return so_far.whole) so_far.out so_far.tolds d
+            (strip_carriage_return took.raw ∷ []) reply (told ∷ []) d' so_far.are_replies
+            (DeskReplies-one n d (strip_carriage_return took.raw) reply told d' is));
+        tally_is = refl;
+        text_is = refl;
+      };
+      begins = part.begins;
+    }
+
+-- 4. The end
+
+-- the counts alone were to be written
+pub Finish-none : (n : ℕ) (told : Result (Unit {0}) BenchFault) (p q : Option (List ℕ)) (w : Beside) (d : Standing) (kept : List ℕ) →
+    length kept ≡ 0 → Writes p q told (done_text d.tally)
+    → MatchResult told (λ _. FinishedAll n p q w w d kept d) (λ fault. (fault ≡ WriteFailed) × FinishedSome n p q w w d kept)
+Finish-none n (Ok done) p q w d kept none writes = record {
+  reply = [];
+  appends = writes;
+  tolds = [];
+  tells = refl;
+  are_replies = rw (last_line-none kept none) (refl, refl, refl);
+}
+Finish-none n (Err fault) p q w d kept none writes = (
+  writes.0,
+  record {
+    reply = [];
+    after = d;
+    wrote = writes.1;
+    tolds = [];
+    later = [];
+    tells = refl;
+    are_replies = rw (last_line-none kept none) (refl, refl, refl);
+  },
+)
+
+-- the last line was answered
+pub Finish-line : (n : ℕ) (told : Result (Unit {0}) BenchFault) (p q r : Option (List ℕ)) (w w' : Beside) (d d' : Standing) (kept reply
+    beside : List ℕ) → 0 < length kept → DeskReply n d kept reply beside d' → Appends p q reply → GoesOut beside w w' →
+    Writes q r told (done_text d'.tally)
+    → MatchResult told (λ _. FinishedAll n p r w w' d kept d') (λ fault. (fault ≡ WriteFailed) × FinishedSome n p r w w' d kept)
+Finish-line n (Ok done) p q r w w' d d' kept reply beside some replies appends goes writes = record {
+  reply = reply;
+  appends = Appends-trans p q r reply (done_text d'.tally) appends writes;
+  tolds = beside ∷ [];
+  tells = GoOut-one beside w w' goes;
+  are_replies = rw (last_line-some kept some) (DeskReplies-one n d kept reply beside d' replies);
+}
+Finish-line n (Err fault) p q r w w' d d' kept reply beside some replies appends goes writes = (
+  writes.0,
+  record {
+    reply = reply;
+    after = d';
+    wrote = WrotePart-after p q r reply (done_text d'.tally) appends writes.1;
+    tolds = beside ∷ [];
+    later = [];
+    tells = GoOut-one beside w w' goes;
+    are_replies = rw (last_line-some kept some) (DeskReplies-one n d kept reply beside d' replies);
+  },
+)
+
+-- the writer failed within the reply to the last line
+pub Finish-failed : (n : ℕ) (p q : Option (List ℕ)) (w w' : Beside) (d d' : Standing) (kept reply beside : List ℕ) (fault : BenchFault)
+    → 0 < length kept → DeskReply n d kept reply beside d' → (fault ≡ WriteFailed) × WrotePart p q reply → w' ≡ w →
+    (fault ≡ WriteFailed) × FinishedSome n p q w w' d kept
+Finish-failed n p q w w' d d' kept reply beside fault some replies failed same = (
+  failed.0,
+  record {
+    reply = reply;
+    after = d';
+    wrote = WrotePart-longer p q reply (done_text d'.tally) failed.1;
+    tolds = [];
+    later = beside ∷ [];
+    tells = same;
+    are_replies = rw (last_line-some kept some) (DeskReplies-one n d kept reply beside d' replies);
+  },
+)
+
+all-replies : (n : ℕ) (s : ScenarioData) (whole : List (List ℕ)) (raw kept out reply : List ℕ) (tolds tolds' : List (List ℕ))
+    (d d' : Standing) → All HasNoLineFeed whole → IsPending raw kept
+    → DeskReplies n (at_first s) (map strip_carriage_return whole) out tolds d → DeskReplies n d (last_line kept) reply tolds' d' →
+    DeskReplies n (at_first s) (lines (ended whole ++ raw)) (out ++ reply) (tolds ++ tolds') d'
+all-replies n s whole raw kept out reply tolds tolds' d d' h pending first second =
+    rw (lines-open whole raw h)
+    (DeskReplies-append n (at_first s) (map strip_carriage_return whole) out tolds d (lines raw) reply tolds' d' first
+    (last-replies n d raw kept reply tolds' d' pending second))
+
+-- all was read and answered
+pub DeskDone-from : (n : ℕ) (a c p q r : Option (List ℕ)) (w w' w'' : Beside) (s : ScenarioData) (d d' : Standing) (kept : List ℕ)
+    → AnsweredEnded n a c p q w w' s d kept → FinishedAll n q r w' w'' d kept d' → DeskDone n a c p r w w'' s d'.tally
+DeskDone-from n a c p q r w w' w'' s d d' kept so_far last =
+    let one = so_far.answering in
+    let taking = so_far.took.taking in
+    record {
+      bytes = ended one.whole ++ taking.raw;
+      consumes = Consumes-trans a so_far.between c (ended one.whole) taking.raw one.consumes taking.consumes;
+      at_end = so_far.took.at_end;
+      few = omega (arith, length-append (ended one.whole) taking.raw, taking.counts, so_far.took.few, one.counts);
+      out = one.out ++ (last.reply ++ done_text d'.tally);
+      appends = Appends-trans p q r one.out (last.reply ++ done_text d'.tally) one.appends last.appends;
+      tolds = one.tolds ++ last.tolds;
+      tells = GoOut-append one.tolds last.tolds w w' w'' one.tells last.tells;
+      text = record {
+        replies = one.out ++ last.reply;
+        after = d';
+        are_replies =
+            all-replies n s one.whole taking.raw kept one.out last.reply one.tolds last.tolds d d' one.are_whole taking.pending
+            one.are_replies last.are_replies;
+        tally_is = refl;
+        text_is = sym (append_assoc one.out last.reply (done_text d'.tally));
+      };
+    }
+
+-- the writer failed at the end
+pub DeskCut-end : (n : ℕ) (a c p q r : Option (List ℕ)) (w w' w'' : Beside) (s : ScenarioData) (d : Standing) (kept : List ℕ)
+    → AnsweredEnded n a c p q w w' s d kept → FinishedSome n q r w' w'' d kept → DeskCut n a c p r w w'' s
+DeskCut-end n a c p q r w w' w'' s d kept so_far last =
+    let one = so_far.answering in
+    let taking = so_far.took.taking in
+    let part = WrotePart-after p q r one.out (last.reply ++ done_text last.after.tally) one.appends last.wrote in
+    record {
+      bytes = ended one.whole ++ taking.raw;
+      consumes = Consumes-trans a so_far.between c (ended one.whole) taking.raw one.consumes taking.consumes;
+      few = omega (arith, length-append (ended one.whole) taking.raw, taking.counts, so_far.took.few, one.counts);
+      out = part.out;
+      appends = part.appends;
+      tolds = one.tolds ++ last.tolds;
+      later = last.later;
+      tells = GoOut-append one.tolds last.tolds w w' w'' one.tells last.tells;
+      whole = one.out ++ (last.reply ++ done_text last.after.tally);
+      tally = last.after.tally;
+      text = record {
+        replies = one.out ++ last.reply;
+        after = last.after;
+        are_replies = rw (append_assoc one.tolds last.tolds last.later)
+            (all-replies n s one.whole taking.raw kept one.out last.reply one.tolds (last.tolds ++ last.later) d last.after one.are_whole
+            taking.pending one.are_replies last.are_replies);
+        tally_is = refl;
+        text_is = sym (append_assoc one.out last.reply (done_text last.after.tally));
+      };
+      begins = part.begins;
+    }

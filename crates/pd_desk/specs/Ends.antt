@@ -1,0 +1,110 @@
+-- What the desk reads and writes, by its answer.
+use Rattle.std.specs.Prelude.{◌≡◌, ℕ, ◌≤◌, List, [], ◌∷◌, ◌++◌, length, map, All, false, Result, Ok, Err, Option}
+use Rattle.std.specs.Str.Lines.{lines, strip_carriage_return}
+use Rattle.std.specs.Io.KnownBytes.{Appends, Consumes, IsAtEnd}
+use Rattle.pd_scenario.specs.Scenarios.{ScenarioData}
+use Rattle.pd_device.specs.Device.{Begins, CountsFailure, Writes}
+use Rattle.pd_device.specs.declared.fault.BenchFault.{BenchFault}
+use Rattle.pd_device.specs.declared.fault.BenchFault.TheVariants.{ReadFailed, WriteFailed, Memory, ReaderTooLong}
+use Rattle.pd_bench.specs.declared.tally.Tally.{Tally}
+use Rattle.pd_bench.specs.Session.{done_text}
+use Rattle.pd_bench.specs.Stream.{HasRun}
+use Rattle.pd_bench.specs.Traces.{HasNoLineFeed, ended}
+use Rattle.pd_desk.specs.Desk.{DeskReplies, Standing, at_first}
+
+-- ---- what is told beside the replies
+
+-- what is known of the writer that takes it: its bytes, where it tells them, and how many of its calls failed
+pub record Beside : Type 0 where
+  pub taken : Option (List ℕ)
+  pub failures : ℕ
+
+abbrev pub beside : Option (List ℕ) → ℕ → Beside
+beside taken failures = record { taken = taken; failures = failures }
+
+-- A text went out, or its writer failed after the first bytes of it; that is no fault of the answers.
+abbrev pub GoesOut : List ℕ → Beside → Beside → Type 0
+GoesOut text w w' = (told : Result (Unit {0}) BenchFault) × Writes w.taken w'.taken told text × CountsFailure w.failures w'.failures told
+
+-- one text after the other
+abbrev pub GoOut : List (List ℕ) → Beside → Beside → Type 0
+GoOut [] w w' = w' ≡ w
+GoOut (text ∷ more) w w' = (next : Beside) × GoesOut text w next × GoOut more next w'
+
+-- Where the answer went out, the text was told; else nothing was.
+abbrev pub ToldAfter : Result (Unit {0}) BenchFault → List ℕ → Beside → Beside → Type 0
+ToldAfter (Ok done) text w w' = GoesOut text w w'
+ToldAfter (Err fault) text w w' = w' ≡ w
+
+-- ---- the whole text
+
+-- the text of the desk over these bytes: the replies to their lines, and at the end the counts
+pub record DeskText (n : ℕ) (s : ScenarioData) (bytes text : List ℕ) (tolds : List (List ℕ)) (tally : Tally) : Type 0 where
+  pub replies : List ℕ
+  pub after : Standing
+  pub are_replies : DeskReplies n (at_first s) (lines bytes) replies tolds after
+  pub tally_is : tally ≡ after.tally
+  pub text_is : text ≡ replies ++ done_text tally
+
+-- all that the reader has left was read, and the text over it was written
+pub record DeskDone (n : ℕ) (left left' taken taken' : Option (List ℕ)) (w w' : Beside) (s : ScenarioData) (tally : Tally) : Type 0 where
+  pub bytes : List ℕ
+  pub consumes : Consumes left left' bytes
+  pub at_end : IsAtEnd left'
+  pub few : length bytes ≤ 16777216
+  pub out : List ℕ
+  pub appends : Appends taken taken' out
+  pub tolds : List (List ℕ)
+  pub tells : GoOut tolds w w'
+  pub text : DeskText n s bytes out tolds tally
+
+-- So many bytes were read: some ended lines, whose replies were written, and the first bytes of one more. The scenario that
+-- stands then has a run.
+pub record DeskStopped (n : ℕ) (left left' taken taken' : Option (List ℕ)) (w w' : Beside) (s : ScenarioData) (count : ℕ) : Type 0 where
+  pub whole : List (List ℕ)
+  pub open_yet : List ℕ
+  pub are_whole : All HasNoLineFeed whole
+  pub is_open : HasNoLineFeed open_yet
+  pub consumes : Consumes left left' (ended whole ++ open_yet)
+  pub counts : length (ended whole ++ open_yet) ≡ count
+  pub out : List ℕ
+  pub appends : Appends taken taken' out
+  pub tolds : List (List ℕ)
+  pub tells : GoOut tolds w w'
+  pub after : Standing
+  pub are_replies : DeskReplies n (at_first s) (map strip_carriage_return whole) out tolds after
+  pub run : HasRun after.scenario
+
+-- some bytes were read, and what was written begins the text over them
+pub record DeskCut (n : ℕ) (left left' taken taken' : Option (List ℕ)) (w w' : Beside) (s : ScenarioData) : Type 0 where
+  pub bytes : List ℕ
+  pub consumes : Consumes left left' bytes
+  pub few : length bytes ≤ 16777217
+  pub out : List ℕ
+  pub appends : Appends taken taken' out
+  pub tolds : List (List ℕ)
+  pub later : List (List ℕ)
+  pub tells : GoOut tolds w w'
+  pub whole : List ℕ
+  pub tally : Tally
+  pub text : DeskText n s bytes whole (tolds ++ later) tally
+  pub begins : Begins out whole
+
+-- Without memory for the first run nothing is read, written or told.
+abbrev pub DeskEnds : ℕ → Result Tally BenchFault → Option (List ℕ) → Option (List ℕ) → Option (List ℕ) → Option (List ℕ) →
+    Beside → Beside → ScenarioData → Type 0
+DeskEnds n (Ok tally) left left' taken taken' w w' s = DeskDone n left left' taken taken' w w' s tally
+DeskEnds n (Err ReadFailed) left left' taken taken' w w' s =
+    (count : ℕ) × (count ≤ 16777216) × DeskStopped n left left' taken taken' w w' s count
+DeskEnds n (Err WriteFailed) left left' taken taken' w w' s = DeskCut n left left' taken taken' w w' s
+DeskEnds n (Err Memory) left left' taken taken' w w' s = (left' ≡ left) × (taken' ≡ taken) × (w' ≡ w)
+DeskEnds n (Err ReaderTooLong) left left' taken taken' w w' s = DeskStopped n left left' taken taken' w w' s 16777217
+
+-- the bytes that were read
+abbrev pub read_of : (n : ℕ) (result : Result Tally BenchFault) (left left' taken taken' : Option (List ℕ)) (w w' : Beside)
+    (s : ScenarioData) → DeskEnds n result left left' taken taken' w w' s → List ℕ
+read_of n (Ok tally) left left' taken taken' w w' s ends = ends.bytes
+read_of n (Err ReadFailed) left left' taken taken' w w' s ends = ended ends.2.whole ++ ends.2.open_yet
+read_of n (Err WriteFailed) left left' taken taken' w w' s ends = ends.bytes
+read_of n (Err Memory) left left' taken taken' w w' s ends = []
+read_of n (Err ReaderTooLong) left left' taken taken' w w' s ends = ended ends.whole ++ ends.open_yet

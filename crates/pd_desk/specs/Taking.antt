@@ -1,0 +1,93 @@
+-- How lines are taken from a reader, and answered.
+use Rattle.std.specs.Prelude.{◌≡◌, ℕ, ◌+◌, ◌≤◌, Bool, true, false, List, [], ◌∷◌, ◌++◌, length, map, All, Option}
+use Rattle.std.specs.Str.Lines.{strip_carriage_return}
+use Rattle.std.specs.Io.KnownBytes.{Appends, Consumes, IsAtEnd}
+use Rattle.pd_scenario.specs.Scenarios.{ScenarioData}
+use Rattle.pd_device.specs.Device.{WrotePart}
+use Rattle.pd_device.specs.declared.fault.BenchFault.{BenchFault}
+use Rattle.pd_device.specs.declared.fault.BenchFault.TheVariants.{ReadFailed, WriteFailed, Memory, ReaderTooLong}
+use Rattle.pd_bench.specs.Pending.{IsPending}
+use Rattle.pd_bench.specs.Session.{done_text}
+use Rattle.pd_bench.specs.Traces.{HasNoLineFeed, ended}
+use Rattle.pd_desk.specs.Desk.{DeskReplies, Standing, at_first}
+use Rattle.pd_desk.specs.Ends.{Beside, GoOut}
+
+-- The bytes of a line were read, and no line feed. What is kept stands for them.
+pub record TakingLine (left left' : Option (List ℕ)) (total total' : ℕ) (kept : List ℕ) : Type 0 where
+  pub raw : List ℕ
+  pub pending : IsPending raw kept
+  pub consumes : Consumes left left' raw
+  pub counts : total' ≡ total + length raw
+
+-- a line was read, and the line feed that ends it
+pub record TookLine (left left' : Option (List ℕ)) (total total' : ℕ) (kept : List ℕ) : Type 0 where
+  pub raw : List ℕ
+  pub uncut : List ℕ
+  pub pending : IsPending raw uncut
+  pub cut : kept ≡ strip_carriage_return uncut
+  pub consumes : Consumes left left' (raw ++ 10 ∷ [])
+  pub counts : total' ≡ total + (length raw + 1)
+  pub few : total' ≤ 16777217
+
+-- the last bytes were read, which no line feed ends
+pub record TookLast (left left' : Option (List ℕ)) (total total' : ℕ) (kept : List ℕ) : Type 0 where
+  pub taking : TakingLine left left' total total' kept
+  pub at_end : IsAtEnd left'
+  pub few : total' ≤ 16777216
+
+abbrev pub Took : Bool → Option (List ℕ) → Option (List ℕ) → ℕ → ℕ → List ℕ → Type 0
+Took true left left' total total' kept = TookLine left left' total total' kept
+Took false left left' total total' kept = TookLast left left' total total' kept
+
+-- how many bytes were read where reading ends so
+abbrev pub StopsAt : BenchFault → ℕ → Type 0
+StopsAt ReadFailed total = total ≤ 16777216
+StopsAt WriteFailed total = ⊥
+StopsAt Memory total = ⊥
+StopsAt ReaderTooLong total = total ≡ 16777217
+
+-- some ended lines were read, and their replies written
+pub record Answering (n : ℕ) (left left' taken taken' : Option (List ℕ)) (w w' : Beside) (s : ScenarioData) (after : Standing)
+    (total : ℕ) : Type 0 where
+  pub whole : List (List ℕ)
+  pub are_whole : All HasNoLineFeed whole
+  pub consumes : Consumes left left' (ended whole)
+  pub counts : total ≡ length (ended whole)
+  pub out : List ℕ
+  pub appends : Appends taken taken' out
+  pub tolds : List (List ℕ)
+  pub tells : GoOut tolds w w'
+  pub are_replies : DeskReplies n (at_first s) (map strip_carriage_return whole) out tolds after
+
+-- all was read, and all answered but the last bytes, where no line feed ends them
+pub record AnsweredEnded (n : ℕ) (left left' taken taken' : Option (List ℕ)) (w w' : Beside) (s : ScenarioData) (after : Standing)
+    (kept : List ℕ) : Type 0 where
+  pub between : Option (List ℕ)
+  pub total : ℕ
+  pub total' : ℕ
+  pub answering : Answering n left between taken taken' w w' s after total
+  pub took : TookLast between left' total total' kept
+
+-- the lines of the last bytes, where no line feed ends them
+abbrev pub last_line : List ℕ → List (List ℕ)
+last_line [] = []
+last_line (byte ∷ more) = (byte ∷ more) ∷ []
+
+-- the last line was answered, where there is one, and the counts were written
+pub record FinishedAll (n : ℕ) (taken taken' : Option (List ℕ)) (w w' : Beside) (d : Standing) (kept : List ℕ) (d' : Standing) : Type
+    0 where
+  pub reply : List ℕ
+  pub appends : Appends taken taken' (reply ++ done_text d'.tally)
+  pub tolds : List (List ℕ)
+  pub tells : GoOut tolds w w'
+  pub are_replies : DeskReplies n d (last_line kept) reply tolds d'
+
+-- the writer failed after the first bytes of that
+pub record FinishedSome (n : ℕ) (taken taken' : Option (List ℕ)) (w w' : Beside) (d : Standing) (kept : List ℕ) : Type 0 where
+  pub reply : List ℕ
+  pub after : Standing
+  pub wrote : WrotePart taken taken' (reply ++ done_text after.tally)
+  pub tolds : List (List ℕ)
+  pub later : List (List ℕ)
+  pub tells : GoOut tolds w w'
+  pub are_replies : DeskReplies n d (last_line kept) reply (tolds ++ later) after
