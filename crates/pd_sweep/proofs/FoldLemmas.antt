@@ -58,6 +58,13 @@ module _ {S : Type 0} (f : S → ℕ × Entry → S) (s : S) (moves : List (ℕ 
     pub fold_start : (next : ℕ) → IsNextWith note moves 0 next → s ≡ fold f s (take next moves)
     fold_start next n = let up : 0 ≤ next = omega arith in sym (fold_passed 0 next up n.within n.none_between)
 
+    -- from a later one on
+    pub fold_from : (from next : ℕ) (old : S) → from ≤ length moves → old ≡ fold f s (take from moves) →
+        IsNextWith note moves from next → old ≡ fold f s (take next moves)
+    fold_from from next old within so n =
+        let up : from ≤ next = let b = n.not_before in omega (arith, within, b) in
+        so ∙ sym (fold_passed from next up n.within n.none_between)
+
     -- after one more
     pub fold_step : (i next : ℕ) (old new : S) → i < length moves → old ≡ fold f s (take i moves) →
         MatchOption (slice_get moves i) ⊥ (λ m. new ≡ f old m) → IsNextWith note moves (i + 1) next → new ≡ fold f s (take next moves)

@@ -30,7 +30,7 @@ hit_stays t moves i h =
     ap (is_hit t) (sym (take-append-drop i moves)) ∙ list_any-append (hits t) (take i moves) (drop i moves)
     ∙ ap (λ b. b || is_hit t (drop i moves)) (sym (any_is t (take i moves)) ∙ h)
 
-and_false : (b : Bool) → (b && false) ≡ false
+pub and_false : (b : Bool) → (b && false) ≡ false
 and_false true = refl
 and_false false = refl
 

@@ -1,6 +1,9 @@
 -- Texts that are written part by part.
 use Rattle.std.proofs.Common.{◌≡◌, ℕ, List, ◌++◌, append_assoc}
 
+pub joined_three : (t t1 t2 t3 a b c : List ℕ) → t1 ≡ t ++ a → t2 ≡ t1 ++ b → t3 ≡ t2 ++ c → t3 ≡ t ++ (a ++ (b ++ c))
+joined_three t t1 t2 t3 a b c h1 h2 h3 = rw (h3, h2, h1) (simp append_assoc)
+
 pub joined_four : (t t1 t2 t3 t4 a b c d : List ℕ) → t1 ≡ t ++ a → t2 ≡ t1 ++ b → t3 ≡ t2 ++ c → t4 ≡ t3 ++ d →
     t4 ≡ t ++ (a ++ (b ++ (c ++ d)))
 joined_four t t1 t2 t3 t4 a b c d h1 h2 h3 h4 = rw (h4, h3, h2, h1) (simp append_assoc)

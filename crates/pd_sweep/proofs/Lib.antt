@@ -2,5 +2,7 @@ pub mod FoldLemmas
 mod HitLemmas
 mod IdLemmas
 pub mod JoinLemmas
+mod PlaceLemmas
 mod QuietLemmas
+mod RowLemmas
 mod SweepLemmas

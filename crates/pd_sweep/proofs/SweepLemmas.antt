@@ -14,33 +14,32 @@ use Rattle.pd_run.specs.Shown.{Shows}
 use Rattle.pd_scenario.specs.Plans.{plan_of}
 use Rattle.pd_scenario.specs.Scenarios.{ScenarioData}
 use Rattle.pd_sweep.specs.Choices.{chosen}
-use Rattle.pd_sweep.specs.Summaries.{summary_of}
+use Rattle.pd_sweep.specs.Summaries.{AreFindings}
 use Rattle.pd_sweep.specs.Sweeps.{BeganSweep, WroteSweep, lines_of, packets}
 use Rattle.pd_sweep.specs.Tallies.{no_trial, noted_trial, tally_of, tally_words}
 use Rattle.pd_sweep.specs.Trials.{IsTrial}
 use Rattle.pd_sweep.specs.Words.{trial_line}
-use Rattle.pd_sweep.specs.declared.choice.Choice.{Choice}
-use Rattle.pd_sweep.specs.declared.choice.Loss.{Loss}
-use Rattle.pd_sweep.specs.declared.summary.Summary.{Summary}
+use Rattle.pd_sweep.specs.declared.choice.Campaign.{Campaign}
+use Rattle.pd_sweep.specs.declared.findings.Findings.{Findings}
 use Rattle.pd_sweep.specs.declared.tally.Tally.{Tally}
 use Rattle.pd_sweep.specs.declared.target.Target.{Target}
 use Rattle.pd_sweep.specs.declared.trial.Trial.{Trial}
 
 -- the trials of the first packets, whose lines were written, and their tally
-pub record Progress (n : ℕ) (c : ScenarioData) (loss : Loss) (old : Summary) (targets : List Target) (i : ℕ) (tally : Tally)
+pub record Progress (n : ℕ) (c : ScenarioData) (order : Campaign) (old : Findings) (targets : List Target) (i : ℕ) (tally : Tally)
     (a b : Option (List ℕ)) : Type 0 where
   pub trials : List Trial
   pub packets_are : packets trials ≡ take i targets
-  pub each : AllByRecursion (IsTrial n c loss) trials
-  pub tally_is : tally ≡ tally_of old trials
+  pub each : AllByRecursion (IsTrial n c order) trials
+  pub tally_is : tally ≡ tally_of order.reserve old trials
   pub appends : Appends a b (lines_of old trials)
 
 each_more : (P : Trial → Type 0) (xs : List Trial) (x : Trial) → AllByRecursion P xs → P x → AllByRecursion P (xs ++ x ∷ [])
 each_more P [] x h p = (p, tt)
 each_more P (y ∷ xs) x h p = (h.0, each_more P xs x h.1 p)
 
-module _ (n : ℕ) (c : ScenarioData) (loss : Loss) (old : Summary) (targets : List Target) where
-  pub progress_none : (tally : Tally) (a : Option (List ℕ)) → tally ≡ no_trial → Progress n c loss old targets 0 tally a a
+module _ (n : ℕ) (c : ScenarioData) (order : Campaign) (old : Findings) (targets : List Target) where
+  pub progress_none : (tally : Tally) (a : Option (List ℕ)) → tally ≡ no_trial → Progress n c order old targets 0 tally a a
   progress_none tally a e = record { trials = []; packets_are = refl; each = tt; tally_is = e; appends = Appends-nil a }
 
   lines_push : (trials : List Trial) (trial : Trial) → lines_of old (trials ++ trial ∷ []) ≡ lines_of old trials ++ trial_line old trial
@@ -48,77 +47,82 @@ module _ (n : ℕ) (c : ScenarioData) (loss : Loss) (old : Summary) (targets : L
       flat_map-append (trial_line old) trials (trial ∷ []) ∙ ap (λ v. lines_of old trials ++ v) (append-nil (trial_line old trial))
 
   pub progress_more : (i : ℕ) (tally tally' : Tally) (a b d : Option (List ℕ)) (trial : Trial) →
-      Progress n c loss old targets i tally a b → take (i + 1) targets ≡ take i targets ++ trial.target ∷ [] → IsTrial n c loss trial →
-      tally' ≡ noted_trial old tally trial → Appends b d (trial_line old trial) → Progress n c loss old targets (i + 1) tally' a d
+      Progress n c order old targets i tally a b → take (i + 1) targets ≡ take i targets ++ trial.target ∷ [] → IsTrial n c order trial →
+      tally' ≡ noted_trial order.reserve old tally trial → Appends b d (trial_line old trial) →
+      Progress n c order old targets (i + 1) tally' a d
   progress_more i tally tally' a b d trial p here is noted wrote = record {
     trials = p.trials ++ trial ∷ [];
     packets_are =
         map-append (λ (x : Trial). x.target) p.trials (trial ∷ []) ∙ ap (λ v. v ++ trial.target ∷ []) p.packets_are ∙ sym here;
-    each = each_more (IsTrial n c loss) p.trials trial p.each is;
+    each = each_more (IsTrial n c order) p.trials trial p.each is;
     tally_is =
-        noted ∙ ap (λ v. noted_trial old v trial) p.tally_is ∙ sym (fold-append (noted_trial old) no_trial p.trials (trial ∷ []));
+        noted ∙ ap (λ v. noted_trial order.reserve old v trial) p.tally_is
+        ∙ sym (fold-append (noted_trial order.reserve old) no_trial p.trials (trial ∷ []));
     appends =
         rw (lines_push p.trials trial) (Appends-trans a b d (lines_of old p.trials) (trial_line old trial) p.appends wrote);
   }
 
-  module _ (choice : Choice) (base : List (ℕ × Entry)) (shows : Shows (plan_of c) base) (old_is : old ≡ summary_of base)
-      (targets_are : targets ≡ chosen choice base) where
+  module _ (base : List (ℕ × Entry)) (shows : Shows (plan_of c) base) (old_is : AreFindings (plan_of c) base old)
+      (targets_are : targets ≡ chosen order.choice base) where
     -- what was written of the lines of these trials
     pub began : (i : ℕ) (trials : List Trial) (a b : Option (List ℕ)) → packets trials ≡ take i targets →
-        AllByRecursion (IsTrial n c loss) trials → WrotePart a b (lines_of old trials ++ tally_words (tally_of old trials)) →
-        BeganSweep n c choice loss a b
+        AllByRecursion (IsTrial n c order) trials →
+        WrotePart a b (lines_of old trials ++ tally_words order.reserve (tally_of order.reserve old trials)) →
+        BeganSweep n c order a b
     began i trials a b here each part = record {
       base = base;
       shows = shows;
+      without = old;
+      without_is = old_is;
       trials = trials;
       rest = drop i targets;
       packets_are = ap (λ v. v ++ drop i targets) here ∙ take-append-drop i targets ∙ targets_are;
       each = each;
-      part =
-          let P : Summary → Type 0 = λ s. WrotePart a b (lines_of s trials ++ tally_words (tally_of s trials)) in subst P old_is part;
+      part = part;
     }
 
-    pub began_so_far : (i : ℕ) (tally : Tally) (a b : Option (List ℕ)) → Progress n c loss old targets i tally a b →
-        BeganSweep n c choice loss a b
+    pub began_so_far : (i : ℕ) (tally : Tally) (a b : Option (List ℕ)) → Progress n c order old targets i tally a b →
+        BeganSweep n c order a b
     began_so_far i tally a b p =
         began i p.trials a b p.packets_are p.each (record {
           out = lines_of old p.trials;
-          begins = (tally_words (tally_of old p.trials), refl);
+          begins = (tally_words order.reserve (tally_of order.reserve old p.trials), refl);
           appends = p.appends;
         })
 
     -- a line that is written in part
-    pub began_torn : (i : ℕ) (tally : Tally) (a b d : Option (List ℕ)) (trial : Trial) → Progress n c loss old targets i tally a b →
-        take (i + 1) targets ≡ take i targets ++ trial.target ∷ [] → IsTrial n c loss trial → WrotePart b d (trial_line old trial) →
-        BeganSweep n c choice loss a d
+    pub began_torn : (i : ℕ) (tally : Tally) (a b d : Option (List ℕ)) (trial : Trial) → Progress n c order old targets i tally a b →
+        take (i + 1) targets ≡ take i targets ++ trial.target ∷ [] → IsTrial n c order trial → WrotePart b d (trial_line old trial) →
+        BeganSweep n c order a d
     began_torn i tally a b d trial p here is part =
         let trials : List Trial = p.trials ++ trial ∷ [] in
         let all : WrotePart a d (lines_of old trials) =
         rw (lines_push p.trials trial) (WrotePart-after a b d (lines_of old p.trials) (trial_line old trial) p.appends part) in
         began (i + 1) trials a d
         (map-append (λ (x : Trial). x.target) p.trials (trial ∷ []) ∙ ap (λ v. v ++ trial.target ∷ []) p.packets_are ∙ sym here)
-        (each_more (IsTrial n c loss) p.trials trial p.each is)
-        (WrotePart-longer a d (lines_of old trials) (tally_words (tally_of old trials)) all)
+        (each_more (IsTrial n c order) p.trials trial p.each is)
+        (WrotePart-longer a d (lines_of old trials) (tally_words order.reserve (tally_of order.reserve old trials)) all)
 
     -- the summary that is written in part
-    pub began_closing : (i : ℕ) (tally : Tally) (a b d : Option (List ℕ)) → Progress n c loss old targets i tally a b →
-        WrotePart b d (tally_words tally) → BeganSweep n c choice loss a d
+    pub began_closing : (i : ℕ) (tally : Tally) (a b d : Option (List ℕ)) → Progress n c order old targets i tally a b →
+        WrotePart b d (tally_words order.reserve tally) → BeganSweep n c order a d
     began_closing i tally a b d p part =
-        let P : Tally → Type 0 = λ t. WrotePart b d (tally_words t) in
+        let P : Tally → Type 0 = λ t. WrotePart b d (tally_words order.reserve t) in
         began i p.trials a d p.packets_are p.each
-        (WrotePart-after a b d (lines_of old p.trials) (tally_words (tally_of old p.trials)) p.appends (subst P p.tally_is part))
+        (WrotePart-after a b d (lines_of old p.trials) (tally_words order.reserve (tally_of order.reserve old p.trials)) p.appends
+        (subst P p.tally_is part))
 
     -- all
-    pub wrote : (i : ℕ) (tally : Tally) (a b d : Option (List ℕ)) → length targets ≤ i → Progress n c loss old targets i tally a b →
-        Appends b d (tally_words tally) → WroteSweep n c choice loss a d tally
+    pub wrote : (i : ℕ) (tally : Tally) (a b d : Option (List ℕ)) → length targets ≤ i → Progress n c order old targets i tally a b →
+        Appends b d (tally_words order.reserve tally) → WroteSweep n c order a d tally
     wrote i tally a b d past p closing = record {
       base = base;
       shows = shows;
+      without = old;
+      without_is = old_is;
       trials = p.trials;
       packets_are = p.packets_are ∙ take_all i targets past ∙ targets_are;
       each = p.each;
-      tally_is = let P : Summary → Type 0 = λ s. tally ≡ tally_of s p.trials in subst P old_is p.tally_is;
-      appends =
-          let P : Summary → Type 0 = λ s. Appends a d (lines_of s p.trials ++ tally_words tally) in
-          subst P old_is (Appends-trans a b d (lines_of old p.trials) (tally_words tally) p.appends closing);
+      tally_is = p.tally_is;
+      appends = Appends-trans a b d (lines_of old p.trials) (tally_words order.reserve tally) p.appends closing;
     }

@@ -1,11 +1,14 @@
 -- What is told of a whole run.
-use Rattle.std.specs.Prelude.{ℕ, ◌+◌, ◌-◌, Bool, true, false, List, length, fold, count_by, replicate, slice_set, Option, Some, None}
+use Rattle.std.specs.Prelude.{◌≡◌, ℕ, ◌+◌, ◌-◌, Bool, true, false, List, length, fold, count_by, replicate, slice_set, Option, Some, None}
 use Rattle.pd_objects.specs.declared.contract.Contract.{Contract}
 use Rattle.pd_line.specs.declared.notes.Fault.{Fault}
 use Rattle.pd_line.specs.declared.notes.Fault.TheVariants.{HardReset}
 use Rattle.pd_port.specs.declared.entry.ContractChange.{ContractChange}
 use Rattle.pd_port.specs.declared.entry.ContractChange.TheVariants.{Made, Lost}
 use Rattle.pd_port.specs.declared.entry.Entry.{Entry}
+use Rattle.pd_scenario.specs.Plan.{Plan}
+use Rattle.pd_report.specs.LeastMargin.{IsLeastMargin}
+use Rattle.pd_sweep.specs.declared.findings.Findings.{Findings}
 use Rattle.pd_sweep.specs.declared.summary.Mishaps.{Mishaps}
 use Rattle.pd_sweep.specs.declared.summary.Standing.{Standing}
 use Rattle.pd_sweep.specs.declared.summary.Summary.{Summary}
@@ -55,3 +58,10 @@ mishaps_of moves = fold mishaps_after no_mishap moves
 -- ---- both
 abbrev pub summary_of : List (ℕ × Entry) → Summary
 summary_of moves = record { standing = standing_of moves; mishaps = mishaps_of moves }
+
+-- ---- what the contracts leave of the budget
+
+-- these are found of the run of a plan: its summary, and the least margin at the end of an instant with the first such instant
+pub record AreFindings (plan : Plan) (moves : List (ℕ × Entry)) (findings : Findings) : Type 0 where
+  pub summary_is : findings.summary ≡ summary_of moves
+  pub margin_is : IsLeastMargin plan moves findings.margin

@@ -1,7 +1,10 @@
 -- What all trials come to.
-use Rattle.std.specs.Prelude.{ℕ, ◌+◌, ◌-◌, nat_lt, if◌then◌else◌, List, [], ◌∷◌, ◌++◌, fold, codes, decimal, Option, Some, None}
+use Rattle.std.specs.Prelude.{ℕ, ◌+◌, ◌-◌, ◌*◌, nat_lt, Bool, false, if◌then◌else◌, List, [], ◌∷◌, ◌++◌, fold, codes, decimal}
+use Rattle.std.specs.Prelude.{Option, Some, None}
+use Rattle.pd_report.specs.declared.least.Margin.{Margin}
 use Rattle.pd_sweep.specs.Words.{are_same, packet_words}
-use Rattle.pd_sweep.specs.declared.summary.Summary.{Summary}
+use Rattle.pd_sweep.specs.declared.findings.Findings.{Findings}
+use Rattle.pd_sweep.specs.declared.tally.Lowest.{Lowest}
 use Rattle.pd_sweep.specs.declared.tally.Tally.{Tally}
 use Rattle.pd_sweep.specs.declared.tally.Worst.{Worst}
 use Rattle.pd_sweep.specs.declared.target.Target.{Target}
@@ -11,7 +14,7 @@ use Rattle.pd_sweep.specs.declared.trial.Trial.{Trial}
 
 -- nothing was tried
 abbrev pub no_trial : Tally
-no_trial = record { tried = 0; changed = 0; settled = None; faults = None; hard_resets = None }
+no_trial = record { tried = 0; changed = 0; settled = None; faults = None; hard_resets = None; margin = None; short = 0 }
 
 -- how much the worst so far comes to
 abbrev pub so_far : Option Worst → ℕ
@@ -22,28 +25,45 @@ so_far (Some w) = w.by
 abbrev pub worse : Option Worst → Target → ℕ → Option Worst
 worse best t by = if nat_lt (so_far best) by then Some (record { target = t; by = by }) else best
 
--- one more packet was lost: what there is more of than without the loss counts
-abbrev pub counted : Summary → Tally → Target → Summary → Tally
-counted old tally t new = record {
+-- the least that is left so far, without a loss or with one
+abbrev pub least_so_far : Margin → Option Lowest → ℕ
+least_so_far without None = without.left
+least_so_far without (Some l) = l.margin.left
+
+-- the first packet of those whose loss leaves the least, where that is less than is left without a loss
+abbrev pub lower : Margin → Option Lowest → Target → Margin → Option Lowest
+lower without lowest t margin =
+    if nat_lt margin.left (least_so_far without lowest) then Some (record { target = t; margin = margin }) else lowest
+
+-- less is left than so many milliwatts, where that is asked
+abbrev pub is_short : Option ℕ → Margin → Bool
+is_short None margin = false
+is_short (Some mw) margin = nat_lt margin.left (mw * 1000)
+
+-- one more packet was lost: what there is more of than without the loss counts, and what is left less
+abbrev pub counted : Option ℕ → Findings → Tally → Target → Findings → Tally
+counted reserve old tally t new = record {
   tried = tally.tried + 1;
-  changed = (if are_same old.standing.contracts new.standing.contracts then tally.changed else tally.changed + 1);
-  settled = worse tally.settled t (new.standing.settled - old.standing.settled);
-  faults = worse tally.faults t (new.mishaps.faults - old.mishaps.faults);
-  hard_resets = worse tally.hard_resets t (new.mishaps.hard_resets - old.mishaps.hard_resets);
+  changed = (if are_same old.summary.standing.contracts new.summary.standing.contracts then tally.changed else tally.changed + 1);
+  settled = worse tally.settled t (new.summary.standing.settled - old.summary.standing.settled);
+  faults = worse tally.faults t (new.summary.mishaps.faults - old.summary.mishaps.faults);
+  hard_resets = worse tally.hard_resets t (new.summary.mishaps.hard_resets - old.summary.mishaps.hard_resets);
+  margin = lower old.margin tally.margin t new.margin;
+  short = (if is_short reserve new.margin then tally.short + 1 else tally.short);
 }
 
-abbrev pub noted_outcome : Summary → Tally → Target → Outcome → Tally
-noted_outcome old tally t (Ran new) = counted old tally t new
-noted_outcome old tally t Missed = tally
-noted_outcome old tally t Disturbed = tally
-noted_outcome old tally t (Barred obstacle) = tally
+abbrev pub noted_outcome : Option ℕ → Findings → Tally → Target → Outcome → Tally
+noted_outcome reserve old tally t (Ran new) = counted reserve old tally t new
+noted_outcome reserve old tally t Missed = tally
+noted_outcome reserve old tally t Disturbed = tally
+noted_outcome reserve old tally t (Barred obstacle) = tally
 
-abbrev pub noted_trial : Summary → Tally → Trial → Tally
-noted_trial old tally trial = noted_outcome old tally trial.target trial.outcome
+abbrev pub noted_trial : Option ℕ → Findings → Tally → Trial → Tally
+noted_trial reserve old tally trial = noted_outcome reserve old tally trial.target trial.outcome
 
 -- the tally of trials beside the run without a loss
-abbrev pub tally_of : Summary → List Trial → Tally
-tally_of old trials = fold (noted_trial old) no_trial trials
+abbrev pub tally_of : Option ℕ → Findings → List Trial → Tally
+tally_of reserve old trials = fold (noted_trial reserve old) no_trial trials
 
 -- ---- as text
 
@@ -59,8 +79,33 @@ abbrev pub counts_words : Tally → List ℕ
 counts_words tally =
     decimal tally.tried ++ (codes " packets lost, " ++ (decimal tally.changed ++ codes " with other contracts at the end\n"))
 
+-- the least that a loss leaves, and when
+abbrev pub low_words : Lowest → List ℕ
+low_words l =
+    decimal l.margin.left ++ (codes " at " ++ (decimal l.margin.at ++ (codes ", " ++ (packet_words l.target ++ codes "\n"))))
+
+abbrev pub lowest_words : Option Lowest → List ℕ
+lowest_words None = codes "none\n"
+lowest_words (Some l) = low_words l
+
+abbrev pub lowest_line : Option Lowest → List ℕ
+lowest_line lowest = codes "least margin: " ++ lowest_words lowest
+
+-- the columns of which there may be more than without a loss
+unfoldable pub columns_words : Tally → List ℕ
+columns_words tally =
+    column_words (codes "latest settled: ") (codes " us") tally.settled
+    ++ (column_words (codes "most faults: ") [] tally.faults ++ column_words (codes "most hard resets: ") [] tally.hard_resets)
+
+-- in how many runs less is left than so many milliwatts, where that is asked
+abbrev pub less_words : ℕ → ℕ → List ℕ
+less_words mw short = decimal short ++ (codes " left less than " ++ (decimal mw ++ codes " mW\n"))
+
+abbrev pub short_words : Option ℕ → ℕ → List ℕ
+short_words None short = []
+short_words (Some mw) short = less_words mw short
+
 -- the summary
-unfoldable pub tally_words : Tally → List ℕ
-tally_words tally =
-    counts_words tally ++ (column_words (codes "latest settled: ") (codes " us") tally.settled
-    ++ (column_words (codes "most faults: ") [] tally.faults ++ column_words (codes "most hard resets: ") [] tally.hard_resets))
+unfoldable pub tally_words : Option ℕ → Tally → List ℕ
+tally_words reserve tally =
+    counts_words tally ++ (columns_words tally ++ (lowest_line tally.margin ++ short_words reserve tally.short))

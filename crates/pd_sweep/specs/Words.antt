@@ -1,6 +1,6 @@
 -- A trial as a line of text: this product's own form, as docs/FORMATS.md has it under Sweep.
-use Rattle.std.specs.Prelude.{ℕ, ◌+◌, ◌-◌, ◌==◌, ◌&&◌, nat_le, Bool, true, false, if◌then◌else◌, List, [], ◌∷◌, ◌++◌, codes, decimal}
-use Rattle.std.specs.Prelude.{Option, Some, None}
+use Rattle.std.specs.Prelude.{ℕ, ◌+◌, ◌-◌, ◌==◌, ◌&&◌, nat_le, nat_lt, Bool, true, false, if◌then◌else◌, List, [], ◌∷◌, ◌++◌, codes}
+use Rattle.std.specs.Prelude.{decimal, Option, Some, None}
 use Rattle.pd_symbols.specs.declared.channel.Channel.{Channel}
 use Rattle.pd_symbols.specs.declared.channel.Channel.TheVariants.{Sop, SopPrime}
 use Rattle.pd_header.specs.Header.{id_of}
@@ -8,7 +8,9 @@ use Rattle.pd_header.specs.Kinds.{kind_of_header, name_of}
 use Rattle.pd_objects.specs.declared.contract.Contract.{Contract}
 use Rattle.pd_device.specs.Text.{right}
 use Rattle.pd_edit_lines.specs.Numbers.{number_of}
+use Rattle.pd_report.specs.declared.least.Margin.{Margin}
 use Rattle.pd_tell.specs.Words.{contract_words, side_words}
+use Rattle.pd_sweep.specs.declared.findings.Findings.{Findings}
 use Rattle.pd_sweep.specs.declared.summary.Summary.{Summary}
 use Rattle.pd_sweep.specs.declared.target.Target.{Target}
 use Rattle.pd_sweep.specs.declared.trial.Outcome.{Outcome}
@@ -77,25 +79,40 @@ unfoldable pub packet_words : Target → List ℕ
 packet_words t =
     right t.at ++ (codes " port " ++ (decimal t.port ++ (32 ∷ (side_words t.side ++ message_words t.channel t.header))))
 
--- the run in which a packet is lost beside the one in which it isn't
-unfoldable pub run_words : Summary → Summary → List ℕ
-run_words old new =
+-- the summary of the run in which a packet is lost beside that of the one in which it isn't
+unfoldable pub summary_words : Summary → Summary → List ℕ
+summary_words old new =
     contracts_words old.standing.contracts new.standing.contracts
     ++ (codes ", settled " ++ (more_words old.standing.settled new.standing.settled
     ++ (codes " us, faults " ++ (more_words old.mishaps.faults new.mishaps.faults
     ++ (codes ", hard resets " ++ more_words old.mishaps.hard_resets new.mishaps.hard_resets)))))
+
+-- the first instant at which the least is left, where that is less than without the loss
+abbrev pub instant_words : ℕ → List ℕ
+instant_words at = codes " at " ++ decimal at
+
+abbrev pub lower_words : Margin → Margin → List ℕ
+lower_words old new = if nat_lt new.left old.left then instant_words new.at else []
+
+-- the least that is left of the budget at the end of an instant
+abbrev pub margin_words : Margin → Margin → List ℕ
+margin_words old new = codes ", least margin " ++ (decimal new.left ++ lower_words old new)
+
+-- the run in which a packet is lost beside the one in which it isn't
+abbrev pub run_words : Findings → Findings → List ℕ
+run_words old new = summary_words old.summary new.summary ++ margin_words old.margin new.margin
 
 -- why a packet can't be lost
 abbrev pub obstacle_words : Obstacle → List ℕ
 obstacle_words NoId = codes "not tried: no id is free"
 obstacle_words (Refused fault) = codes "not tried: refused " ++ decimal (number_of fault)
 
-abbrev pub outcome_words : Summary → Outcome → List ℕ
+abbrev pub outcome_words : Findings → Outcome → List ℕ
 outcome_words old (Ran new) = run_words old new
 outcome_words old Missed = codes "not hit"
 outcome_words old Disturbed = codes "not tried: disturbed already"
 outcome_words old (Barred obstacle) = obstacle_words obstacle
 
 -- a line
-unfoldable pub trial_line : Summary → Trial → List ℕ
+unfoldable pub trial_line : Findings → Trial → List ℕ
 trial_line old trial = packet_words trial.target ++ (codes ": " ++ (outcome_words old trial.outcome ++ codes "\n"))

@@ -6,6 +6,19 @@ ghost use Rattle.pd_sweep.specs.Choices.{is_chosen, is_of_kind, is_of_port};
 use crate::Target;
 use pd_header::{Kind, header_kind};
 
+/// What a sweep does.
+#[derive(Clone, Copy, Debug)]
+pub struct Campaign {
+    /// Which packets it harms, each in a run of its own.
+    pub choice: Choice,
+    /// How it harms them.
+    pub loss: Loss,
+    /// How many of the packets that start behind each on its port it harms too.
+    pub behind: u64,
+    /// What each of these runs is to leave of the budget at the end of every instant, in milliwatts, where that is asked.
+    pub reserve: Option<u64>,
+}
+
 /// How a packet is harmed.
 #[derive(Clone, Copy, Debug, PartialEq, Eq)]
 pub enum Loss {

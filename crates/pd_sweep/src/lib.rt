@@ -2,6 +2,7 @@
 #![tactic(auto)]
 
 mod choice;
+mod findings;
 mod summary;
 mod tally;
 mod target;
@@ -10,11 +11,12 @@ mod variant;
 mod walk;
 mod words;
 
-pub use choice::{Choice, Loss};
+pub use choice::{Campaign, Choice, Loss};
+pub use findings::Findings;
 pub use summary::{Mishaps, Standing, Summary, summary_of};
-pub use tally::{Tally, Worst};
+pub use tally::{Lowest, Tally, Worst};
 pub use target::{Target, chosen};
 pub use trial::{Outcome, Trial, is_hit, try_packet};
-pub use variant::{Obstacle, variant_of};
+pub use variant::{Obstacle, row_variant_of, variant_of};
 pub use walk::sweep;
 pub use words::push_obstacle;

@@ -1,12 +1,15 @@
 //! What all trials come to.
 
-ghost use Rattle.std.specs.Prelude.{◌≡◌, ◌+◌, ◌-◌, ◌<◌, ◌≤◌, ◌^◌, ◌++◌, OnOk};
-ghost use Rattle.pd_sweep.specs.Tallies.{column_words, counts_words, no_trial, noted_trial, tally_words, worse, worst_words};
+ghost use Rattle.std.specs.Prelude.{◌≡◌, ◌+◌, ◌-◌, ◌<◌, ◌≤◌, ◌^◌, ◌++◌, OnOk, if◌then◌else◌};
+ghost use Rattle.pd_sweep.specs.Tallies.{column_words, columns_words, counts_words, is_short, least_so_far, less_words, low_words};
+ghost use Rattle.pd_sweep.specs.Tallies.{lower, lowest_line, lowest_words, no_trial, noted_trial, short_words, tally_words, worse};
+ghost use Rattle.pd_sweep.specs.Tallies.{worst_words};
 
 use crate::Target;
-use crate::summary::Summary;
+use crate::findings::Findings;
 use crate::trial::{Outcome, Trial};
 use crate::words::{are_same, push_packet, push_wide};
+use pd_report::Margin;
 use pd_tell::push_number;
 use std::alloc::AllocError;
 
@@ -17,8 +20,16 @@ pub struct Worst {
     pub by: u128,
 }
 
+/// A packet, and the least that is left of the budget where it is lost.
+#[derive(Clone, Copy, Debug)]
+pub struct Lowest {
+    pub target: Target,
+    pub margin: Margin,
+}
+
 /// How many packets were lost, how many of the runs end with other contracts, and the worst of each column and its packet: how many
-/// microseconds later the last change of a contract comes, how many faults and how many Hard Resets there are more.
+/// microseconds later the last change of a contract comes, how many faults and how many Hard Resets there are more, and the least
+/// that is left of the budget, where it is less than without a loss; and in how many runs less is left than was to be.
 #[derive(Clone, Copy, Debug)]
 pub struct Tally {
     pub tried: u64,
@@ -26,6 +37,8 @@ pub struct Tally {
     pub settled: Option<Worst>,
     pub faults: Option<Worst>,
     pub hard_resets: Option<Worst>,
+    pub margin: Option<Lowest>,
+    pub short: u64,
 }
 
 /// The worse of two.
@@ -43,6 +56,46 @@ fn worse(best: Option<Worst>, target: Target, by: u128) -> Option<Worst>
     }
 }
 
+/// The least that is left so far, without a loss or with one.
+fn least_so_far(without: Margin, lowest: Option<Lowest>) -> u64
+    ensures { result ≡ least_so_far without lowest }
+{
+    match lowest {
+        None => without.left,
+        Some(lowest) => lowest.margin.left,
+    }
+}
+
+/// The lower of two.
+fn lower(without: Margin, lowest: Option<Lowest>, target: Target, margin: Margin) -> Option<Lowest>
+    ensures { result ≡ lower without lowest target margin }
+{
+    if margin.left < least_so_far(without, lowest) {
+        Some(Lowest { target, margin })
+    } else {
+        lowest
+    }
+}
+
+/// Whether less is left than so many milliwatts, where that is asked.
+fn is_short(reserve: Option<u64>, margin: &Margin) -> bool
+    ensures { result ≡ is_short reserve margin.now }
+{
+    match reserve {
+        None => false,
+        Some(mw) => u128::from(margin.left) < u128::from(mw) * 1000,
+    }
+}
+
+/// One more where something is so.
+fn more_if(is_so: bool, count: u64) -> u64
+    requires { count < 2 ^ 64 - 1 }
+    ensures value { result ≡ if is_so then count + 1 else count }
+    ensures one { result ≤ count + 1 }
+{
+    if is_so { count + 1 } else { count }
+}
+
 impl Tally {
     /// Nothing was tried.
     pub(crate) fn none() -> Tally
@@ -54,34 +107,39 @@ impl Tally {
             settled: None,
             faults: None,
             hard_resets: None,
+            margin: None,
+            short: 0,
         }
     }
 
     /// After one more trial.
-    pub(crate) fn after(&self, old: &Summary, trial: &Trial) -> Tally
+    pub(crate) fn after(&self, reserve: Option<u64>, old: &Findings, trial: &Trial) -> Tally
         requires room { self.now.tried < 2 ^ 64 - 1 }
         requires few { self.now.changed ≤ self.now.tried }
-        ensures value { result ≡ noted_trial old.now self.now trial.now }
+        requires few_short { self.now.short ≤ self.now.tried }
+        ensures value { result ≡ noted_trial reserve old.now self.now trial.now }
         ensures one { result.tried ≤ self.now.tried + 1 }
         ensures few { result.changed ≤ result.tried }
+        ensures few_short { result.short ≤ result.tried }
     {
         let Outcome::Ran(new) = trial.outcome else {
             return *self;
         };
         let target = trial.target;
-        let later = new.standing.settled.saturating_sub(old.standing.settled);
-        let faults = new.mishaps.faults.saturating_sub(old.mishaps.faults);
-        let resets = new
-            .mishaps
-            .hard_resets
-            .saturating_sub(old.mishaps.hard_resets);
-        let same = are_same(&old.standing.contracts, &new.standing.contracts);
+        let (before, after) = (&old.summary.standing, &new.summary.standing);
+        let (few, many) = (&old.summary.mishaps, &new.summary.mishaps);
+        let later = after.settled.saturating_sub(before.settled);
+        let faults = many.faults.saturating_sub(few.faults);
+        let resets = many.hard_resets.saturating_sub(few.hard_resets);
+        let same = are_same(&before.contracts, &after.contracts);
         Tally {
             tried: self.tried + 1,
             changed: if same { self.changed } else { self.changed + 1 },
             settled: worse(self.settled, target, u128::from(later)),
             faults: worse(self.faults, target, faults),
             hard_resets: worse(self.hard_resets, target, resets),
+            margin: lower(old.margin, self.margin, target, new.margin),
+            short: more_if(is_short(reserve, &new.margin), self.short),
         }
     }
 }
@@ -125,13 +183,79 @@ fn push_counts(text: &mut Vec<u8>, tally: &Tally) -> Result<(), AllocError>
     Ok(())
 }
 
-/// Writes the summary of a sweep.
-#[tactic(auto, unfolding(crate::specs::Tallies::tally_words))]
-pub(crate) fn push_tally(text: &mut Vec<u8>, tally: &Tally) -> Result<(), AllocError>
-    ensures { OnOk result (text.new.items ≡ text.old.items ++ tally_words tally.now) }
+/// Writes the least that a loss leaves, and when.
+fn push_low(text: &mut Vec<u8>, lowest: &Lowest) -> Result<(), AllocError>
+    ensures { OnOk result (text.new.items ≡ text.old.items ++ low_words lowest.now) }
 {
-    push_counts(text, tally)?;
+    push_number(text, lowest.margin.left)?;
+    text.extend_from_slice(b" at ")?;
+    push_number(text, lowest.margin.at)?;
+    text.extend_from_slice(b", ")?;
+    push_packet(text, &lowest.target)?;
+    text.extend_from_slice(b"\n")?;
+    Ok(())
+}
+
+/// Writes the same, or that none leaves less.
+fn push_lowest(text: &mut Vec<u8>, lowest: &Option<Lowest>) -> Result<(), AllocError>
+    ensures { OnOk result (text.new.items ≡ text.old.items ++ lowest_words lowest.now) }
+{
+    match lowest {
+        None => text.extend_from_slice(b"none\n"),
+        Some(lowest) => push_low(text, lowest),
+    }
+}
+
+/// Writes the line of the least that a loss leaves.
+fn push_lowest_line(text: &mut Vec<u8>, lowest: &Option<Lowest>) -> Result<(), AllocError>
+    ensures { OnOk result (text.new.items ≡ text.old.items ++ lowest_line lowest.now) }
+{
+    text.extend_from_slice(b"least margin: ")?;
+    push_lowest(text, lowest)
+}
+
+/// Writes the columns of which there may be more than without a loss.
+#[tactic(auto, unfolding(crate::specs::Tallies::columns_words))]
+fn push_columns(text: &mut Vec<u8>, tally: &Tally) -> Result<(), AllocError>
+    ensures { OnOk result (text.new.items ≡ text.old.items ++ columns_words tally.now) }
+{
     push_column(text, b"latest settled: ", b" us", &tally.settled)?;
     push_column(text, b"most faults: ", b"", &tally.faults)?;
     push_column(text, b"most hard resets: ", b"", &tally.hard_resets)
+}
+
+/// Writes in how many runs less is left than so many milliwatts.
+fn push_less(text: &mut Vec<u8>, mw: u64, short: u64) -> Result<(), AllocError>
+    ensures { OnOk result (text.new.items ≡ text.old.items ++ less_words mw short) }
+{
+    push_number(text, short)?;
+    text.extend_from_slice(b" left less than ")?;
+    push_number(text, mw)?;
+    text.extend_from_slice(b" mW\n")?;
+    Ok(())
+}
+
+/// Writes the same, where it is asked.
+fn push_short(text: &mut Vec<u8>, reserve: Option<u64>, short: u64) -> Result<(), AllocError>
+    ensures { OnOk result (text.new.items ≡ text.old.items ++ short_words reserve short) }
+{
+    match reserve {
+        None => Ok(()),
+        Some(mw) => push_less(text, mw, short),
+    }
+}
+
+/// Writes the summary of a sweep.
+#[tactic(auto, unfolding(crate::specs::Tallies::tally_words))]
+pub(crate) fn push_tally(
+    text: &mut Vec<u8>,
+    reserve: Option<u64>,
+    tally: &Tally,
+) -> Result<(), AllocError>
+    ensures { OnOk result (text.new.items ≡ text.old.items ++ tally_words reserve tally.now) }
+{
+    push_counts(text, tally)?;
+    push_columns(text, tally)?;
+    push_lowest_line(text, &tally.margin)?;
+    push_short(text, reserve, tally.short)
 }

@@ -1,14 +1,14 @@
 //! What losing a packet leads to.
 
-ghost use Rattle.std.specs.Prelude.{◌≡◌, ◌<◌, IfErr, IfOk, MatchOption, length, slice_get};
+ghost use Rattle.std.specs.Prelude.{◌≡◌, ◌<◌, ◌≤◌, IfErr, IfOk, MatchOption, length, nat_lt, slice_get, take};
 ghost use Rattle.pd_device.specs.declared.fault.BenchFault.TheVariants.{Memory as no_memory};
-ghost use Rattle.pd_sweep.specs.Trials.{IsOfVariant, IsTrial, hits, is_hit, starts_disturbed};
-ghost use Rattle.pd_sweep.specs.Variants.{variant};
+ghost use Rattle.pd_sweep.specs.Trials.{AreBefore, IsOfVariant, IsTrial, hits, is_hit, starts_disturbed};
+ghost use Rattle.pd_sweep.specs.Variants.{row_variant};
 
-use crate::summary::{Summary, summary_of};
+use crate::findings::Findings;
 use crate::target::is_disturbed;
-use crate::variant::{Obstacle, variant_of};
-use crate::{Loss, Target};
+use crate::variant::{Obstacle, row_variant_of};
+use crate::{Campaign, Target};
 use pd_device::BenchFault;
 use pd_line::Start;
 use pd_port::{Entry, Meter};
@@ -20,7 +20,7 @@ use std::alloc::Global;
 #[derive(Clone, Copy, Debug)]
 pub enum Outcome {
     /// The run in which it is lost.
-    Ran(Summary),
+    Ran(Findings),
     /// The event doesn't hit the packet.
     Missed,
     /// The scenario disturbs the packet already.
@@ -64,12 +64,51 @@ fn hits_at<const N: usize, T: Runner<N>>(target: &Target, run: &T, index: usize)
     }
 }
 
+/// Whether the entry at an index is before a time.
+fn is_before<const N: usize, T: Runner<N>>(run: &T, index: usize, at: u64) -> bool
+    requires { index < length (T.entries run.now) }
+    ensures { MatchOption (slice_get (T.entries run.now) index) ⊥ (λ move. result ≡ nat_lt move.1.at at) }
+{
+    match run.entry(index) {
+        Some((_, entry)) => entry.at < at,
+        None => false,
+    }
+}
+
+/// The place half way from one to another.
+fn half_way(low: usize, high: usize) -> usize
+    requires { low < high }
+    ensures from { low ≤ result }
+    ensures below { result < high }
+{
+    low + (high - low) / 2
+}
+
+/// The place of the first entry that isn't before a time, by halves.
+fn place_at<const N: usize, T: Runner<N>>(run: &T, at: u64) -> usize
+    ensures within { result ≤ length (T.entries run.now) }
+    ensures before { AreBefore at (take result (T.entries run.now)) }
+{
+    let mut low = 0;
+    let mut high = run.len();
+    while low < high {
+        let middle = half_way(low, high);
+        if is_before(run, middle, at) {
+            low = middle + 1;
+        } else {
+            high = middle;
+        }
+    }
+    low
+}
+
 /// Whether a packet is hit in a run: one that starts then on its port doesn't arrive as it was sent.
 pub fn is_hit<const N: usize, T: Runner<N>>(target: &Target, run: &T) -> bool
     ensures { result ≡ is_hit target.now (T.entries run.now) }
 {
     let note = Note::Packet { port: target.port };
-    let mut index = run.next_with(note, 0);
+    let place = place_at(run, target.at);
+    let mut index = run.next_with(note, place);
     let mut hit = false;
     while index < run.len() && !hit {
         hit = hits_at(target, run, index);
@@ -83,14 +122,15 @@ fn outcome_of<const N: usize, T: Runner<N>>(
     alloc: Global,
     run: &mut T,
     scenario: &Scenario<N>,
-    loss: Loss,
+    campaign: &Campaign,
     target: &Target,
     meter: &mut Meter,
 ) -> Result<Outcome, BenchFault>
-    ensures value { IfOk result (λ outcome. IsOfVariant (variant N scenario.now loss target.now) target.now outcome) }
+    ensures value { IfOk result (λ outcome. IsOfVariant
+        (row_variant campaign.now.behind N scenario.now campaign.now.loss target.now) target.now outcome) }
     ensures memory { IfErr result (λ fault. fault ≡ no_memory) }
 {
-    let variant = match variant_of(alloc, scenario, loss, target) {
+    let variant = match row_variant_of(alloc, scenario, campaign.loss, target, campaign.behind) {
         Ok(Ok(variant)) => variant,
         Ok(Err(obstacle)) => return Ok(Outcome::Barred(obstacle)),
         Err(fault) => return Err(fault),
@@ -99,7 +139,7 @@ fn outcome_of<const N: usize, T: Runner<N>>(
         return Err(BenchFault::Memory);
     };
     if is_hit(target, run) {
-        Ok(Outcome::Ran(summary_of(run)))
+        Ok(Outcome::Ran(Findings::of(run, &variant)))
     } else {
         Ok(Outcome::Missed)
     }
@@ -114,12 +154,12 @@ pub fn try_packet<const N: usize, T: Runner<N>>(
     alloc: Global,
     run: &mut T,
     scenario: &Scenario<N>,
-    loss: Loss,
+    campaign: &Campaign,
     target: Target,
     meter: &mut Meter,
 ) -> Result<Trial, BenchFault>
     ensures packet { IfOk result (λ trial. trial.target ≡ target) }
-    ensures value { IfOk result (λ trial. IsTrial N scenario.now loss trial) }
+    ensures value { IfOk result (λ trial. IsTrial N scenario.now campaign.now trial) }
     ensures memory { IfErr result (λ fault. fault ≡ no_memory) }
 {
     if target.disturbed {
@@ -128,7 +168,7 @@ pub fn try_packet<const N: usize, T: Runner<N>>(
             outcome: Outcome::Disturbed,
         });
     }
-    match outcome_of(alloc, run, scenario, loss, &target, meter) {
+    match outcome_of(alloc, run, scenario, campaign, &target, meter) {
         Ok(outcome) => Ok(Trial { target, outcome }),
         Err(fault) => Err(fault),
     }

@@ -7,12 +7,12 @@ ghost use Rattle.pd_sweep.specs.Sweeps.{CountsSweep, Sweeps};
 ghost use Rattle.pd_sweep.specs.Tallies.{tally_words};
 ghost use Rattle.pd_sweep.specs.Words.{trial_line};
 
-use crate::summary::{Summary, summary_of};
+use crate::Campaign;
+use crate::findings::Findings;
 use crate::tally::{Tally, push_tally};
 use crate::target::chosen;
 use crate::trial::{Trial, try_packet};
 use crate::words::push_trial;
-use crate::{Choice, Loss};
 use pd_device::{BenchFault, TextOut, write_all};
 use pd_port::Meter;
 use pd_run::Runner;
@@ -20,7 +20,7 @@ use pd_scenario::Scenario;
 use std::alloc::{AllocError, Global};
 
 /// The line of a trial.
-fn trial_text(alloc: Global, old: &Summary, trial: &Trial) -> Result<Vec<u8>, AllocError>
+fn trial_text(alloc: Global, old: &Findings, trial: &Trial) -> Result<Vec<u8>, AllocError>
     ensures { IfOk result (λ text. text.items ≡ trial_line old.now trial.now) }
 {
     let mut text = Vec::new(alloc);
@@ -29,11 +29,11 @@ fn trial_text(alloc: Global, old: &Summary, trial: &Trial) -> Result<Vec<u8>, Al
 }
 
 /// The summary of a sweep.
-fn tally_text(alloc: Global, tally: &Tally) -> Result<Vec<u8>, AllocError>
-    ensures { IfOk result (λ text. text.items ≡ tally_words tally.now) }
+fn tally_text(alloc: Global, reserve: Option<u64>, tally: &Tally) -> Result<Vec<u8>, AllocError>
+    ensures { IfOk result (λ text. text.items ≡ tally_words reserve tally.now) }
 {
     let mut text = Vec::new(alloc);
-    push_tally(&mut text, tally)?;
+    push_tally(&mut text, reserve, tally)?;
     Ok(text)
 }
 
@@ -47,33 +47,32 @@ pub fn sweep<const N: usize, T: Runner<N>, W: TextOut>(
     alloc: Global,
     run: &mut T,
     scenario: &Scenario<N>,
-    choice: &Choice,
-    loss: Loss,
+    campaign: &Campaign,
     writer: &mut W,
 ) -> Result<Tally, BenchFault>
-    ensures text { Sweeps N scenario.now choice.now loss result (W.taken writer.old) (W.taken writer.new) }
+    ensures text { Sweeps N scenario.now campaign.now result (W.taken writer.old) (W.taken writer.new) }
     ensures counts { CountsSweep result (W.failures writer.old) (W.failures writer.new) }
 {
     let mut meter = Meter::new();
     let Ok(()) = run.replace(alloc, scenario, &mut meter) else {
         return Err(BenchFault::Memory);
     };
-    let Ok(targets) = chosen(alloc, run, choice) else {
+    let Ok(targets) = chosen(alloc, run, &campaign.choice) else {
         return Err(BenchFault::Memory);
     };
-    let base = summary_of(run);
+    let base = Findings::of(run, scenario);
     let mut tally = Tally::none();
     for target in &targets {
-        let Ok(trial) = try_packet(alloc, run, scenario, loss, *target, &mut meter) else {
+        let Ok(trial) = try_packet(alloc, run, scenario, campaign, *target, &mut meter) else {
             return Err(BenchFault::Memory);
         };
         let Ok(line) = trial_text(alloc, &base, &trial) else {
             return Err(BenchFault::Memory);
         };
         write_all(writer, line.as_slice())?;
-        tally = tally.after(&base, &trial);
+        tally = tally.after(campaign.reserve, &base, &trial);
     }
-    let Ok(closing) = tally_text(alloc, &tally) else {
+    let Ok(closing) = tally_text(alloc, campaign.reserve, &tally) else {
         return Err(BenchFault::Memory);
     };
     write_all(writer, closing.as_slice())?;

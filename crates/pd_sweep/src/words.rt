@@ -2,17 +2,19 @@
 
 ghost use Rattle.std.specs.Prelude.{◌≡◌, ◌+◌, ◌<◌, ◌≤◌, ◌^◌, ◌++◌, OnOk, decimal, length};
 ghost use Rattle.pd_device.specs.Text.{right};
-ghost use Rattle.pd_sweep.specs.Words.{are_same, changes_from, contracts_words, instead_words, is_same, message_words, more_words};
-ghost use Rattle.pd_sweep.specs.Words.{obstacle_words, others_words, outcome_words, packet_words, run_words, set_words};
-ghost use Rattle.pd_sweep.specs.Words.{standing_words, trial_line};
+ghost use Rattle.pd_sweep.specs.Words.{are_same, changes_from, contracts_words, instant_words, instead_words, is_same, lower_words};
+ghost use Rattle.pd_sweep.specs.Words.{margin_words, message_words, more_words, obstacle_words, others_words, outcome_words};
+ghost use Rattle.pd_sweep.specs.Words.{packet_words, run_words, set_words, standing_words, summary_words, trial_line};
 
 use crate::Target;
+use crate::findings::Findings;
 use crate::summary::Summary;
 use crate::trial::{Outcome, Trial};
 use crate::variant::Obstacle;
 use pd_device::Text;
 use pd_header::{header_id, header_kind};
 use pd_objects::Contract;
+use pd_report::Margin;
 use pd_symbols::Channel;
 use pd_tell::{push_contract, push_number, side_text};
 use std::alloc::AllocError;
@@ -191,10 +193,10 @@ fn push_later(text: &mut Vec<u8>, old: u64, new: u64) -> Result<(), AllocError>
     push_more(text, u128::from(old), u128::from(new))
 }
 
-/// Writes the run in which a packet is lost beside the one in which it isn't.
-#[tactic(auto, unfolding(crate::specs::Words::run_words))]
-fn push_run(text: &mut Vec<u8>, old: &Summary, new: &Summary) -> Result<(), AllocError>
-    ensures { OnOk result (text.new.items ≡ text.old.items ++ run_words old.now new.now) }
+/// Writes the summary of the run in which a packet is lost beside that of the one in which it isn't.
+#[tactic(auto, unfolding(crate::specs::Words::summary_words))]
+fn push_summary(text: &mut Vec<u8>, old: &Summary, new: &Summary) -> Result<(), AllocError>
+    ensures { OnOk result (text.new.items ≡ text.old.items ++ summary_words old.now new.now) }
 {
     push_contracts(text, &old.standing.contracts, &new.standing.contracts)?;
     text.extend_from_slice(b", settled ")?;
@@ -203,6 +205,42 @@ fn push_run(text: &mut Vec<u8>, old: &Summary, new: &Summary) -> Result<(), Allo
     push_more(text, old.mishaps.faults, new.mishaps.faults)?;
     text.extend_from_slice(b", hard resets ")?;
     push_more(text, old.mishaps.hard_resets, new.mishaps.hard_resets)
+}
+
+/// Writes an instant.
+fn push_instant(text: &mut Vec<u8>, at: u64) -> Result<(), AllocError>
+    ensures { OnOk result (text.new.items ≡ text.old.items ++ instant_words at) }
+{
+    text.extend_from_slice(b" at ")?;
+    push_number(text, at)
+}
+
+/// Writes the first instant at which the least is left, where that is less than without the loss.
+fn push_lower(text: &mut Vec<u8>, old: &Margin, new: &Margin) -> Result<(), AllocError>
+    ensures { OnOk result (text.new.items ≡ text.old.items ++ lower_words old.now new.now) }
+{
+    if new.left < old.left {
+        push_instant(text, new.at)
+    } else {
+        Ok(())
+    }
+}
+
+/// Writes the least that is left of the budget at the end of an instant.
+fn push_margin(text: &mut Vec<u8>, old: &Margin, new: &Margin) -> Result<(), AllocError>
+    ensures { OnOk result (text.new.items ≡ text.old.items ++ margin_words old.now new.now) }
+{
+    text.extend_from_slice(b", least margin ")?;
+    push_number(text, new.left)?;
+    push_lower(text, old, new)
+}
+
+/// Writes the run in which a packet is lost beside the one in which it isn't.
+fn push_run(text: &mut Vec<u8>, old: &Findings, new: &Findings) -> Result<(), AllocError>
+    ensures { OnOk result (text.new.items ≡ text.old.items ++ run_words old.now new.now) }
+{
+    push_summary(text, &old.summary, &new.summary)?;
+    push_margin(text, &old.margin, &new.margin)
 }
 
 /// Writes why a packet can't be lost.
@@ -222,7 +260,7 @@ pub fn push_obstacle(text: &mut Vec<u8>, obstacle: &Obstacle) -> Result<(), Allo
 }
 
 /// Writes what comes of losing a packet.
-fn push_outcome(text: &mut Vec<u8>, old: &Summary, outcome: &Outcome) -> Result<(), AllocError>
+fn push_outcome(text: &mut Vec<u8>, old: &Findings, outcome: &Outcome) -> Result<(), AllocError>
     ensures { OnOk result (text.new.items ≡ text.old.items ++ outcome_words old.now outcome.now) }
 {
     match outcome {
@@ -235,7 +273,11 @@ fn push_outcome(text: &mut Vec<u8>, old: &Summary, outcome: &Outcome) -> Result<
 
 /// Writes the line of a trial.
 #[tactic(auto, unfolding(crate::specs::Words::trial_line))]
-pub(crate) fn push_trial(text: &mut Vec<u8>, old: &Summary, trial: &Trial) -> Result<(), AllocError>
+pub(crate) fn push_trial(
+    text: &mut Vec<u8>,
+    old: &Findings,
+    trial: &Trial,
+) -> Result<(), AllocError>
     ensures { OnOk result (text.new.items ≡ text.old.items ++ trial_line old.now trial.now) }
 {
     push_packet(text, &trial.target)?;

@@ -3,5 +3,5 @@
 
 mod texts;
 
-pub use pd_sweep::{Choice, Loss, Tally};
+pub use pd_sweep::{Campaign, Choice, Loss, Tally};
 pub use texts::{SweepFault, sweep_text};

@@ -15,7 +15,7 @@ use pd_run::Runner;
 use pd_scenario::Scenario;
 use pd_scenario_text::{ScenarioFault, ScenarioFile};
 use pd_script::follow;
-use pd_sweep::{Choice, Loss, Tally, sweep};
+use pd_sweep::{Campaign, Tally, sweep};
 use std::alloc::Global;
 
 /// Why a sweep wasn't made to its end.
@@ -31,9 +31,9 @@ pub enum SweepFault {
 
 // Sweeps the scenario of as many ports as the file has.
 macro_rules! sweep_by {
-    ($alloc:ident, $file:ident, $script:ident, $choice:ident, $loss:ident, $writer:ident; $($n:literal)*) => {
+    ($alloc:ident, $file:ident, $script:ident, $campaign:ident, $writer:ident; $($n:literal)*) => {
         match $file.port_count().map_err(SweepFault::Scenario)? {
-            $($n => sweep_file::<$n, W>($alloc, $file, $script, $choice, $loss, $writer),)*
+            $($n => sweep_file::<$n, W>($alloc, $file, $script, $campaign, $writer),)*
             _ => Err(SweepFault::Scenario(ScenarioFault::Limit)),
         }
     };
@@ -49,15 +49,14 @@ pub fn sweep_text<W: TextOut>(
     alloc: Global,
     text: &[u8],
     script: &[u8],
-    choice: &Choice,
-    loss: Loss,
+    campaign: &Campaign,
     writer: &mut W,
 ) -> Result<Tally, SweepFault>
-    ensures text { SweepsText result text.now script.now choice.now loss (W.taken writer.old) (W.taken writer.new) }
+    ensures text { SweepsText result text.now script.now campaign.now (W.taken writer.old) (W.taken writer.new) }
     ensures counts { CountsSwept result (W.failures writer.old) (W.failures writer.new) }
 {
     let file = ScenarioFile::parse(alloc, text).map_err(SweepFault::Scenario)?;
-    sweep_by!(alloc, file, script, choice, loss, writer; 1 2 3 4 5 6 7 8)
+    sweep_by!(alloc, file, script, campaign, writer; 1 2 3 4 5 6 7 8)
 }
 
 // Whether the port that is chosen is among so many.
@@ -75,24 +74,23 @@ fn sweep_file<const N: usize, W: TextOut>(
     alloc: Global,
     file: ScenarioFile,
     script: &[u8],
-    choice: &Choice,
-    loss: Loss,
+    campaign: &Campaign,
     writer: &mut W,
 ) -> Result<Tally, SweepFault>
     requires from_one { 1 ≤ N }
     requires to_eight { N ≤ 8 }
     requires counts { counted (members_of file) ≡ Ok N }
-    ensures text { ForTexts file (λ text. SweepsText result text script.now choice.now loss (W.taken writer.old) (W.taken writer.new)) }
+    ensures text { ForTexts file (λ text. SweepsText result text script.now campaign.now (W.taken writer.old) (W.taken writer.new)) }
     ensures counts { CountsSwept result (W.failures writer.old) (W.failures writer.new) }
 {
     let scenario = match file.scenario::<N>(alloc) {
         Ok(scenario) => scenario,
         Err(fault) => return Err(SweepFault::Scenario(fault)),
     };
-    if !has_port(N, choice.port) {
+    if !has_port(N, campaign.choice.port) {
         return Err(SweepFault::NoSuchPort);
     }
-    sweep_scenario(alloc, scenario, script, choice, loss, writer).map_err(SweepFault::Run)
+    sweep_scenario(alloc, scenario, script, campaign, writer).map_err(SweepFault::Run)
 }
 
 // Sweeps a scenario, as a script leaves it.
@@ -100,11 +98,10 @@ fn sweep_scenario<const N: usize, W: TextOut>(
     alloc: Global,
     scenario: Scenario<N>,
     script: &[u8],
-    choice: &Choice,
-    loss: Loss,
+    campaign: &Campaign,
     writer: &mut W,
 ) -> Result<Tally, BenchFault>
-    ensures text { Sweeps N (followed N scenario.entry (lines script.now)) choice.now loss result
+    ensures text { Sweeps N (followed N scenario.entry (lines script.now)) campaign.now result
         (W.taken writer.old) (W.taken writer.new) }
     ensures counts { CountsSweep result (W.failures writer.old) (W.failures writer.new) }
 {
@@ -113,5 +110,5 @@ fn sweep_scenario<const N: usize, W: TextOut>(
         return Err(BenchFault::Memory);
     }
     let mut run: Kept<N> = Kept::empty(alloc);
-    sweep(alloc, &mut run, &scenario, choice, loss, writer)
+    sweep(alloc, &mut run, &scenario, campaign, writer)
 }

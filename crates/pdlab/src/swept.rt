@@ -7,17 +7,10 @@ use crate::shown::tell_lines;
 use clap::ArgMatches;
 use pd_header::{Kind, kind_of};
 use pd_run_text::read_whole;
-use pd_sweep_text::{Choice, Loss, SweepFault, sweep_text};
+use pd_sweep_text::{Campaign, Choice, Loss, SweepFault, Tally, sweep_text};
 use std::alloc::Global;
 use std::num::ParseIntError;
 use std::rt::Files;
-
-/// Which packets the words of the command line choose, and what is done to each.
-#[derive(Clone, Copy, Debug)]
-pub struct Order {
-    choice: Choice,
-    loss: Loss,
-}
 
 /// Why the words choose nothing.
 #[derive(Clone, Copy, Debug, PartialEq, Eq)]
@@ -44,9 +37,12 @@ fn kind_named(name: &str) -> Option<Kind> {
 /// What the words of the command line order.
 ///
 /// # Errors
-/// One of the numbers is none, or no message has the name.
-pub fn order_of(matches: &ArgMatches<'_>) -> Result<Order, OrderFault> {
+/// One of the numbers is none or out of its range, or no message has the name.
+pub fn order_of(matches: &ArgMatches<'_>) -> Result<Campaign, OrderFault> {
     let Ok(choice) = choice_of(matches) else {
+        return Err(OrderFault::Number);
+    };
+    let Ok(reserve) = matches.try_get_one("reserve") else {
         return Err(OrderFault::Number);
     };
     let kind = match matches.get_str("kind") {
@@ -58,10 +54,21 @@ pub fn order_of(matches: &ArgMatches<'_>) -> Result<Order, OrderFault> {
     } else {
         Loss::Lost
     };
-    Ok(Order {
+    Ok(Campaign {
         choice: Choice { kind, ..choice },
         loss,
+        behind: behind_of(matches)?,
+        reserve,
     })
+}
+
+/// How many packets behind each are harmed too: the words say how many in a row.
+fn behind_of(matches: &ArgMatches<'_>) -> Result<u64, OrderFault> {
+    match matches.try_get_one("in-a-row") {
+        Ok(None) => Ok(0),
+        Ok(Some(count)) if 1u64 <= count && count <= 8 => Ok(count - 1),
+        _ => Err(OrderFault::Number),
+    }
 }
 
 /// The packets that the numbers among the words choose.
@@ -83,6 +90,15 @@ pub fn tell_no_kind<E: Print>(errors: &E) -> Ending {
     Ending::Usage
 }
 
+/// How a sweep ends that was made: as with a refused input where a run left less than it was to.
+fn ending_of(tally: &Tally) -> Ending {
+    if tally.short == 0 {
+        Ending::Done
+    } else {
+        Ending::Refused
+    }
+}
+
 /// Loses each packet that is chosen of the run of the scenario of a file, as the edits of a script leave it, and tells what that
 /// leads to.
 pub fn swept<R: Files + Input + Print + Alloc<A = Global>, E: Print>(
@@ -90,7 +106,7 @@ pub fn swept<R: Files + Input + Print + Alloc<A = Global>, E: Print>(
     errors: &E,
     scenario: &str,
     edits: Option<&str>,
-    order: &Order,
+    campaign: &Campaign,
 ) -> Ending {
     let Ok(text) = read_whole(rt, scenario) else {
         return tell_unread(errors, scenario);
@@ -103,15 +119,8 @@ pub fn swept<R: Files + Input + Print + Alloc<A = Global>, E: Print>(
     if let Err(fault) = tell_lines(rt, errors, text, name, script) {
         return tell(errors, fault);
     }
-    match sweep_text(
-        rt.alloc(),
-        text,
-        script,
-        &order.choice,
-        order.loss,
-        &mut output(rt),
-    ) {
-        Ok(_) => Ending::Done,
+    match sweep_text(rt.alloc(), text, script, campaign, &mut output(rt)) {
+        Ok(tally) => ending_of(&tally),
         Err(SweepFault::Scenario(fault)) => tell_refused(errors, scenario, fault),
         Err(SweepFault::NoSuchPort) => tell_no_port(errors),
         Err(SweepFault::Run(fault)) => tell(errors, fault),

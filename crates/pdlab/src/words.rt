@@ -128,21 +128,26 @@ Runs the charger of the file SCENARIO, as the edit script EDITS leaves it (- is
 standard input), and then once more for each packet that starts in that run, with
 that packet lost. Tells of each, in the order of time: the packet, whether the
 contracts at the end are the same, how much later the last change of a contract
-comes, and how many faults and Hard Resets there are more. At the end how many
-packets were lost, how many of the runs end with other contracts, and the worst of
-each column. Why lines of EDITS are refused is told on standard error, and they
-change nothing.
+comes, how many faults and Hard Resets there are more, and the least that the
+contracts leave of the budget, in microwatts; where that is less than without the
+loss, when. At the end how many packets were lost, how many of the runs end with
+other contracts, and the worst of each column. Why lines of EDITS are refused is
+told on standard error, and they change nothing.
 
   --port P       packets of this port alone; ports are numbered from 1
   --from T       packets from this time on, in microseconds
   --to T         packets up to this time
   --kind NAME    packets of this message alone, as Request or GoodCRC
   --damage       damages the packet in place of losing it
+  --in-a-row K   loses the packet and those that start behind it on its port, K in
+                 all, 1 to 8
+  --reserve MW   each of these runs is to leave so many milliwatts of the budget
 
 example: pdlab sweep --kind Request examples/charger_65w.toml
 
-status: 0 the packets were tried, 1 the scenario is refused, or has no such port,
-        2 the words are others, 3 a file can't be read, or a fault
+status: 0 the packets were tried, 1 a run left less than MW, or the scenario is
+        refused, or has no such port, 2 the words are others, 3 a file can't be
+        read, or a fault
 ";
 
 /// What `draw --help` prints.
@@ -324,7 +329,9 @@ fn sweep<'a>(alloc: Global) -> Result<Command<'a>, AllocError> {
         .arg(option(alloc, "from", ArgAction::Set))?
         .arg(option(alloc, "to", ArgAction::Set))?
         .arg(option(alloc, "kind", ArgAction::Set))?
-        .arg(option(alloc, "damage", ArgAction::SetTrue))
+        .arg(option(alloc, "damage", ArgAction::SetTrue))?
+        .arg(option(alloc, "in-a-row", ArgAction::Set))?
+        .arg(option(alloc, "reserve", ArgAction::Set))
 }
 
 /// `pdlab draw SCENARIO [EDITS]`, with its options.

@@ -1,11 +1,12 @@
-use Rattle.std.proofs.Common.{◌≡◌, ◌<◌, ◌∙◌, Bool, false, length, List, ℕ, ap, sym, arith}
+use Rattle.std.proofs.Common.{◌≡◌, ◌<◌, ◌∙◌, Bool, false, length, List, ℕ, take, ap, sym, arith}
 use Rattle.std.specs.Prelude.{◌||◌, MatchOption, Option, Some, None, slice_get}
 use Rattle.pd_port.specs.declared.entry.Entry.{Entry}
 use Rattle.pd_run.specs.declared.note.Note.TheVariants as note
 use Rattle.pd_sweep.specs.Trials.{hits}
 use Rattle.pd_sweep.specs.declared.target.Target.{Target}
-use Rattle.pd_sweep.proofs.FoldLemmas.{fold_start, fold_step, fold_end}
+use Rattle.pd_sweep.proofs.FoldLemmas.{fold_from, fold_step, fold_end}
 use Rattle.pd_sweep.proofs.HitLemmas.{any_is, hit_stays, or_hits, quiet_packet}
+use Rattle.pd_sweep.proofs.PlaceLemmas.{none_hit}
 use Rattle.pd_sweep.proofs.trial.is_hit.Goals as goal
 
 pub loop-index-init : goal.loop-index-init
@@ -13,8 +14,11 @@ loop-index-init g c =
     let moves = g.T.Runner.entries c.args.run.now in
     let t = c.args.target.now in
     let next = c.next_with-index in
+    let place = c.place_at-place in
     record {
-      value = fold_start (or_hits t) false moves (note.Packet t.port) (quiet_packet t) next.result next.ensures;
+      value =
+          fold_from (or_hits t) false moves (note.Packet t.port) (quiet_packet t) place.result next.result false place.ensures.within
+          (sym (none_hit t (take place.result moves) place.ensures.before)) next.ensures;
       within = next.ensures.within;
     }
 

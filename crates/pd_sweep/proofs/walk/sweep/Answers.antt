@@ -8,16 +8,16 @@ use Rattle.pd_sweep.proofs.walk.sweep.Goals as goal
 pub returns-in_default-try_packet-clause-text : goal.returns-in_default-try_packet-clause-text
 returns-in_default-try_packet-clause-text g c =
     let targets = c.deref-target-items.result.now in
-    inr (began_so_far g.row.N c.args.scenario.now c.args.loss c.summary_of-base.result targets c.args.choice.now
-    (g.T.Runner.entries c.replace.new.self) c.in-Ok.ensures.run c.summary_of-base.ensures
+    inr (began_so_far g.row.N c.args.scenario.now c.args.campaign.now c.of-base.result targets
+    (g.T.Runner.entries c.replace.new.self) c.in-Ok.ensures.run c.of-base.ensures
     (c.deref-target-items.ensures.value ∙ c.in-Ok-chosen.ensures) c.loop-target.target-index c.loop-target.tally _ _
     c.loop-target.invariant.progress)
 
 pub returns-in_default-trial_text-clause-text : goal.returns-in_default-trial_text-clause-text
 returns-in_default-trial_text-clause-text g c =
     let targets = c.deref-target-items.result.now in
-    inr (began_so_far g.row.N c.args.scenario.now c.args.loss c.summary_of-base.result targets c.args.choice.now
-    (g.T.Runner.entries c.replace.new.self) c.in-Ok.ensures.run c.summary_of-base.ensures
+    inr (began_so_far g.row.N c.args.scenario.now c.args.campaign.now c.of-base.result targets
+    (g.T.Runner.entries c.replace.new.self) c.in-Ok.ensures.run c.of-base.ensures
     (c.deref-target-items.ensures.value ∙ c.in-Ok-chosen.ensures) c.loop-target.target-index c.loop-target.tally _ _
     c.loop-target.invariant.progress)
 
@@ -29,8 +29,8 @@ returns-in_err-write_all-clause-text g c =
     let here : take (i + 1) targets ≡ take i targets ++ trial.target ∷ [] =
     take_more targets i _ c.loop-target-test.true ∙ ap (λ (t : Target). take i targets ++ t ∷ []) (sym c.in-Ok-try_packet.ensures.packet) in
     let p = err_from_is_err_and c.from_residual.result c.from_residual.ensures.1 in
-    rw (p.1) (inr (began_torn g.row.N c.args.scenario.now c.args.loss c.summary_of-base.result targets c.args.choice.now
-    (g.T.Runner.entries c.replace.new.self) c.in-Ok.ensures.run c.summary_of-base.ensures
+    rw (p.1) (inr (began_torn g.row.N c.args.scenario.now c.args.campaign.now c.of-base.result targets
+    (g.T.Runner.entries c.replace.new.self) c.in-Ok.ensures.run c.of-base.ensures
     (c.deref-target-items.ensures.value ∙ c.in-Ok-chosen.ensures) i c.loop-target.tally _ _ _ trial c.loop-target.invariant.progress here
     c.in-Ok-try_packet.ensures.value (rw (sym c.in-Ok-trial_text.ensures, sym c.as_slice.ensures.value) c.in_err-write_all.ensures.text.1)))
 
@@ -43,19 +43,20 @@ loop-target-preserved g c =
     take_more targets i _ c.loop-target-test.true ∙ ap (λ (t : Target). take i targets ++ t ∷ []) (sym c.in-Ok-try_packet.ensures.packet) in
     record {
       progress =
-          progress_more g.row.N c.args.scenario.now c.args.loss c.summary_of-base.result targets i c.loop-target.tally
+          progress_more g.row.N c.args.scenario.now c.args.campaign.now c.of-base.result targets i c.loop-target.tally
           c.after-tally.result _ _ _ trial c.loop-target.invariant.progress here c.in-Ok-try_packet.ensures.value
           c.after-tally.ensures.value (rw (sym c.in-Ok-trial_text.ensures, sym c.as_slice.ensures.value) c.in_ok-write_all.ensures.text);
       counts = c.in_ok-write_all.ensures.counts ∙ c.loop-target.invariant.counts;
       tried = omega (arith, c.after-tally.ensures.one, c.loop-target.invariant.tried);
       changed = c.after-tally.ensures.few;
+      short = c.after-tally.ensures.few_short;
     }
 
 pub returns-in_default-tally_text-clause-text : goal.returns-in_default-tally_text-clause-text
 returns-in_default-tally_text-clause-text g c =
     let targets = c.deref-target-items.result.now in
-    inr (began_so_far g.row.N c.args.scenario.now c.args.loss c.summary_of-base.result targets c.args.choice.now
-    (g.T.Runner.entries c.replace.new.self) c.in-Ok.ensures.run c.summary_of-base.ensures
+    inr (began_so_far g.row.N c.args.scenario.now c.args.campaign.now c.of-base.result targets
+    (g.T.Runner.entries c.replace.new.self) c.in-Ok.ensures.run c.of-base.ensures
     (c.deref-target-items.ensures.value ∙ c.in-Ok-chosen.ensures) c.loop-target.target-index c.loop-target.tally _ _
     c.loop-target.invariant.progress)
 
@@ -63,8 +64,8 @@ pub returns-in_err-write_all-2-clause-text : goal.returns-in_err-write_all-2-cla
 returns-in_err-write_all-2-clause-text g c =
     let targets = c.deref-target-items.result.now in
     let p = err_from_is_err_and c.from_residual-in_err-write_all-2.result c.from_residual-in_err-write_all-2.ensures.1 in
-    rw (p.1) (inr (began_closing g.row.N c.args.scenario.now c.args.loss c.summary_of-base.result targets c.args.choice.now
-    (g.T.Runner.entries c.replace.new.self) c.in-Ok.ensures.run c.summary_of-base.ensures
+    rw (p.1) (inr (began_closing g.row.N c.args.scenario.now c.args.campaign.now c.of-base.result targets
+    (g.T.Runner.entries c.replace.new.self) c.in-Ok.ensures.run c.of-base.ensures
     (c.deref-target-items.ensures.value ∙ c.in-Ok-chosen.ensures) c.loop-target.target-index c.loop-target.tally _ _ _
     c.loop-target.invariant.progress
     (rw (sym c.in-Ok-tally_text.ensures, sym c.as_slice-2.ensures.value) c.in_err-write_all-2.ensures.text.1)))
@@ -72,8 +73,8 @@ returns-in_err-write_all-2-clause-text g c =
 pub returns-clause-text : goal.returns-clause-text
 returns-clause-text g c =
     let targets = c.deref-target-items.result.now in
-    wrote g.row.N c.args.scenario.now c.args.loss c.summary_of-base.result targets c.args.choice.now
-    (g.T.Runner.entries c.replace.new.self) c.in-Ok.ensures.run c.summary_of-base.ensures
+    wrote g.row.N c.args.scenario.now c.args.campaign.now c.of-base.result targets
+    (g.T.Runner.entries c.replace.new.self) c.in-Ok.ensures.run c.of-base.ensures
     (c.deref-target-items.ensures.value ∙ c.in-Ok-chosen.ensures) c.loop-target.target-index c.loop-target.tally _ _ _
     (omega (arith, c.loop-target-test.false)) c.loop-target.invariant.progress
     (rw (sym c.in-Ok-tally_text.ensures, sym c.as_slice-2.ensures.value) c.in_ok-write_all-2.ensures.text)

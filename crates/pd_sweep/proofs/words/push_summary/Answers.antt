@@ -1,11 +1,11 @@
 use Rattle.std.proofs.Common.{codes}
 use Rattle.std.proofs.lemmas.Result.{on_ok_weaker}
-use Rattle.pd_sweep.specs.Words.{run_words}
+use Rattle.pd_sweep.specs.Words.{summary_words}
 use Rattle.pd_sweep.proofs.JoinLemmas.{joined_seven}
-use Rattle.pd_sweep.proofs.words.push_run.Goals as goal
+use Rattle.pd_sweep.proofs.words.push_summary.Goals as goal
 
 pub returns : goal.returns
-unfolding run_words
+unfolding summary_words
 returns c =
     on_ok_weaker c.push_more-2.result
     (λ h. joined_seven _ _ _ _ _ _ _ _ _ (codes ", settled ") _ (codes " us, faults ") _ (codes ", hard resets ") _

@@ -1,0 +1,29 @@
+//! What is found of a run beside its summary.
+
+ghost use Rattle.std.specs.Prelude.{◌≡◌};
+ghost use Rattle.pd_scenario.specs.Plans.{plan_of};
+ghost use Rattle.pd_sweep.specs.Summaries.{AreFindings};
+
+use crate::summary::{Summary, summary_of};
+use pd_report::{Margin, least_margin};
+use pd_run::Runner;
+use pd_scenario::Scenario;
+
+/// What is found of a run: its summary, and the least that its contracts leave of the shared budget.
+#[derive(Clone, Copy, Debug)]
+pub struct Findings {
+    pub summary: Summary,
+    pub margin: Margin,
+}
+
+impl Findings {
+    /// What is found of the run of a scenario.
+    pub(crate) fn of<const N: usize, T: Runner<N>>(run: &T, scenario: &Scenario<N>) -> Findings
+        ensures { AreFindings (plan_of scenario.now) (T.entries run.now) result }
+    {
+        Findings {
+            summary: summary_of(run),
+            margin: least_margin(run, scenario),
+        }
+    }
+}
