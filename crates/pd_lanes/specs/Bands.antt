@@ -63,7 +63,7 @@ band_of p lane = box_of (phase_name lane.phase) (record {
 }) (phase_name lane.phase)
 
 unfoldable pub band_words : Place → Lane → Element
-band_words p lane = words_at (codes "label") (x_of p.frame lane.since + 30) (p.top + 105) (phase_name lane.phase)
+band_words p lane = words_at (codes "label") (x_of p.frame lane.since + 30) (p.top + 85) (phase_name lane.phase)
 
 -- there is room for its name in it
 abbrev pub is_wide : Place → Lane → Bool

@@ -96,7 +96,7 @@ label_box p row label title =
     (record { x = x_of p.frame p.at; y = row_top p row; width = box_width label; height = 100 }) title
 
 unfoldable pub label_words : Place → Row → List ℕ → Element
-label_words p row label = words_at (codes "label") (x_of p.frame p.at + 30) (row_top p row + 80) label
+label_words p row label = words_at (codes "label") (x_of p.frame p.at + 30) (row_top p row + 73) label
 
 abbrev pub label_elements : Place → Lane → Row → List ℕ → List ℕ → List Element
 label_elements p lane row label title =

@@ -24,10 +24,10 @@ use Rattle.pd_lanes.specs.Places.{lane_top}
 -- how the lanes look: the colours of Okabe and Ito; each phase and each row has a place or a height of its own too
 unfoldable pub lane_rules : List ℕ
 lane_rules =
-    codes "text{paint-order:stroke;stroke:#fff;stroke-width:20}.label,.row{font-family:monospace;pointer-events:none}"
-    ++ codes ".row{text-anchor:end}.detached{fill:#ccc}.negotiating{fill:#b3dcf5}.contract{fill:#99d8c7}.hard{fill:#ee9e66}"
-    ++ codes ".disabled{fill:#000}.event{stroke:#0072b2}.change{stroke:#009e73}.fault{stroke:#c00;stroke-width:20}.packet{stroke:#000}"
-    ++ codes ".box{fill:#fff;stroke-width:5}"
+    codes "text{paint-order:stroke;stroke:#fff;stroke-width:20}.label,.row{stroke:none;font-family:monospace;pointer-events:none}"
+    ++ codes ".label{font-size:90px}.row{text-anchor:end}.detached{fill:#ccc}.negotiating{fill:#b3dcf5}.contract{fill:#99d8c7}"
+    ++ codes ".hard{fill:#ee9e66}.disabled{fill:#000}.event{stroke:#0072b2}.change{stroke:#009e73}.fault{stroke:#c00;stroke-width:20}"
+    ++ codes ".packet{stroke:#000}.box{fill:#fff;stroke-width:5}"
 
 abbrev pub phases : List Phase
 phases = Detached ∷ Negotiating ∷ Contract ∷ HardReset ∷ Disabled ∷ []

@@ -37,7 +37,7 @@ fn push_band_name(text: &mut Vec<u8>, place: Place, lane: &Lane) -> Result<(), A
         text,
         b"label",
         lane.start(place) + 30,
-        u64::from(place.top) + 105,
+        u64::from(place.top) + 85,
         lane.phase.name(),
     )
 }

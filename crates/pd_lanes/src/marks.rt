@@ -86,7 +86,7 @@ fn push_label_words(
         text,
         b"label",
         place.x() + 30,
-        place.row_top(row) + 80,
+        place.row_top(row) + 73,
         label,
     )
 }

@@ -17,8 +17,8 @@ use std::alloc::{AllocError, Global};
 fn lane_rules() -> &'static [u8]
     ensures { result.now ≡ lane_rules }
 {
-    b"text{paint-order:stroke;stroke:#fff;stroke-width:20}.label,.row{font-family:monospace;pointer-events:none}\
-      .row{text-anchor:end}.detached{fill:#ccc}.negotiating{fill:#b3dcf5}.contract{fill:#99d8c7}.hard{fill:#ee9e66}\
+    b"text{paint-order:stroke;stroke:#fff;stroke-width:20}.label,.row{stroke:none;font-family:monospace;pointer-events:none}\
+      .label{font-size:90px}.row{text-anchor:end}.detached{fill:#ccc}.negotiating{fill:#b3dcf5}.contract{fill:#99d8c7}.hard{fill:#ee9e66}\
       .disabled{fill:#000}.event{stroke:#0072b2}.change{stroke:#009e73}.fault{stroke:#c00;stroke-width:20}.packet{stroke:#000}\
       .box{fill:#fff;stroke-width:5}"
 }
