@@ -1,20 +1,21 @@
--- The chart of the budget and of the contracts.
+-- The chart of the budget, of the contracts and of the holds.
 use Rattle.std.specs.Prelude.{ℕ, ◌+◌, ◌-◌, ◌*◌, ◌/◌, min, List, [], ◌∷◌, ◌++◌, take, drop, sum, codes, decimal}
 use Rattle.std.specs.List.{flat_map}
 use Rattle.pd_svg.specs.Elements.{Element, element_text}
 use Rattle.pd_svg.specs.Shapes.{box_of, path_of, words_at}
 use Rattle.pd_tell.specs.Amounts.{watts}
 use Rattle.pd_draw.specs.declared.curves.Curve.{Curve}
-use Rattle.pd_draw.specs.declared.curves.Curve.TheVariants.{Budget, Contracts}
+use Rattle.pd_draw.specs.declared.curves.Curve.TheVariants.{Budget, Contracts, Holds}
 use Rattle.pd_draw.specs.declared.curves.Level.{Level}
 use Rattle.pd_draw.specs.declared.frame.Frame.{Frame}
 use Rattle.pd_draw.specs.Curves.{margin}
 use Rattle.pd_draw.specs.Scale.{right_of, seconds, tenth_of, x_of, y_of}
 
--- the value of a curve at a step: the budget, or what the contracts of the first ports take of it
+-- the value of a curve at a step: the budget, what the contracts of the first ports take of it, or what these ports hold of it
 abbrev pub value_of : Curve → Level → ℕ
 value_of Budget l = l.budget
 value_of (Contracts k) l = sum (take k l.powers)
+value_of (Holds k) l = sum (take k l.holds)
 
 -- a step: along to its time, and then up or down to its value
 unfoldable pub step_text : Frame → ℕ → Curve → Level → List ℕ
@@ -25,6 +26,7 @@ step_text f top curve l =
 abbrev pub closing : Curve → List ℕ
 closing Budget = []
 closing (Contracts k) = codes "V3500Z"
+closing (Holds k) = []
 
 -- the path of a curve: from the corner of the chart, over its steps, to the right
 unfoldable pub curve_text : Frame → ℕ → Curve → List Level → List ℕ
@@ -41,6 +43,17 @@ port_name port = codes "port " ++ decimal port
 -- the area up to the contracts of a port, over those of the ports before it
 unfoldable pub area_of : Frame → ℕ → List Level → ℕ → Element
 area_of f top levels port = path_of (port_class port) (curve_text f top (Contracts port) levels) (port_name port)
+
+-- what belongs to the hold of a port
+abbrev pub hold_class : ℕ → List ℕ
+hold_class port = codes "hold h" ++ decimal port
+
+abbrev pub hold_name : ℕ → List ℕ
+hold_name port = port_name port ++ codes " holds"
+
+-- the outline of what a port holds, upon what the ports before it hold
+unfoldable pub outline_of : Frame → ℕ → List Level → ℕ → Element
+outline_of f top levels port = path_of (hold_class port) (curve_text f top (Holds port) levels) (hold_name port)
 
 unfoldable pub budget_of : Frame → ℕ → List Level → Element
 budget_of f top levels = path_of (codes "budget") (curve_text f top Budget levels) (codes "budget")
@@ -87,13 +100,23 @@ margin_words l = words_at (codes "head") 700 260 (margin_text l)
 
 -- the x at which it stands what a colour stands for
 abbrev pub key_left : ℕ → ℕ
-key_left port = 700 + 900 * (port - 1)
+key_left place = 700 + 900 * (place - 1)
 
 -- what a colour stands for
 unfoldable pub key_of : ℕ → List Element
 key_of port =
     box_of (port_class port) (record { x = key_left port; y = 430; width = 120; height = 120 }) []
     ∷ words_at (codes "tick") (key_left port + 150) 530 (port_name port) ∷ []
+
+-- what a line stands for
+unfoldable pub line_key : List ℕ → ℕ → List ℕ → List Element
+line_key class place words =
+    line_of class (key_left place) 490 (key_left place + 120) 490 []
+    ∷ words_at (codes "tick") (key_left place + 150) 530 words ∷ []
+
+-- the lines of the holds and of the budget stand behind the ports
+abbrev pub line_keys : ℕ → List Element
+line_keys n = line_key (codes "hold") (n + 1) (codes "holds") ++ line_key (codes "budget") (n + 2) (codes "budget")
 
 -- the ports, up and down
 abbrev pub ports_up : ℕ → List ℕ

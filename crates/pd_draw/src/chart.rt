@@ -1,11 +1,11 @@
-//! The chart of the budget and of the contracts.
+//! The chart of the budget, of the contracts and of the holds.
 
 ghost use Rattle.std.specs.Prelude.{◌≡◌, ◌∷◌, ◌++◌, ◌≤◌, [], OnOk, All};
 ghost use Rattle.std.specs.List.{flat_map};
 ghost use Rattle.pd_svg.specs.Elements.{element_text};
-ghost use Rattle.pd_draw.specs.Chart.{area_of, budget_of, closing, curve_text, key_of};
-ghost use Rattle.pd_draw.specs.Chart.{line_of, line_text, margin_mark, margin_text, margin_words};
-ghost use Rattle.pd_draw.specs.Chart.{port_class, port_name, power_line, power_tick};
+ghost use Rattle.pd_draw.specs.Chart.{area_of, budget_of, closing, curve_text, hold_class, hold_name, key_of};
+ghost use Rattle.pd_draw.specs.Chart.{line_key, line_keys, line_of, line_text, margin_mark, margin_text, margin_words};
+ghost use Rattle.pd_draw.specs.Chart.{outline_of, port_class, port_name, power_line, power_tick};
 ghost use Rattle.pd_draw.specs.Chart.{power_words, step_text, time_line, time_tick, time_words};
 
 use crate::amounts::push_seconds;
@@ -53,7 +53,7 @@ fn closing(curve: Curve) -> &'static [u8]
     ensures { result.now ≡ closing curve }
 {
     match curve {
-        Curve::Budget => b"",
+        Curve::Budget | Curve::Holds(_) => b"",
         Curve::Contracts(_) => b"V3500Z",
     }
 }
@@ -130,6 +130,60 @@ pub(crate) fn push_areas(
 {
     for port in ports {
         push_area(alloc, text, frame, top, levels, *port)?;
+    }
+    Ok(())
+}
+
+/// Writes the class of what belongs to the hold of a port.
+fn push_hold_class(text: &mut Vec<u8>, port: u64) -> Result<(), AllocError>
+    ensures { OnOk result (text.new.items ≡ text.old.items ++ hold_class port) }
+{
+    text.extend_from_slice(b"hold h")?;
+    push_number(text, port)
+}
+
+fn push_hold_name(text: &mut Vec<u8>, port: u64) -> Result<(), AllocError>
+    ensures { OnOk result (text.new.items ≡ text.old.items ++ hold_name port) }
+{
+    push_port_name(text, port)?;
+    text.extend_from_slice(b" holds")
+}
+
+/// Draws the outline of what a port holds, upon what the ports before it hold.
+#[tactic(auto, unfolding(crate::specs::Chart::outline_of))]
+fn push_outline(
+    alloc: Global,
+    text: &mut Vec<u8>,
+    frame: Frame,
+    top: u32,
+    levels: &[Level],
+    port: usize,
+) -> Result<(), AllocError>
+    ensures { OnOk result (text.new.items ≡ text.old.items ++ element_text (outline_of frame top levels.now port)) }
+{
+    let mut class = Vec::new(alloc);
+    let mut name = Vec::new(alloc);
+    let mut path = Vec::new(alloc);
+    push_hold_class(&mut class, port as u64)?;
+    push_hold_name(&mut name, port as u64)?;
+    push_curve(&mut path, frame, top, Curve::Holds(port), levels)?;
+    push_path(text, class.as_slice(), path.as_slice(), name.as_slice())
+}
+
+/// Draws the outlines of ports' holds.
+pub(crate) fn push_outlines(
+    alloc: Global,
+    text: &mut Vec<u8>,
+    frame: Frame,
+    top: u32,
+    levels: &[Level],
+    ports: &[usize],
+) -> Result<(), AllocError>
+    ensures { OnOk result (text.new.items
+        ≡ text.old.items ++ flat_map (λ port. element_text (outline_of frame top levels.now port)) ports.now) }
+{
+    for port in ports {
+        push_outline(alloc, text, frame, top, levels, *port)?;
     }
     Ok(())
 }
@@ -375,6 +429,36 @@ fn push_key(alloc: Global, text: &mut Vec<u8>, port: usize) -> Result<(), AllocE
     };
     push_box(text, class.as_slice(), area, b"")?;
     push_words(text, b"tick", left + 150, 530, name.as_slice())
+}
+
+/// Draws what a line stands for, at such a place among the ports.
+#[tactic(auto, unfolding(crate::specs::Chart::line_key))]
+fn push_line_key(
+    alloc: Global,
+    text: &mut Vec<u8>,
+    class: &[u8],
+    place: usize,
+    words: &[u8],
+) -> Result<(), AllocError>
+    requires { place ≤ 10 }
+    ensures { OnOk result (text.new.items ≡ text.old.items ++ flat_map element_text (line_key class.now place words.now)) }
+{
+    let left = 700 + 900 * (place as u64).saturating_sub(1);
+    push_line(alloc, text, class, (left, 490), (left + 120, 490), b"")?;
+    push_words(text, b"tick", left + 150, 530, words)
+}
+
+/// Draws what the lines of the holds and of the budget stand for, behind so many ports.
+pub(crate) fn push_line_keys(
+    alloc: Global,
+    text: &mut Vec<u8>,
+    ports: usize,
+) -> Result<(), AllocError>
+    requires { ports ≤ 8 }
+    ensures { OnOk result (text.new.items ≡ text.old.items ++ flat_map element_text (line_keys ports)) }
+{
+    push_line_key(alloc, text, b"hold", ports + 1, b"holds")?;
+    push_line_key(alloc, text, b"budget", ports + 2, b"budget")
 }
 
 /// Draws what the colours of ports stand for.

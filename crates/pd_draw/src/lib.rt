@@ -1,4 +1,4 @@
-//! The chart of a run: the shared budget and the ports' contracts over time.
+//! The chart of a run: the shared budget, the ports' contracts and what they hold of it, over time.
 #![tactic(auto)]
 
 mod amounts;

@@ -4,11 +4,11 @@ ghost use Rattle.std.specs.Prelude.{◌≡◌, ◌∷◌, ◌++◌, ◌≤◌, O
 ghost use Rattle.std.specs.List.{flat_map};
 ghost use Rattle.pd_svg.specs.Elements.{attribute_text, element_text};
 ghost use Rattle.pd_draw.specs.Picture.{axes_text, curves_text, elements_of, head_of, keys_text};
-ghost use Rattle.pd_draw.specs.Picture.{least_elements, rules, top_of, whole_width};
+ghost use Rattle.pd_draw.specs.Picture.{least_elements, rules, stacks_text, top_of, whole_width};
 
 use crate::chart::{
-    push_areas, push_budget, push_keys, push_margin_mark, push_margin_words, push_power_ticks,
-    push_time_ticks,
+    push_areas, push_budget, push_keys, push_line_keys, push_margin_mark, push_margin_words,
+    push_outlines, push_power_ticks, push_time_ticks,
 };
 use crate::curves::{greatest, tightest};
 use crate::{Frame, Level};
@@ -25,7 +25,8 @@ fn rules() -> &'static [u8]
       path{fill:none;stroke-width:10}.grid{stroke:#ddd;stroke-width:5}.budget{stroke:#000;stroke-width:20}\
       .least{stroke:#c00;stroke-width:50;stroke-linecap:round}.p1,.p2,.p3,.p4,.p5,.p6,.p7,.p8{stroke:#000;stroke-width:5}.p1{fill:#e69f00}\
       .p2{fill:#56b4e9}.p3{fill:#009e73}.p4{fill:#f0e442}.p5{fill:#0072b2}.p6{fill:#d55e00}.p7{fill:#cc79a7}\
-      .p8{fill:#999}"
+      .p8{fill:#999}.hold{stroke:#444;stroke-width:12;stroke-dasharray:40 15}.h1{stroke:#7a5400}.h2{stroke:#1c5f8a}\
+      .h3{stroke:#00402f}.h4{stroke:#7d7500}.h5{stroke:#00304d}.h6{stroke:#6e3000}.h7{stroke:#7a2f58}.h8{stroke:#444}"
 }
 
 /// How far up the chart reaches, in microwatts.
@@ -89,7 +90,23 @@ fn push_least(
     push_margin_words(alloc, text, &least)
 }
 
-/// Draws the contracts from the last port to the first, the budget, and the least margin.
+/// Draws the contracts of ports, and over them what the ports hold.
+#[tactic(auto, unfolding(crate::specs::Picture::stacks_text))]
+fn push_stacks(
+    alloc: Global,
+    text: &mut Vec<u8>,
+    frame: Frame,
+    top: u32,
+    levels: &[Level],
+    ports: &[usize],
+) -> Result<(), AllocError>
+    ensures { OnOk result (text.new.items ≡ text.old.items ++ stacks_text frame top levels.now ports.now) }
+{
+    push_areas(alloc, text, frame, top, levels, ports)?;
+    push_outlines(alloc, text, frame, top, levels, ports)
+}
+
+/// Draws the contracts and the holds from the last port to the first, the budget, and the least margin.
 #[tactic(auto, unfolding(crate::specs::Picture::curves_text))]
 fn push_curves(
     alloc: Global,
@@ -103,19 +120,20 @@ fn push_curves(
 {
     let top = top_of(levels);
     let down = [8usize, 7, 6, 5, 4, 3, 2, 1];
-    push_areas(alloc, text, frame, top, levels, &down[8 - ports..])?;
+    push_stacks(alloc, text, frame, top, levels, &down[8 - ports..])?;
     push_budget(alloc, text, frame, top, levels)?;
     push_least(alloc, text, frame, top, levels)
 }
 
-/// Draws what the colours stand for.
+/// Draws what the colours and the lines stand for.
 #[tactic(auto, unfolding(crate::specs::Picture::keys_text))]
 fn push_all_keys(alloc: Global, text: &mut Vec<u8>, ports: usize) -> Result<(), AllocError>
     requires { ports ≤ 8 }
     ensures { OnOk result (text.new.items ≡ text.old.items ++ keys_text ports) }
 {
     let up = [1usize, 2, 3, 4, 5, 6, 7, 8];
-    push_keys(alloc, text, &up[..ports])
+    push_keys(alloc, text, &up[..ports])?;
+    push_line_keys(alloc, text, ports)
 }
 
 /// Draws the axes.

@@ -26,7 +26,7 @@ pub fn draw<const N: usize>(
     let frame = look.frame(plan);
     let mut live = Live::new(alloc, plan)?;
     let mut watches = at_rest(alloc, N)?;
-    let mut curves = Curves::new(alloc, frame, plan.force(u64::from(frame.from)))?;
+    let mut curves = Curves::new(alloc, frame, plan)?;
     let mut lanes = Lanes::new(alloc, frame);
     let mut meter = Meter::new();
     while let Some((port, due)) = live.next(plan) {
