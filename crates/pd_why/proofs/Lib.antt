@@ -1,5 +1,1 @@
-pub mod BoundLemmas
-pub mod LookLemmas
-pub mod ShareLemmas
-pub mod StoryLemmas
 pub mod TextLemmas

@@ -12,16 +12,16 @@ use Rattle.pd_port.specs.declared.entry.ContractChange.{ContractChange}
 use Rattle.pd_port.specs.declared.entry.ContractChange.TheVariants as change
 use Rattle.pd_tell.specs.Amounts.{amperes, volts, watts}
 use Rattle.pd_tell.specs.Words.{contract_words, side_words, source_name}
-use Rattle.pd_why.specs.declared.bound.Bound.{Bound}
-use Rattle.pd_why.specs.declared.bound.Bound.TheVariants.{Configured, Cable, Free}
-use Rattle.pd_why.specs.declared.bound.Bounds.{Bounds}
-use Rattle.pd_why.specs.declared.cable.CableLimit.{CableLimit}
-use Rattle.pd_why.specs.declared.cable.CableLimit.TheVariants as known
-use Rattle.pd_why.specs.declared.holder.Maker.{Maker}
-use Rattle.pd_why.specs.declared.holder.Maker.TheVariants as maker
-use Rattle.pd_why.specs.declared.fact.Fact.{Fact}
-use Rattle.pd_why.specs.declared.fact.Fact.TheVariants as fact
-use Rattle.pd_why.specs.Bounds.{sets}
+use Rattle.pd_bounds.specs.declared.bound.Bound.{Bound}
+use Rattle.pd_bounds.specs.declared.bound.Bound.TheVariants.{Configured, Cable, Free}
+use Rattle.pd_bounds.specs.declared.bound.Bounds.{Bounds}
+use Rattle.pd_bounds.specs.declared.cable.CableLimit.{CableLimit}
+use Rattle.pd_bounds.specs.declared.cable.CableLimit.TheVariants as known
+use Rattle.pd_bounds.specs.declared.holder.Maker.{Maker}
+use Rattle.pd_bounds.specs.declared.holder.Maker.TheVariants as maker
+use Rattle.pd_bounds.specs.declared.fact.Fact.{Fact}
+use Rattle.pd_bounds.specs.declared.fact.Fact.TheVariants as fact
+use Rattle.pd_bounds.specs.Bounds.{sets}
 
 -- when something comes of an offer
 abbrev pub at_words : ℕ → List ℕ

@@ -1,18 +1,9 @@
-//! What bounds a port: for each offer what set its currents, what the sink asked of it and why, and what came of it.
+//! What bounds a port, in words: a line for each fact.
 #![tactic(auto)]
 
-mod bound;
-mod cable;
-mod fact;
-mod holder;
-mod known;
-pub mod laws;
-mod look;
-mod question;
-mod request;
-mod story;
+mod run;
 mod tell;
-mod walk;
 
-pub use question::Question;
-pub use walk::why;
+pub use pd_bounds::Question;
+pub use run::why;
+pub use tell::push_fact_lines;

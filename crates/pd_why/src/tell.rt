@@ -1,6 +1,7 @@
 //! The lines in which it is told what bounds a port.
 
 ghost use Rattle.std.specs.Prelude.{◌≡◌, ◌++◌, OnOk, codes, decimal};
+ghost use Rattle.std.specs.List.{flat_map};
 ghost use Rattle.pd_tell.specs.Amounts.{amperes, watts};
 ghost use Rattle.pd_why.specs.Words.{at_words, bound_words, cable_words, change_words, demand_words, enough_words, fact_line, fact_words};
 ghost use Rattle.pd_why.specs.Words.{fits_words, free_words, hold_words, idle_words, is_off, limit_words, maker_words, mode_words, named};
@@ -12,10 +13,7 @@ ghost use Rattle.pd_why.specs.Words.{carried_words, configured_words, floor_word
 ghost use Rattle.pd_why.specs.Words.{wish_words};
 ghost use Rattle.pd_line.specs.declared.notes.Fault.TheVariants.{NoGoodCrc};
 
-use crate::bound::{Bound, Bounds};
-use crate::cable::CableLimit;
-use crate::fact::Fact;
-use crate::holder::Maker;
+use pd_bounds::{Bound, Bounds, CableLimit, Fact, Maker};
 use pd_header::{Kind, Side};
 use pd_line::Fault;
 use pd_port::ContractChange;
@@ -504,10 +502,23 @@ fn push_fact(text: &mut Vec<u8>, fact: &Fact) -> Result<(), AllocError>
 
 /// Writes the line of a fact.
 #[tactic(auto, unfolding(crate::specs::Words::fact_line))]
-pub(crate) fn push_fact_line(text: &mut Vec<u8>, fact: &Fact) -> Result<(), AllocError>
+fn push_fact_line(text: &mut Vec<u8>, fact: &Fact) -> Result<(), AllocError>
     ensures { OnOk result (text.new.items ≡ text.old.items ++ fact_line fact.now) }
 {
     push_fact(text, fact)?;
     text.push(b'\n')?;
+    Ok(())
+}
+
+/// Writes a line for each fact.
+///
+/// # Errors
+/// There is no memory; some of it may stand in the text.
+pub fn push_fact_lines(text: &mut Vec<u8>, facts: &[Fact]) -> Result<(), AllocError>
+    ensures { OnOk result (text.new.items ≡ text.old.items ++ flat_map fact_line facts.now) }
+{
+    for fact in facts {
+        push_fact_line(text, fact)?;
+    }
     Ok(())
 }

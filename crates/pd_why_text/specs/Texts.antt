@@ -6,7 +6,7 @@ use Rattle.pd_scenario.specs.Plans.{plan_of}
 use Rattle.pd_scenario.specs.Scenarios.{ScenarioData}
 use Rattle.pd_run_text.specs.Texts.{IsRefused, IsScenarioText}
 use Rattle.pd_script.specs.Script.{followed}
-use Rattle.pd_why.specs.declared.question.Question.{Question}
+use Rattle.pd_bounds.specs.declared.question.Question.{Question}
 use Rattle.pd_why.specs.Story.{TellsWhy}
 use Rattle.pd_why_text.specs.declared.texts.WhyFault.{WhyFault}
 use Rattle.pd_why_text.specs.declared.texts.WhyFault.TheVariants as fault

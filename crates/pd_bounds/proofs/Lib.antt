@@ -1,0 +1,4 @@
+pub mod BoundLemmas
+pub mod LookLemmas
+pub mod ShareLemmas
+pub mod StoryLemmas
