@@ -2,6 +2,8 @@
 #![tactic(auto)]
 
 #[cfg(test)]
+mod objects;
+#[cfg(test)]
 mod shows;
 #[cfg(test)]
 mod texts;

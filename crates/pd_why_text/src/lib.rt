@@ -1,7 +1,9 @@
 //! What bounds a port, for the scenarios of texts.
 #![tactic(auto)]
 
+mod form;
 mod texts;
 
-pub use pd_why::Question;
+pub use form::Form;
+pub use pd_bounds::Question;
 pub use texts::{WhyFault, why_text};

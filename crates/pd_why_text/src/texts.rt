@@ -8,14 +8,15 @@ ghost use Rattle.pd_scenario_tables.specs.Ports.{counted};
 ghost use Rattle.pd_scenario_text.specs.File.{members_of};
 ghost use Rattle.pd_run_text.specs.Texts.{ForTexts};
 ghost use Rattle.pd_script.specs.Script.{followed};
-ghost use Rattle.pd_why.specs.Story.{TellsWhy};
+ghost use Rattle.pd_why_text.specs.Forms.{TellsStory};
 ghost use Rattle.pd_why_text.specs.Texts.{TellsText};
 
+use crate::form::{Form, tell_story};
+use pd_bounds::Question;
 use pd_run::Plan;
 use pd_scenario::Scenario;
 use pd_scenario_text::{ScenarioFault, ScenarioFile};
 use pd_script::follow;
-use pd_why::{Question, why};
 use std::alloc::{AllocError, Global};
 
 /// Why it can't be told what bounds a port.
@@ -31,16 +32,16 @@ pub enum WhyFault {
 
 // Asks the run of as many ports as the file has.
 macro_rules! why_by {
-    ($alloc:ident, $file:ident, $script:ident, $question:ident, $said:ident; $($n:literal)*) => {
+    ($alloc:ident, $file:ident, $script:ident, $question:ident, $form:ident, $said:ident; $($n:literal)*) => {
         match $file.port_count().map_err(WhyFault::Scenario)? {
-            $($n => why_file::<$n>($alloc, $file, $script, $question, $said),)*
+            $($n => why_file::<$n>($alloc, $file, $script, $question, $form, $said),)*
             _ => Err(WhyFault::Scenario(ScenarioFault::Limit)),
         }
     };
 }
 
-/// Tells what bounds a port in the run of the scenario of a text, which has 1 to 8 ports, as an edit script leaves it. A line that is
-/// refused changes nothing.
+/// Tells what bounds a port in the run of the scenario of a text, which has 1 to 8 ports, as an edit script leaves it: each fact in a
+/// form. A line that is refused changes nothing.
 ///
 /// # Errors
 /// `Scenario` where the text is refused and `NoSuchPort` where it hasn't the port, and nothing is written; `Memory` where there is none
@@ -50,12 +51,13 @@ pub fn why_text(
     text: &[u8],
     script: &[u8],
     question: &Question,
+    form: Form,
     said: &mut Vec<u8>,
 ) -> Result<(), WhyFault>
-    ensures { TellsText result text.now script.now question.now said.old.items said.new.items }
+    ensures { TellsText form result text.now script.now question.now said.old.items said.new.items }
 {
     let file = ScenarioFile::parse(alloc, text).map_err(WhyFault::Scenario)?;
-    why_by!(alloc, file, script, question, said; 1 2 3 4 5 6 7 8)
+    why_by!(alloc, file, script, question, form, said; 1 2 3 4 5 6 7 8)
 }
 
 // Whether a port is among so many.
@@ -71,12 +73,13 @@ fn why_file<const N: usize>(
     file: ScenarioFile,
     script: &[u8],
     question: &Question,
+    form: Form,
     said: &mut Vec<u8>,
 ) -> Result<(), WhyFault>
     requires from_one { 1 ≤ N }
     requires to_eight { N ≤ 8 }
     requires counts { counted (members_of file) ≡ Ok N }
-    ensures { ForTexts file (λ text. TellsText result text script.now question.now said.old.items said.new.items) }
+    ensures { ForTexts file (λ text. TellsText form result text script.now question.now said.old.items said.new.items) }
 {
     let scenario = match file.scenario::<N>(alloc) {
         Ok(scenario) => scenario,
@@ -85,7 +88,7 @@ fn why_file<const N: usize>(
     if !is_port(N, question.port) {
         return Err(WhyFault::NoSuchPort);
     }
-    match why_scenario(alloc, scenario, script, question, said) {
+    match why_scenario(alloc, scenario, script, question, form, said) {
         Ok(()) => Ok(()),
         Err(_) => Err(WhyFault::Memory),
     }
@@ -97,13 +100,14 @@ fn why_scenario<const N: usize>(
     scenario: Scenario<N>,
     script: &[u8],
     question: &Question,
+    form: Form,
     said: &mut Vec<u8>,
 ) -> Result<(), AllocError>
-    ensures { OnOk result (TellsWhy (plan_of (followed N scenario.entry (lines script.now))) question.now
+    ensures { OnOk result (TellsStory form (plan_of (followed N scenario.entry (lines script.now))) question.now
         said.old.items said.new.items) }
 {
     let mut scenario = scenario;
     follow(alloc, &mut scenario, script)?;
     let plan = Plan::of_scenario(alloc, &scenario)?;
-    why(alloc, &plan, question, said)
+    tell_story(alloc, &plan, question, form, said)
 }

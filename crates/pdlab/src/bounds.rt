@@ -1,4 +1,4 @@
-//! `pdlab why SCENARIO EDITS PORT [AT]`.
+//! `pdlab why [--json] SCENARIO EDITS PORT [AT]`.
 
 use crate::Ending;
 use crate::fault::{output, tell, tell_no_port, tell_refused, tell_unread};
@@ -7,7 +7,7 @@ use crate::shown::tell_lines;
 use clap::ArgMatches;
 use pd_device::{BenchFault, write_all};
 use pd_run_text::read_whole;
-use pd_why_text::{Question, WhyFault, why_text};
+use pd_why_text::{Form, Question, WhyFault, why_text};
 use std::alloc::Global;
 use std::num::ParseIntError;
 use std::rt::Files;
@@ -23,6 +23,15 @@ pub fn question_of(matches: &ArgMatches<'_>) -> Result<Question, ParseIntError> 
     })
 }
 
+/// How the command line wants it told.
+pub fn form_of(matches: &ArgMatches<'_>) -> Form {
+    if matches.get_flag("json") {
+        Form::Json
+    } else {
+        Form::Words
+    }
+}
+
 /// Tells what bounds a port in the run of the scenario of a file, as the edits of a script leave it.
 pub fn bounds<R: Files + Input + Print + Alloc<A = Global>, E: Print>(
     rt: &R,
@@ -30,6 +39,7 @@ pub fn bounds<R: Files + Input + Print + Alloc<A = Global>, E: Print>(
     scenario: &str,
     edits: Option<&str>,
     question: &Question,
+    form: Form,
 ) -> Ending {
     let Ok(text) = read_whole(rt, scenario) else {
         return tell_unread(errors, scenario);
@@ -43,7 +53,7 @@ pub fn bounds<R: Files + Input + Print + Alloc<A = Global>, E: Print>(
         return tell(errors, fault);
     }
     let mut said = Vec::new(rt.alloc());
-    match why_text(rt.alloc(), text, script, question, &mut said) {
+    match why_text(rt.alloc(), text, script, question, form, &mut said) {
         Ok(()) => match write_all(&mut output(rt), said.as_slice()) {
             Ok(()) => Ending::Done,
             Err(fault) => tell(errors, fault),

@@ -14,7 +14,7 @@ mod tested;
 mod words;
 
 use at_keyboard::live;
-use bounds::{bounds, question_of};
+use bounds::{bounds, form_of, question_of};
 use clap::ArgMatches;
 use clap::error::ErrorKind;
 use drawn::{drawn, look_of};
@@ -140,7 +140,10 @@ fn why<R: Files + Input + Print + Alloc<A = Global>, E: Print>(
     matches: &ArgMatches<'_>,
 ) -> Ending {
     match question_of(matches) {
-        Ok(question) => bounds(rt, errors, scenario, matches.get_str("EDITS"), &question),
+        Ok(question) => {
+            let edits = matches.get_str("EDITS");
+            bounds(rt, errors, scenario, edits, &question, form_of(matches))
+        }
         Err(_) => answer_words(rt, errors, &[], ErrorKind::InvalidValue),
     }
 }

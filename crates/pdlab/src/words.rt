@@ -5,7 +5,7 @@ use std::alloc::{AllocError, Global};
 
 /// What stands where the words are others.
 pub const USAGE: &str =
-    "usage: pdlab live SCENARIO | show SCENARIO [EDITS] [OPTIONS] | why SCENARIO EDITS PORT [AT] | \
+    "usage: pdlab live SCENARIO | show SCENARIO [EDITS] [OPTIONS] | why [--json] SCENARIO EDITS PORT [AT] | \
      sweep SCENARIO [EDITS] [OPTIONS] | test SCRIPT.. | draw SCENARIO [EDITS] [OPTIONS] | \
      explain [--json] SCENARIO [EDITS] | decode [--json] [FILE] | --help";
 
@@ -97,7 +97,7 @@ status: 0 the run was shown, 1 the scenario is refused, or has no such port,
 /// What `why --help` prints.
 pub const WHY_HELP: &str = "pdlab why: what bounds a port
 
-usage: pdlab why SCENARIO EDITS PORT [AT]
+usage: pdlab why [--json] SCENARIO EDITS PORT [AT]
 
 Runs the charger of the file SCENARIO, as the edit script EDITS leaves it (- is
 standard input; /dev/null has no edits), and tells of the last offer of port PORT:
@@ -107,8 +107,10 @@ cable and what is free allow, and which of them set the current that is offered,
 all that are the least; what the sink asks for and why; and what comes of it. Why
 lines of EDITS are refused is told on standard error, and they change nothing.
 
-  PORT   the port; ports are numbered from 1
-  AT     tells of each offer up to this time, in microseconds, in place of the last
+  PORT     the port; ports are numbered from 1
+  AT       tells of each offer up to this time, in microseconds, in place of the last
+  --json   a JSON object for each line, with units in its keys (_us, _mv, _ma, _mw,
+           _uw), for other programs
 
 Voltages are in volts, currents in amperes, in the steps of 10 mA in which offers
 state them, powers in watts.
@@ -311,9 +313,10 @@ fn word<'a>(alloc: Global, name: &'a str, is_required: bool) -> Arg<'a> {
         .action(ArgAction::Set)
 }
 
-/// `pdlab why SCENARIO EDITS PORT [AT]`.
+/// `pdlab why [--json] SCENARIO EDITS PORT [AT]`.
 fn why<'a>(alloc: Global) -> Result<Command<'a>, AllocError> {
     Command::new(alloc, "why")
+        .arg(option(alloc, "json", ArgAction::SetTrue))?
         .arg(scenario(alloc))?
         .arg(word(alloc, "EDITS", true))?
         .arg(word(alloc, "PORT", true))?

@@ -14,6 +14,7 @@ returns g c =
     (λ h. record {
       moves = told.moves;
       safe = told.safe;
-      text_is = h ∙ ap (λ (facts : List Fact). c.args.text.now.items ++ flat_map fact_line facts) told.facts_are;
+      text_is = h ∙ ap (λ (facts : List Fact). c.args.text.now.items ++ flat_map fact_line facts)
+          (c.as_slice.ensures.value ∙ told.facts_are);
     })
     c.push_fact_lines.ensures

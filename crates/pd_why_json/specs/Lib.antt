@@ -1,0 +1,3 @@
+pub mod Names
+pub mod Members
+pub mod Objects
