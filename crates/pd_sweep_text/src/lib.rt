@@ -1,7 +1,9 @@
 //! Each packet of a run lost in turn, for the scenarios of texts.
 #![tactic(auto)]
 
+mod count;
 mod texts;
 
+pub use count::packet_count;
 pub use pd_sweep::{Campaign, Choice, Loss, Tally};
 pub use texts::{SweepFault, sweep_text};

@@ -60,7 +60,7 @@ pub fn sweep_text<W: TextOut>(
 }
 
 // Whether the port that is chosen is among so many.
-fn has_port(ports: usize, port: Option<usize>) -> bool
+pub(crate) fn has_port(ports: usize, port: Option<usize>) -> bool
     ensures { result ≡ has_port ports port }
 {
     match port {

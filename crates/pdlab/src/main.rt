@@ -7,6 +7,7 @@ mod drawn;
 mod explained;
 mod fault;
 mod log;
+mod progress;
 mod script_file;
 mod shown;
 mod swept;
@@ -26,7 +27,7 @@ use shown::{choice_of, shown};
 use std::alloc::{AllocError, Global};
 use std::io::IsTerminal;
 use std::process::ExitCode;
-use std::rt::{Env, Files};
+use std::rt::{Clock, Env, Files};
 use std::{env, io};
 use swept::{OrderFault, order_of, swept, tell_no_kind};
 use tested::tested;
@@ -78,7 +79,7 @@ fn answer_words<R: Print, E: Print>(
 }
 
 /// Does what the words of the command line say.
-fn obey<R: Files + Input + Print + Alloc<A = Global>, E: Print>(
+fn obey<R: Files + Input + Print + Clock + Alloc<A = Global>, E: Print + IsTerminal>(
     rt: &R,
     errors: &E,
     words: &[String],
@@ -149,7 +150,7 @@ fn why<R: Files + Input + Print + Alloc<A = Global>, E: Print>(
 }
 
 /// Loses packets in turn, by the words behind `sweep`.
-fn sweep<R: Files + Input + Print + Alloc<A = Global>, E: Print>(
+fn sweep<R: Files + Input + Print + Clock + Alloc<A = Global>, E: Print + IsTerminal>(
     rt: &R,
     errors: &E,
     scenario: &str,
@@ -176,7 +177,10 @@ fn draw<R: Files + Input + Print + Alloc<A = Global>, E: Print>(
 }
 
 /// The program. Words that are no text are wrong words.
-fn lab<R: Files + Input + Print + Env + Alloc<A = Global>, E: Print>(rt: &R, errors: &E) -> Ending
+fn lab<R: Files + Input + Print + Env + Clock + Alloc<A = Global>, E: Print + IsTerminal>(
+    rt: &R,
+    errors: &E,
+) -> Ending
 where
     R::Reader: IsTerminal,
 {

@@ -2,15 +2,18 @@
 
 use crate::Ending;
 use crate::fault::{output, tell, tell_no_port, tell_refused, tell_unread};
+use crate::progress::Watched;
 use crate::script_file::read_script;
 use crate::shown::tell_lines;
 use clap::ArgMatches;
 use pd_header::{Kind, kind_of};
 use pd_run_text::read_whole;
-use pd_sweep_text::{Campaign, Choice, Loss, SweepFault, Tally, sweep_text};
+use pd_sweep_text::{Campaign, Choice, Loss, SweepFault, Tally, packet_count, sweep_text};
 use std::alloc::Global;
+use std::io::IsTerminal;
 use std::num::ParseIntError;
-use std::rt::Files;
+use std::rt::{Clock, Files};
+use std::time::Instant;
 
 /// Why the words choose nothing.
 #[derive(Clone, Copy, Debug, PartialEq, Eq)]
@@ -99,9 +102,30 @@ fn ending_of(tally: &Tally) -> Ending {
     }
 }
 
+/// Makes a sweep. Where what is told of faults goes to a terminal, so does how far the sweep is.
+fn tally_of<R: Print + Clock + Alloc<A = Global>, E: Print + IsTerminal>(
+    rt: &R,
+    errors: &E,
+    text: &[u8],
+    script: &[u8],
+    campaign: &Campaign,
+) -> Result<Tally, SweepFault> {
+    if !errors.is_terminal() {
+        return sweep_text(rt.alloc(), text, script, campaign, &mut output(rt));
+    }
+    let total = packet_count(rt.alloc(), text, script, &campaign.choice)?;
+    match Instant::now(rt) {
+        Ok(began) => {
+            let mut lines = Watched::of(output(rt), rt, errors, total as u64, began);
+            sweep_text(rt.alloc(), text, script, campaign, &mut lines)
+        }
+        Err(_) => sweep_text(rt.alloc(), text, script, campaign, &mut output(rt)),
+    }
+}
+
 /// Loses each packet that is chosen of the run of the scenario of a file, as the edits of a script leave it, and tells what that
 /// leads to.
-pub fn swept<R: Files + Input + Print + Alloc<A = Global>, E: Print>(
+pub fn swept<R: Files + Input + Print + Clock + Alloc<A = Global>, E: Print + IsTerminal>(
     rt: &R,
     errors: &E,
     scenario: &str,
@@ -119,7 +143,7 @@ pub fn swept<R: Files + Input + Print + Alloc<A = Global>, E: Print>(
     if let Err(fault) = tell_lines(rt, errors, text, name, script) {
         return tell(errors, fault);
     }
-    match sweep_text(rt.alloc(), text, script, campaign, &mut output(rt)) {
+    match tally_of(rt, errors, text, script, campaign) {
         Ok(tally) => ending_of(&tally),
         Err(SweepFault::Scenario(fault)) => tell_refused(errors, scenario, fault),
         Err(SweepFault::NoSuchPort) => tell_no_port(errors),

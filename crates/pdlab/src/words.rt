@@ -134,7 +134,8 @@ comes, how many faults and Hard Resets there are more, and the least that the
 contracts leave of the budget, in microwatts; where that is less than without the
 loss, when. At the end how many packets were lost, how many of the runs end with
 other contracts, and the worst of each column. Why lines of EDITS are refused is
-told on standard error, and they change nothing.
+told on standard error, and they change nothing. A terminal is shown there how far
+it is.
 
   --port P       packets of this port alone; ports are numbered from 1
   --from T       packets from this time on, in microseconds

@@ -1,0 +1,122 @@
+//! How far a sweep is, told on a terminal.
+
+ghost use Rattle.std.specs.Prelude.{◌≡◌};
+
+use pd_device::{DeviceFault, TextOut};
+use std::fmt;
+use std::rt::Clock;
+use std::time::{Duration, Instant};
+
+/// The least milliseconds between two words of how far it is.
+const PAUSE: u128 = 100;
+
+/// Passes the lines of a sweep on, and tells a terminal how many of so many there were, ten times a second at most.
+#[derive(Drop)]
+pub struct Watched<'a, W, C, E> {
+    lines: W,
+    clock: &'a C,
+    terminal: &'a E,
+    total: u64,
+    done: u64,
+    began: Instant,
+    told: Instant,
+    is_shown: bool,
+}
+
+impl<'a, W: TextOut, C: Clock, E: Print> TextOut for Watched<'a, W, C, E> {
+    ghost taken = { λ w. W.taken w.lines };
+
+    ghost failures = { λ w. W.failures w.lines };
+
+    fn write(&mut self, bytes: &[u8]) -> Result<usize, DeviceFault> {
+        self.erase();
+        let count = self.lines.write(bytes)?;
+        self.done = self.done.saturating_add(lines_in(bytes, count));
+        self.tell();
+        Ok(count)
+    }
+}
+
+/// How many lines end within the first bytes.
+fn lines_in(bytes: &[u8], count: usize) -> u64 {
+    let mut lines: u64 = 0;
+    for byte in bytes.iter().take(count) {
+        if *byte == b'\n' {
+            lines = lines.saturating_add(1);
+        }
+    }
+    lines
+}
+
+impl<'a, W: TextOut, C: Clock, E: Print> Watched<'a, W, C, E> {
+    /// What lines of so many packets go through, from a time on.
+    pub fn of(lines: W, clock: &'a C, terminal: &'a E, total: u64, began: Instant) -> Self
+        ensures { result.lines ≡ lines }
+    {
+        Watched {
+            lines,
+            clock,
+            terminal,
+            total,
+            done: 0,
+            began,
+            told: began,
+            is_shown: false,
+        }
+    }
+
+    /// Takes back what the terminal shows, so that a line may follow.
+    fn erase(&mut self)
+        ensures { self.new.lines ≡ self.old.lines }
+    {
+        if self.is_shown {
+            let _ = self.terminal.print("\r\x1B[K");
+            self.is_shown = false;
+        }
+    }
+
+    /// Tells how far the sweep is, where that is some time ago and packets are left.
+    fn tell(&mut self)
+        ensures { self.new.lines ≡ self.old.lines }
+    {
+        let Ok(now) = Instant::now(self.clock) else {
+            return;
+        };
+        if self.done >= self.total || now.duration_since(self.told).as_millis() < PAUSE {
+            return;
+        }
+        let seconds = seconds_left(now.duration_since(self.began), self.done, self.total);
+        let _ = print!(self.terminal;
+            "{} of {} packets, {seconds} s left",
+            Grouped(self.done),
+            Grouped(self.total)
+        );
+        self.told = now;
+        self.is_shown = true;
+    }
+}
+
+/// How many seconds the rest takes, where it goes on as it went.
+fn seconds_left(passed: Duration, done: u64, total: u64) -> u128 {
+    let left = u128::from(total.saturating_sub(done));
+    passed.as_millis().saturating_mul(left) / u128::from(done.max(1)) / 1_000
+}
+
+/// A number with a comma before each three of its digits.
+#[derive(Clone, Copy, Debug)]
+struct Grouped(u64);
+
+impl fmt::Display for Grouped {
+    fn fmt<W: fmt::Write>(&self, f: &mut fmt::Formatter<W>) -> fmt::Result {
+        let (millions, thousands, ones) = (
+            self.0 / 1_000_000,
+            self.0 / 1_000 % 1_000,
+            self.0 % 1_000,
+        );
+        match (millions, thousands) {
+            (0, 0) => write!(f, "{ones}"),
+            (0, _) => write!(f, "{thousands},{ones:03}"),
+            _ => write!(f, "{millions},{thousands:03},{ones:03}"),
+        }
+    }
+}
