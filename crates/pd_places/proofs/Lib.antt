@@ -1,3 +1,13 @@
 mod NumberedTexts
 mod Found
 mod NoToml
+mod Told
+mod TablesTold
+mod LimitsTold
+mod Counted
+mod KnownTold
+mod FundsTold
+mod SameTold
+mod LeastFirst
+mod AnswerFirst
+mod EachTold

@@ -1,4 +1,5 @@
 pub mod Counts
+pub mod First
 pub mod Funds
 pub mod Known
 pub mod Numbered

@@ -6,6 +6,7 @@ mod counts;
 mod cut;
 mod funds;
 mod known;
+pub mod laws;
 mod places;
 mod same;
 mod text;

@@ -1,0 +1,93 @@
+-- The refusals of single tables are told exactly where they apply.
+use Rattle.std.proofs.Common.{ℕ, ◌+◌, Bool, not, ◌&&◌, List, [], ◌∷◌, ◌++◌, codes, decimal, is_none, Option, Some, None, refl}
+use Rattle.std.specs.List.{list_any}
+use Rattle.toml.specs.Data.{Data, Members}
+use Rattle.pd_scenario_tables.specs.declared.schema.Version.{Version}
+use Rattle.pd_scenario_tables.specs.declared.schema.TableKind.{TableKind}
+use Rattle.pd_scenario_tables.specs.declared.schema.TableKind.TheVariants.{Top, Port, Cable, Sink, Event}
+use Rattle.pd_scenario_tables.specs.declared.schema.Rule.{Rule}
+use Rattle.pd_scenario_tables.specs.declared.fault.ScenarioFault.{ScenarioFault}
+use Rattle.pd_scenario_tables.specs.declared.fault.ScenarioFault.TheVariants as fault
+use Rattle.pd_scenario_tables.specs.Schema.{rules_of}
+use Rattle.pd_scenario_tables.specs.Tables.{value_at, value_fails, event_at, keys_of, has_key, is_required, fails, event_fails}
+use Rattle.pd_scenario_tables.specs.Values.{passes}
+use Rattle.pd_scenario_text.specs.FileTables.{Tables}
+use Rattle.pd_scenario_text.specs.Refusals.{fails_somewhere}
+use Rattle.pd_misfits.specs.Sentences.{value_sentence, missing_sentence, unknown_sentence}
+use Rattle.pd_misfits.specs.Hints.{key_hint}
+use Rattle.pd_misfits.specs.Lines.{value_part, missing_part, rule_part, key_part, unknown_line, known_keys, table_text, table_front}
+use Rattle.pd_misfits.specs.Lines.{list_text, events_text, lists_text, tables_text}
+use Rattle.pd_places.proofs.Told.{Told, or_told, any_told, shorter, unless_told, required_told, none_told}
+
+value_told : (front : List ℕ) (refusal : ScenarioFault) (version : Version) (ports : ℕ) (r : Rule) (o : Option Data)
+    → Told front (value_fails (passes refusal version ports r.form) o) (value_part front refusal version ports r o)
+value_told front refusal version ports r None = refl
+value_told front refusal version ports r (Some d) =
+    unless_told front (passes refusal version ports r.form d) (value_sentence refusal version ports r.key r.form d)
+
+missing_told : (front : List ℕ) (r : Rule) (o : Option Data) → Told front (is_required r.need && is_none o) (missing_part front r o)
+missing_told front r None = required_told front (is_required r.need) (missing_sentence r.key)
+missing_told front r (Some d) = none_told front (is_required r.need)
+
+unknown_told : (front : List ℕ) (version : Version) (kind : TableKind) (k : List ℕ)
+    → Told front (not (has_key (rules_of version kind) k)) (key_part front version kind k)
+unfolding unknown_line
+unknown_told front version kind k =
+    unless_told front (has_key (rules_of version kind) k)
+    (unknown_sentence k ++ (known_keys version kind ++ key_hint version kind k))
+
+-- one table
+pub table_told : (front : List ℕ) (refusal : ScenarioFault) (version : Version) (ports : ℕ) (kind : TableKind) (t : Members)
+    → Told front (fails refusal version ports kind t) (table_text front refusal version ports kind t)
+unfolding fails
+table_told front fault.UnknownKey version ports kind t =
+    any_told front (λ k. not (has_key (rules_of version kind) k)) (key_part front version kind) (keys_of t)
+    (unknown_told front version kind)
+table_told front fault.MissingKey version ports kind t =
+    any_told front (λ (r : Rule). is_required r.need && is_none (value_at r.key t))
+    (rule_part front fault.MissingKey version ports t) (rules_of version kind)
+    (λ (r : Rule). missing_told front r (value_at r.key t))
+table_told front refusal version ports kind t =
+    any_told front (λ (r : Rule). value_fails (passes refusal version ports r.form) (value_at r.key t))
+    (rule_part front refusal version ports t) (rules_of version kind)
+    (λ (r : Rule). value_told front refusal version ports r (value_at r.key t))
+
+pub numbered_told : (front word : List ℕ) (number : ℕ) (b : Bool) (text : List ℕ) → Told (table_front front word number) b text
+    → Told front b text
+unfolding table_front
+numbered_told front word number b text told = shorter front (word ++ (32 ∷ (decimal number ++ codes ": "))) b text told
+
+list_told : (front word : List ℕ) (refusal : ScenarioFault) (version : Version) (ports : ℕ) (kind : TableKind) (number : ℕ)
+    (ts : List Members)
+    → Told front (list_any (fails refusal version ports kind) ts) (list_text front word refusal version ports kind number ts)
+unfolding list_text
+list_told front word refusal version ports kind number [] = refl
+list_told front word refusal version ports kind number (t ∷ ts) =
+    or_told front (fails refusal version ports kind t) (list_any (fails refusal version ports kind) ts)
+    (table_text (table_front front word number) refusal version ports kind t)
+    (list_text front word refusal version ports kind (number + 1) ts)
+    (numbered_told front word number _ _ (table_told (table_front front word number) refusal version ports kind t))
+    (list_told front word refusal version ports kind (number + 1) ts)
+
+events_told : (front : List ℕ) (refusal : ScenarioFault) (version : Version) (ports number : ℕ) (ts : List Members)
+    → Told front (list_any (event_fails refusal version ports) ts) (events_text front refusal version ports number ts)
+unfolding events_text
+events_told front refusal version ports number [] = refl
+events_told front refusal version ports number (t ∷ ts) =
+    or_told front (event_fails refusal version ports t) (list_any (event_fails refusal version ports) ts)
+    (table_text (table_front front (codes "event") number) refusal version ports (Event (event_at version t)) t)
+    (events_text front refusal version ports (number + 1) ts)
+    (numbered_told front (codes "event") number _ _
+    (table_told (table_front front (codes "event") number) refusal version ports (Event (event_at version t)) t))
+    (events_told front refusal version ports (number + 1) ts)
+
+-- all tables
+pub tables_told : (front : List ℕ) (refusal : ScenarioFault) (ports : ℕ) (d : Tables)
+    → Told front (fails_somewhere refusal ports d) (tables_text front refusal ports d)
+unfolding fails_somewhere tables_text lists_text
+tables_told front refusal ports d =
+    or_told front _ _ _ _ (table_told front refusal d.version ports Top d.top)
+    (or_told front _ _ _ _ (list_told front (codes "port") refusal d.version ports Port 1 d.ports)
+    (or_told front _ _ _ _ (list_told front (codes "cable") refusal d.version ports Cable 1 d.cables)
+    (or_told front _ _ _ _ (list_told front (codes "sink") refusal d.version ports Sink 1 d.sinks)
+    (events_told front refusal d.version ports 1 d.events))))
