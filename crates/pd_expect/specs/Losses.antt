@@ -9,7 +9,7 @@ use Rattle.pd_sweep.specs.Trials.{is_hit}
 use Rattle.pd_sweep.specs.Variants.{variant}
 use Rattle.pd_sweep.specs.declared.choice.Choice.{Choice}
 use Rattle.pd_sweep.specs.declared.choice.Loss.TheVariants as harm
-use Rattle.pd_sweep.specs.declared.target.Target.{Target}
+use Rattle.pd_sweep.specs.declared.packets.Target.{Target}
 use Rattle.pd_sweep.specs.declared.variant.Obstacle.{Obstacle}
 use Rattle.pd_expect.specs.declared.lines.Lost.{Lost}
 use Rattle.pd_expect.specs.declared.loss.LoseFault.{LoseFault}

@@ -2,7 +2,7 @@
 
 ghost use Rattle.std.specs.Prelude.{◌≡◌, IfErr, IfOk, OnOk, option_map, List};
 ghost use Rattle.pd_device.specs.declared.fault.BenchFault.TheVariants.{Memory as no_memory};
-ghost use Rattle.pd_sweep.specs.declared.target.Target.{Target as TargetData};
+ghost use Rattle.pd_sweep.specs.declared.packets.Target.{Target as TargetData};
 ghost use Rattle.pd_sweep.specs.Variants.{variant};
 ghost use Rattle.pd_sweep.specs.declared.choice.Loss.TheVariants.{Lost as harm_lost};
 ghost use Rattle.pd_expect.specs.Losses.{IsLoss, LosesIn, choice_of, lost_packet, nth_of};

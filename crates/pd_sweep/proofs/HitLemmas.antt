@@ -9,7 +9,7 @@ use Rattle.pd_port.specs.declared.entry.Entry.{Entry}
 use Rattle.pd_run.specs.declared.note.Note.TheVariants as note
 use Rattle.pd_run.specs.Notes.{Leaves}
 use Rattle.pd_sweep.specs.Trials.{hits, is_hit, starts_disturbed}
-use Rattle.pd_sweep.specs.declared.target.Target.{Target}
+use Rattle.pd_sweep.specs.declared.packets.Target.{Target}
 
 -- whether one was hit so far, or is
 abbrev pub or_hits : Target → Bool → ℕ × Entry → Bool

@@ -9,7 +9,7 @@ use Rattle.pd_report.specs.Walk.{NoneBefore}
 use Rattle.pd_report.proofs.MarginLemmas.{InOrder, Moves, all-append, none-before-here, take-next}
 use Rattle.pd_report.proofs.NotedLemmas.{along, at_index}
 use Rattle.pd_sweep.specs.Trials.{AreBefore, hits, starts_disturbed}
-use Rattle.pd_sweep.specs.declared.target.Target.{Target}
+use Rattle.pd_sweep.specs.declared.packets.Target.{Target}
 use Rattle.pd_sweep.proofs.HitLemmas.{and_false, or_hits}
 
 same_some : (x m : ℕ × Entry) → Some x ≡ Some m → x ≡ m

@@ -3,7 +3,7 @@ use Rattle.std.proofs.Common.{◌≡◌, ℕ, zero, suc, ◌-◌, ◌<◌, refl,
 use Rattle.pd_scenario.specs.Scenarios.{ScenarioData}
 use Rattle.pd_sweep.specs.Variants.{goes_on, row_variant, variant}
 use Rattle.pd_sweep.specs.declared.choice.Loss.{Loss}
-use Rattle.pd_sweep.specs.declared.target.Target.{Target}
+use Rattle.pd_sweep.specs.declared.packets.Target.{Target}
 
 module _ (n : ℕ) (c : ScenarioData) (harm : Loss) (target : Target) where
   -- the packet alone

@@ -22,7 +22,7 @@ use Rattle.pd_sweep.specs.Words.{trial_line}
 use Rattle.pd_sweep.specs.declared.choice.Campaign.{Campaign}
 use Rattle.pd_sweep.specs.declared.findings.Findings.{Findings}
 use Rattle.pd_sweep.specs.declared.tally.Tally.{Tally}
-use Rattle.pd_sweep.specs.declared.target.Target.{Target}
+use Rattle.pd_sweep.specs.declared.packets.Target.{Target}
 use Rattle.pd_sweep.specs.declared.trial.Trial.{Trial}
 
 -- the trials of the first packets, whose lines were written, and their tally

@@ -9,7 +9,7 @@ use Rattle.pd_line.specs.declared.notes.Start.{Start}
 use Rattle.pd_line.specs.declared.notes.Start.TheVariants as start
 use Rattle.pd_port.specs.declared.entry.Entry.{Entry}
 use Rattle.pd_sweep.specs.declared.choice.Choice.{Choice}
-use Rattle.pd_sweep.specs.declared.target.Target.{Target}
+use Rattle.pd_sweep.specs.declared.packets.Target.{Target}
 
 -- a packet doesn't arrive as it was sent
 abbrev pub is_disturbed : Fate → Bool

@@ -11,7 +11,7 @@ use Rattle.pd_sweep.specs.Choices.{is_disturbed}
 use Rattle.pd_sweep.specs.Summaries.{AreFindings}
 use Rattle.pd_sweep.specs.Variants.{row_variant}
 use Rattle.pd_sweep.specs.declared.choice.Campaign.{Campaign}
-use Rattle.pd_sweep.specs.declared.target.Target.{Target}
+use Rattle.pd_sweep.specs.declared.packets.Target.{Target}
 use Rattle.pd_sweep.specs.declared.trial.Outcome.{Outcome}
 use Rattle.pd_sweep.specs.declared.trial.Outcome.TheVariants.{Ran, Missed, Disturbed, Barred}
 use Rattle.pd_sweep.specs.declared.trial.Trial.{Trial}

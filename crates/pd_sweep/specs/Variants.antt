@@ -14,7 +14,7 @@ use Rattle.pd_edit_lines.specs.declared.fault.EditFault.{EditFault}
 use Rattle.pd_edit.specs.Refusals.{edited}
 use Rattle.pd_sweep.specs.declared.choice.Loss.{Loss}
 use Rattle.pd_sweep.specs.declared.choice.Loss.TheVariants as loss
-use Rattle.pd_sweep.specs.declared.target.Target.{Target}
+use Rattle.pd_sweep.specs.declared.packets.Target.{Target}
 use Rattle.pd_sweep.specs.declared.variant.Obstacle.{Obstacle}
 use Rattle.pd_sweep.specs.declared.variant.Obstacle.TheVariants.{NoId, Refused}
 

@@ -12,7 +12,7 @@ use Rattle.pd_report.specs.declared.least.Margin.{Margin}
 use Rattle.pd_tell.specs.Words.{contract_words, side_words}
 use Rattle.pd_sweep.specs.declared.findings.Findings.{Findings}
 use Rattle.pd_sweep.specs.declared.summary.Summary.{Summary}
-use Rattle.pd_sweep.specs.declared.target.Target.{Target}
+use Rattle.pd_sweep.specs.declared.packets.Target.{Target}
 use Rattle.pd_sweep.specs.declared.trial.Outcome.{Outcome}
 use Rattle.pd_sweep.specs.declared.trial.Outcome.TheVariants.{Ran, Missed, Disturbed, Barred}
 use Rattle.pd_sweep.specs.declared.trial.Trial.{Trial}

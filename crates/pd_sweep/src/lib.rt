@@ -3,9 +3,9 @@
 
 mod choice;
 mod findings;
+mod packets;
 mod summary;
 mod tally;
-mod target;
 mod trial;
 mod variant;
 mod walk;
@@ -13,9 +13,9 @@ mod words;
 
 pub use choice::{Campaign, Choice, Loss};
 pub use findings::Findings;
+pub use packets::{Target, chosen};
 pub use summary::{Mishaps, Standing, Summary, summary_of};
 pub use tally::{Lowest, Tally, Worst};
-pub use target::{Target, chosen};
 pub use trial::{Outcome, Trial, is_hit, try_packet};
 pub use variant::{Obstacle, row_variant_of, variant_of};
 pub use walk::sweep;

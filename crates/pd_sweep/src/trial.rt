@@ -6,7 +6,7 @@ ghost use Rattle.pd_sweep.specs.Trials.{AreBefore, IsOfVariant, IsTrial, hits, i
 ghost use Rattle.pd_sweep.specs.Variants.{row_variant};
 
 use crate::findings::Findings;
-use crate::target::is_disturbed;
+use crate::packets::is_disturbed;
 use crate::variant::{Obstacle, row_variant_of};
 use crate::{Campaign, Target};
 use pd_device::BenchFault;

@@ -9,8 +9,8 @@ ghost use Rattle.pd_sweep.specs.Words.{trial_line};
 
 use crate::Campaign;
 use crate::findings::Findings;
+use crate::packets::chosen;
 use crate::tally::{Tally, push_tally};
-use crate::target::chosen;
 use crate::trial::{Trial, try_packet};
 use crate::words::push_trial;
 use pd_device::{BenchFault, TextOut, write_all};

@@ -3,7 +3,7 @@ use Rattle.std.specs.Prelude.{◌||◌, MatchOption, Option, Some, None, slice_g
 use Rattle.pd_port.specs.declared.entry.Entry.{Entry}
 use Rattle.pd_run.specs.declared.note.Note.TheVariants as note
 use Rattle.pd_sweep.specs.Trials.{hits}
-use Rattle.pd_sweep.specs.declared.target.Target.{Target}
+use Rattle.pd_sweep.specs.declared.packets.Target.{Target}
 use Rattle.pd_sweep.proofs.FoldLemmas.{fold_from, fold_step, fold_end}
 use Rattle.pd_sweep.proofs.HitLemmas.{any_is, hit_stays, or_hits, quiet_packet}
 use Rattle.pd_sweep.proofs.PlaceLemmas.{none_hit}

@@ -1,6 +1,6 @@
 use Rattle.pd_sweep.specs.Choices.{chosen_of}
 use Rattle.pd_sweep.proofs.FoldLemmas.{flat_more}
-use Rattle.pd_sweep.proofs.target.chosen.Goals as goal
+use Rattle.pd_sweep.proofs.packets.chosen.Goals as goal
 
 pub loop-index-preserved : goal.loop-index-preserved
 loop-index-preserved g c =
