@@ -19,13 +19,14 @@ use std::test::Fail;
 fn amounts(rt: HostRuntime) -> Result<(), Fail> {
     let mut text = Vec::new(rt.alloc());
     push_volts(&mut text, 20_000)?;
+    text.extend_from_slice(b", ")?;
     push_amperes(&mut text, 2_350)?;
+    text.extend_from_slice(b", ")?;
     push_watts(&mut text, 57_400_500)?;
-    push_watts(&mut text, 0)?;
-    assert_eq!(rt;
-        text.as_slice(),
-        b"20.00 V2.35 A57.4005 W0.0000 W".as_slice()
-    );
+    assert_eq!(rt; text.as_slice(), b"20.00 V, 2.35 A, 57.4005 W".as_slice());
+    let mut nothing = Vec::new(rt.alloc());
+    push_watts(&mut nothing, 0)?;
+    assert_eq!(rt; nothing.as_slice(), b"0.0000 W".as_slice());
     Ok(())
 }
 
