@@ -1,6 +1,7 @@
 mod NextLemmas
 pub mod First
 pub mod Forces
+pub mod HandedOut
 pub mod Least
 pub mod Lists
 pub mod Ordered

@@ -24,7 +24,7 @@ use Rattle.pd_scenario.specs.declared.limits.Quantity.TheVariants as quantity
 use Rattle.pd_scenario.specs.Limits.{allows}
 use Rattle.pd_scenario.specs.Plan.{IsPlan, ComesBefore, script_of, number_of, told_at, force, budget_after, last_change}
 use Rattle.pd_scenario.specs.Scenarios.{ScenarioData, IsValid, has_id, ids_differ, event_fits, happening_fits, budget_in, budget_of}
-use Rattle.pd_scenario.specs.Script.{script, events_for, event_for, seen_by, resolved, put}
+use Rattle.pd_scenario.specs.Script.{AreOneEach, script, events_for, event_for, seen_by, resolved, put}
 use Rattle.pd_scenario.specs.Plans.{plan_of, change_in, change_of, changes_of, IsScript}
 use Rattle.pd_scenario.proofs.Lists.{cases, none, passes, filter_map_from, filter_map_has, length-filter_map, least_first, least_of}
 use Rattle.pd_scenario.proofs.Ordered.{SamePlace, InOrder-each, each_only, each_all, length-each, adjacent, from_adjacent, one_order}
@@ -124,6 +124,11 @@ made_alike n cables sinks events fit differ port x y a b place =
     alike cables sinks port left.of.id right.of.id left.of.at right.of.at left.of.happening right.of.happening x y first second (
     λ ids. ap (λ (e : ScenarioEvent). e.happening) (one_id events left.of right.of differ left.there right.there ids)
     ) left.is right.is place
+
+pub one_each : (n : ℕ) (cables : List NamedCable) (sinks : List NamedSink) (events : List ScenarioEvent)
+    → list_all (event_fits n) events ≡ true → ids_differ events ≡ true → (port : ℕ) → AreOneEach (events_for cables sinks port events)
+one_each n cables sinks events fit differ port =
+    λ x y a b at number. made_alike n cables sinks events fit differ port x y a b (record { at = at; number = number })
 
 script_is : (n : ℕ) (c : ScenarioData) → IsValid n c → (port : ℕ) → IsScript c port (script c.cables c.sinks c.events port)
 unfolding script

@@ -1,6 +1,7 @@
 -- The events of a port in the order of their times.
-use Rattle.std.specs.Prelude.{ℕ, Bool, ◌||◌, ◌&&◌, ◌==◌, nat_lt, List, [], ◌∷◌, fold, Option, Some, None, option_map, unwrap_or}
-use Rattle.std.specs.Prelude.{if◌then◌else◌}
+use Rattle.std.specs.Prelude.{◌≡◌, ℕ, ◌+◌, Bool, ◌||◌, ◌&&◌, ◌==◌, nat_lt, List, [], ◌∷◌, ◌++◌, fold, Option, Some, None, option_map}
+use Rattle.std.specs.Prelude.{unwrap_or, if◌then◌else◌, Contains}
+use Rattle.std.specs.Option.{option_to_list}
 use Rattle.std.specs.List.{filter_map}
 use Rattle.pd_identity.specs.declared.Cable.{Cable}
 use Rattle.pd_identity.specs.declared.CablePlug.TheVariants.{Absent}
@@ -59,3 +60,14 @@ put (f ∷ events) e = if is_before f e then f ∷ put events e else if is_befor
 -- What the events are for a port, each put in its place. The law `script_is_in_order` says what list that is.
 unfoldable pub script : List NamedCable → List NamedSink → List ScenarioEvent → ℕ → List EventData
 script cables sinks events port = fold put [] (events_for cables sinks port events)
+
+-- of one time and number there is one event at most, however often it stands there
+abbrev pub AreOneEach : List EventData → Type 0
+AreOneEach events = (e f : EventData) → Contains events e → Contains events f → e.at ≡ f.at → number_of e.happening ≡ number_of f.happening
+    → e ≡ f
+
+-- what an event is for each of some ports, numbered from one on, behind the events that they have already
+abbrev pub handed_out : List NamedCable → List NamedSink → ScenarioEvent → ℕ → List (List EventData) → List (List EventData)
+handed_out cables sinks e port [] = []
+handed_out cables sinks e port (events ∷ more) =
+    (events ++ option_to_list (event_for cables sinks port e)) ∷ handed_out cables sinks e (port + 1) more

@@ -10,6 +10,7 @@ mod name;
 mod named;
 mod order;
 mod scenario;
+mod scripts;
 mod words;
 
 pub use budget::{BudgetChange, last_change_by};

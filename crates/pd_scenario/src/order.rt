@@ -1,10 +1,10 @@
 //! The events of a port in the order of their times.
 
-ghost use Rattle.std.specs.Prelude.{◌≡◌, ℕ, true, IfOk};
+ghost use Rattle.std.specs.Prelude.{◌≡◌, ℕ, [], true, fold, IfOk};
 ghost use Rattle.std.specs.List.{list_all};
 ghost use Rattle.pd_scenario.specs.Scenarios.{event_fits, ids_differ, kind_fits, kind_is_known, names_are_known};
 ghost use Rattle.pd_scenario.specs.Plan.{number_of};
-ghost use Rattle.pd_scenario.specs.Script.{resolved, event_for, events_for, script};
+ghost use Rattle.pd_scenario.specs.Script.{AreOneEach, resolved, event_for, events_for, put, script};
 
 use crate::scenario::{cable_named, sink_named};
 use crate::{NamedCable, NamedSink, ScenarioEvent, ScenarioEventKind, ScenarioHappening};
@@ -12,7 +12,11 @@ use pd_setup::{Event, EventKind, Happening, PortEventKind, by_kind};
 use std::alloc::{AllocError, Allocator};
 
 /// What an event does, with the cable and the sink in place of their names.
-fn resolved(cables: &[NamedCable], sinks: &[NamedSink], kind: &ScenarioEventKind) -> PortEventKind
+pub(crate) fn resolved(
+    cables: &[NamedCable],
+    sinks: &[NamedSink],
+    kind: &ScenarioEventKind,
+) -> PortEventKind
     requires { kind_is_known cables.now sinks.now kind.now ≡ true }
     ensures { result ≡ resolved cables.now sinks.now kind.now }
 {
@@ -103,7 +107,19 @@ pub fn script<A: Allocator>(
     requires differ { ids_differ events.now ≡ true }
     ensures { IfOk result (λ v. v.items ≡ script cables.now sinks.now events.now port) }
 {
-    let mut script = events_for(alloc, cables, sinks, events, ports, port)?;
+    let made = events_for(alloc, cables, sinks, events, ports, port)?;
+    in_order(made)
+}
+
+/// Events by their times and numbers.
+///
+/// # Errors
+/// There is no memory.
+pub(crate) fn in_order<A: Allocator>(made: Vec<Event, A>) -> Result<Vec<Event, A>, AllocError>
+    requires { AreOneEach made.items }
+    ensures { IfOk result (λ v. v.items ≡ fold put [] made.items) }
+{
+    let mut script = made;
     script.sort_by_key(|event| place_of(event))?;
     // Changes of the budget at one time are told once.
     script.dedup_by_key(|event| place_of(event));

@@ -1,6 +1,6 @@
 //! A scenario.
 
-ghost use Rattle.std.specs.Prelude.{◌≡◌, ℕ, ◌-◌, ◌≤◌, ◌<◌, ◌==◌, slice_get, Some, IfOk, is_some};
+ghost use Rattle.std.specs.Prelude.{◌≡◌, ℕ, ◌-◌, ◌≤◌, ◌<◌, ◌==◌, map, slice_get, Some, IfOk, is_some};
 ghost use Rattle.pd_scenario.specs.Scenarios.{ScenarioData, IsValid, cable_named, sink_named, has_id};
 ghost use Rattle.pd_scenario.specs.NextChange.{IsNextChange};
 ghost use Rattle.pd_scenario.specs.Plan.{Plan, IsPlan, settings_of, script_of, force};
@@ -8,10 +8,11 @@ ghost use Rattle.pd_scenario.specs.Plans.{plan_of, changes_of};
 
 use crate::budget::{BudgetChange, change_of, last_change, next_change};
 use crate::order::script;
+use crate::scripts::scripts;
 use crate::{Name, NamedCable, NamedSink, ScenarioEvent};
 use pd_identity::Cable;
 use pd_setup::{Event, Settings, SinkSettings};
-use std::alloc::{AllocError, Allocator};
+use std::alloc::{AllocError, Allocator, Global};
 use std::marker::Model;
 
 /// What the ports of a charger are set to, with cables, sinks and events, the budget that the ports share, and the
@@ -118,6 +119,19 @@ impl<const N: usize> Scenario<N> {
         ensures is_plan { IsPlan N (plan_of self.now) }
     {
         script(alloc, &self.cables, &self.sinks, &self.events, N, port)
+    }
+
+    /// The events of each port, as `script` has them, in the order of the ports. The scenario's events are gone over once, and not
+    /// once for each port.
+    ///
+    /// # Errors
+    /// There is no memory.
+    #[tactic(auto, unfolding(crate::specs::Plans::plan_of))]
+    pub fn scripts(&self, alloc: Global) -> Result<Vec<Vec<Event>>, AllocError>
+        ensures value { IfOk result (λ v. map (λ s. s.items) v.items ≡ (plan_of self.now).scripts) }
+        ensures is_plan { IsPlan N (plan_of self.now) }
+    {
+        scripts(alloc, &self.cables, &self.sinks, &self.events, N)
     }
 
     /// The budget that the ports share, in microwatts.

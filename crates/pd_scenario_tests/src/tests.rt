@@ -259,6 +259,26 @@ fn scripts_on_small_heaps(rt: HostRuntime) -> Result<(), Fail> {
     Ok(())
 }
 
+/// The scripts of all ports are those of each of them, in the order of the ports.
+#[test]
+fn scripts_of_all_ports(rt: HostRuntime) -> Result<(), Fail> {
+    let text = joined(&rt, &TWO_PORTS)?;
+    let scenario = scenario_from_text::<2>(rt.alloc(), text.as_bytes())?;
+    let scripts = scenario.scripts(rt.alloc())?;
+    assert_eq!(rt; scripts.len(), 2);
+    let first = &scripts[0];
+    assert_eq!(rt; first.len(), 2);
+    assert_eq!(rt; (first[0].at(), first[1].at()), (0, 500_000));
+    for (place, events) in scripts.iter().enumerate() {
+        let script = scenario.script(rt.alloc(), place.wrapping_add(1))?;
+        assert_eq!(rt; events.len(), script.len());
+        for (event, other) in events.iter().zip(&script) {
+            assert!(rt; event.same(other));
+        }
+    }
+    Ok(())
+}
+
 /// Port 1's script is its attach alone, with the cable and the sink in place of their names.
 #[test]
 fn scripts_have_cables_and_sinks(rt: HostRuntime) -> Result<(), Fail> {
