@@ -55,7 +55,7 @@ impl<const N: usize> Plan<N> {
         ensures { IfOk result (λ plan. plan ≡ plan_of scenario.now) }
     {
         let settings = settings_of(alloc, scenario)?;
-        let scripts = scripts_of(alloc, scenario)?;
+        let scripts = scenario.scripts(alloc)?;
         let forces = scenario.forces(alloc)?;
         Ok(Plan {
             settings,
@@ -169,19 +169,4 @@ fn settings_of<const N: usize>(
         settings.push(scenario.settings(port + 1).copy())?;
     }
     Ok(settings)
-}
-
-// The script of each port.
-fn scripts_of<const N: usize>(
-    alloc: Global,
-    scenario: &Scenario<N>,
-) -> Result<Vec<Vec<Event>>, AllocError>
-    ensures { IfOk result (λ scripts. map (λ script. script.items) scripts.items ≡ (plan_of scenario.now).scripts) }
-{
-    let _end = scenario.end_time();
-    let mut scripts = Vec::new(alloc);
-    for port in 0..N {
-        scripts.push(scenario.script(alloc, port + 1)?)?;
-    }
-    Ok(scripts)
 }
