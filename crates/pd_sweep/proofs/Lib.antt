@@ -5,4 +5,3 @@ pub mod JoinLemmas
 mod PlaceLemmas
 mod QuietLemmas
 mod RowLemmas
-mod SweepLemmas

@@ -8,9 +8,12 @@ use Rattle.pd_port.specs.declared.entry.Entry.{Entry}
 use Rattle.pd_report.specs.Walk.{NoneBefore}
 use Rattle.pd_report.proofs.MarginLemmas.{InOrder, Moves, all-append, none-before-here, take-next}
 use Rattle.pd_report.proofs.NotedLemmas.{along, at_index}
+use Rattle.pd_sweep.specs.Summaries.{is_made, makers_after, nobody}
 use Rattle.pd_sweep.specs.Trials.{AreBefore, hits, starts_disturbed}
+use Rattle.pd_sweep.specs.declared.makers.Makers.{Makers}
 use Rattle.pd_sweep.specs.declared.packets.Target.{Target}
 use Rattle.pd_sweep.proofs.HitLemmas.{and_false, or_hits}
+use Rattle.pd_sweep.proofs.QuietLemmas.{makers_if}
 
 same_some : (x m : ℕ × Entry) → Some x ≡ Some m → x ≡ m
 same_some x m e = ap (λ o. unwrap_or o x) e
@@ -62,3 +65,13 @@ not_hit t m lt =
 pub none_hit : (t : Target) (moves : Moves) → AreBefore t.at moves → fold (or_hits t) false moves ≡ false
 none_hit t [] h = refl
 none_hit t (m ∷ ms) h = ap (λ b. fold (or_hits t) b ms) (not_hit t m h.0) ∙ none_hit t ms h.1
+
+-- nor does it make a contract then
+not_made_yet : (at : ℕ) (s : Makers) (m : ℕ × Entry) → m.1.at < at → makers_after at s m ≡ s
+not_made_yet at s m lt =
+    let other : m.1.at ≢ at = λ e. absurd (omega (arith, lt, e)) in
+    ap (λ b. makers_if at s m (b && is_made m.1.contract)) (ne_eqb m.1.at at other)
+
+pub none_made : (at : ℕ) (moves : Moves) → AreBefore at moves → fold (makers_after at) nobody moves ≡ nobody
+none_made at [] h = refl
+none_made at (m ∷ ms) h = ap (λ s. fold (makers_after at) s ms) (not_made_yet at nobody m h.0) ∙ none_made at ms h.1

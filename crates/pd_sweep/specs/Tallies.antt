@@ -2,7 +2,7 @@
 use Rattle.std.specs.Prelude.{ℕ, ◌+◌, ◌-◌, ◌*◌, nat_lt, Bool, false, if◌then◌else◌, List, [], ◌∷◌, ◌++◌, fold, codes, decimal}
 use Rattle.std.specs.Prelude.{Option, Some, None}
 use Rattle.pd_report.specs.declared.least.Margin.{Margin}
-use Rattle.pd_sweep.specs.Words.{are_same, packet_words}
+use Rattle.pd_sweep.specs.Words.{are_same, instant_words, packet_words}
 use Rattle.pd_sweep.specs.declared.findings.Findings.{Findings}
 use Rattle.pd_sweep.specs.declared.tally.Lowest.{Lowest}
 use Rattle.pd_sweep.specs.declared.tally.Tally.{Tally}
@@ -31,9 +31,10 @@ least_so_far without None = without.left
 least_so_far without (Some l) = l.margin.left
 
 -- the first packet of those whose loss leaves the least, where that is less than is left without a loss
-abbrev pub lower : Margin → Option Lowest → Target → Margin → Option Lowest
-lower without lowest t margin =
-    if nat_lt margin.left (least_so_far without lowest) then Some (record { target = t; margin = margin }) else lowest
+abbrev pub lower : Margin → Option Lowest → Target → Findings → Option Lowest
+lower without lowest t new =
+    if nat_lt new.margin.left (least_so_far without lowest) then Some (record { target = t; margin = new.margin; makers = new.makers })
+    else lowest
 
 -- less is left than so many milliwatts, where that is asked
 abbrev pub is_short : Option ℕ → Margin → Bool
@@ -48,7 +49,7 @@ counted reserve old tally t new = record {
   settled = worse tally.settled t (new.summary.standing.settled - old.summary.standing.settled);
   faults = worse tally.faults t (new.summary.mishaps.faults - old.summary.mishaps.faults);
   hard_resets = worse tally.hard_resets t (new.summary.mishaps.hard_resets - old.summary.mishaps.hard_resets);
-  margin = lower old.margin tally.margin t new.margin;
+  margin = lower old.margin tally.margin t new;
   short = (if is_short reserve new.margin then tally.short + 1 else tally.short);
 }
 
@@ -79,10 +80,10 @@ abbrev pub counts_words : Tally → List ℕ
 counts_words tally =
     decimal tally.tried ++ (codes " packets lost, " ++ (decimal tally.changed ++ codes " with other contracts at the end\n"))
 
--- the least that a loss leaves, and when
+-- the least that a loss leaves, when, and by which ports
 abbrev pub low_words : Lowest → List ℕ
 low_words l =
-    decimal l.margin.left ++ (codes " at " ++ (decimal l.margin.at ++ (codes ", " ++ (packet_words l.target ++ codes "\n"))))
+    decimal l.margin.left ++ (instant_words l.margin.at l.makers ++ (codes ", " ++ (packet_words l.target ++ codes "\n")))
 
 abbrev pub lowest_words : Option Lowest → List ℕ
 lowest_words None = codes "none\n"

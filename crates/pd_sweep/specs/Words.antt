@@ -8,9 +8,9 @@ use Rattle.pd_header.specs.Kinds.{kind_of_header, name_of}
 use Rattle.pd_objects.specs.declared.contract.Contract.{Contract}
 use Rattle.pd_device.specs.Text.{right}
 use Rattle.pd_edit_lines.specs.Numbers.{number_of}
-use Rattle.pd_report.specs.declared.least.Margin.{Margin}
 use Rattle.pd_tell.specs.Words.{contract_words, side_words}
 use Rattle.pd_sweep.specs.declared.findings.Findings.{Findings}
+use Rattle.pd_sweep.specs.declared.makers.Makers.{Makers}
 use Rattle.pd_sweep.specs.declared.summary.Summary.{Summary}
 use Rattle.pd_sweep.specs.declared.packets.Target.{Target}
 use Rattle.pd_sweep.specs.declared.trial.Outcome.{Outcome}
@@ -87,20 +87,31 @@ summary_words old new =
     ++ (codes " us, faults " ++ (more_words old.mishaps.faults new.mishaps.faults
     ++ (codes ", hard resets " ++ more_words old.mishaps.hard_resets new.mishaps.hard_resets)))))
 
--- the first instant at which the least is left, where that is less than without the loss
-abbrev pub instant_words : ℕ → List ℕ
-instant_words at = codes " at " ++ decimal at
+-- the ports that are marked, from one on: the first behind some words, and each further one behind others
+unfoldable pub listed : List ℕ → List ℕ → ℕ → List Bool → List ℕ
+listed first next port [] = []
+listed first next port (true ∷ marks) = first ++ (decimal port ++ listed next next (port + 1) marks)
+listed first next port (false ∷ marks) = listed first next (port + 1) marks
 
-abbrev pub lower_words : Margin → Margin → List ℕ
-lower_words old new = if nat_lt new.left old.left then instant_words new.at else []
+-- the ports whose contracts are made at an instant, if any are
+abbrev pub makers_words : Makers → List ℕ
+makers_words m = listed (codes " by port ") (codes " and port ") 1 m.ports
+
+-- the first instant at which the least is left, and the ports whose contracts are made then
+abbrev pub instant_words : ℕ → Makers → List ℕ
+instant_words at makers = codes " at " ++ (decimal at ++ makers_words makers)
+
+-- where it is less than without the loss
+abbrev pub lower_words : Findings → Findings → List ℕ
+lower_words old new = if nat_lt new.margin.left old.margin.left then instant_words new.margin.at new.makers else []
 
 -- the least that is left of the budget at the end of an instant
-abbrev pub margin_words : Margin → Margin → List ℕ
-margin_words old new = codes ", least margin " ++ (decimal new.left ++ lower_words old new)
+abbrev pub margin_words : Findings → Findings → List ℕ
+margin_words old new = codes ", least margin " ++ (decimal new.margin.left ++ lower_words old new)
 
 -- the run in which a packet is lost beside the one in which it isn't
 abbrev pub run_words : Findings → Findings → List ℕ
-run_words old new = summary_words old.summary new.summary ++ margin_words old.margin new.margin
+run_words old new = summary_words old.summary new.summary ++ margin_words old new
 
 -- why a packet can't be lost
 abbrev pub obstacle_words : Obstacle → List ℕ

@@ -1,22 +1,24 @@
-//! Each packet of a run lost in turn, and what that leads to.
+//! What comes of losing a packet of a run, and of losing each of many.
 #![tactic(auto)]
 
 mod choice;
 mod findings;
+mod makers;
 mod packets;
 mod summary;
 mod tally;
 mod trial;
 mod variant;
-mod walk;
 mod words;
 
 pub use choice::{Campaign, Choice, Loss};
 pub use findings::Findings;
+pub use makers::Makers;
 pub use packets::{Target, chosen};
 pub use summary::{Mishaps, Standing, Summary, summary_of};
-pub use tally::{Lowest, Tally, Worst};
+pub use tally::{Lowest, Tally, Worst, push_tally};
 pub use trial::{Outcome, Trial, is_hit, try_packet};
 pub use variant::{Obstacle, row_variant_of, variant_of};
-pub use walk::sweep;
-pub use words::push_obstacle;
+pub use words::{
+    are_same, is_same, push_contracts, push_listed, push_obstacle, push_trial, push_wide,
+};

@@ -7,8 +7,9 @@ ghost use Rattle.pd_sweep.specs.Tallies.{worst_words};
 
 use crate::Target;
 use crate::findings::Findings;
+use crate::makers::Makers;
 use crate::trial::{Outcome, Trial};
-use crate::words::{are_same, push_packet, push_wide};
+use crate::words::{are_same, push_instant, push_packet, push_wide};
 use pd_report::Margin;
 use pd_tell::push_number;
 use std::alloc::AllocError;
@@ -20,11 +21,12 @@ pub struct Worst {
     pub by: u128,
 }
 
-/// A packet, and the least that is left of the budget where it is lost.
+/// A packet, the least that is left of the budget where it is lost, and the ports whose contracts are made then.
 #[derive(Clone, Copy, Debug)]
 pub struct Lowest {
     pub target: Target,
     pub margin: Margin,
+    pub makers: Makers,
 }
 
 /// How many packets were lost, how many of the runs end with other contracts, and the worst of each column and its packet: how many
@@ -67,11 +69,15 @@ fn least_so_far(without: Margin, lowest: Option<Lowest>) -> u64
 }
 
 /// The lower of two.
-fn lower(without: Margin, lowest: Option<Lowest>, target: Target, margin: Margin) -> Option<Lowest>
-    ensures { result ≡ lower without lowest target margin }
+fn lower(without: Margin, lowest: Option<Lowest>, target: Target, new: &Findings) -> Option<Lowest>
+    ensures { result ≡ lower without lowest target new.now }
 {
-    if margin.left < least_so_far(without, lowest) {
-        Some(Lowest { target, margin })
+    if new.margin.left < least_so_far(without, lowest) {
+        Some(Lowest {
+            target,
+            margin: new.margin,
+            makers: new.makers,
+        })
     } else {
         lowest
     }
@@ -98,7 +104,7 @@ fn more_if(is_so: bool, count: u64) -> u64
 
 impl Tally {
     /// Nothing was tried.
-    pub(crate) fn none() -> Tally
+    pub fn none() -> Tally
         ensures { result ≡ no_trial }
     {
         Tally {
@@ -113,7 +119,7 @@ impl Tally {
     }
 
     /// After one more trial.
-    pub(crate) fn after(&self, reserve: Option<u64>, old: &Findings, trial: &Trial) -> Tally
+    pub fn after(&self, reserve: Option<u64>, old: &Findings, trial: &Trial) -> Tally
         requires room { self.now.tried < 2 ^ 64 - 1 }
         requires few { self.now.changed ≤ self.now.tried }
         requires few_short { self.now.short ≤ self.now.tried }
@@ -138,7 +144,7 @@ impl Tally {
             settled: worse(self.settled, target, u128::from(later)),
             faults: worse(self.faults, target, faults),
             hard_resets: worse(self.hard_resets, target, resets),
-            margin: lower(old.margin, self.margin, target, new.margin),
+            margin: lower(old.margin, self.margin, target, &new),
             short: more_if(is_short(reserve, &new.margin), self.short),
         }
     }
@@ -183,13 +189,12 @@ fn push_counts(text: &mut Vec<u8>, tally: &Tally) -> Result<(), AllocError>
     Ok(())
 }
 
-/// Writes the least that a loss leaves, and when.
+/// Writes the least that a loss leaves, when, and by which ports.
 fn push_low(text: &mut Vec<u8>, lowest: &Lowest) -> Result<(), AllocError>
     ensures { OnOk result (text.new.items ≡ text.old.items ++ low_words lowest.now) }
 {
     push_number(text, lowest.margin.left)?;
-    text.extend_from_slice(b" at ")?;
-    push_number(text, lowest.margin.at)?;
+    push_instant(text, lowest.margin.at, &lowest.makers)?;
     text.extend_from_slice(b", ")?;
     push_packet(text, &lowest.target)?;
     text.extend_from_slice(b"\n")?;
@@ -246,12 +251,11 @@ fn push_short(text: &mut Vec<u8>, reserve: Option<u64>, short: u64) -> Result<()
 }
 
 /// Writes the summary of a sweep.
+///
+/// # Errors
+/// There is no memory for it; some of it may stand in the text.
 #[tactic(auto, unfolding(crate::specs::Tallies::tally_words))]
-pub(crate) fn push_tally(
-    text: &mut Vec<u8>,
-    reserve: Option<u64>,
-    tally: &Tally,
-) -> Result<(), AllocError>
+pub fn push_tally(text: &mut Vec<u8>, reserve: Option<u64>, tally: &Tally) -> Result<(), AllocError>
     ensures { OnOk result (text.new.items ≡ text.old.items ++ tally_words reserve tally.now) }
 {
     push_counts(text, tally)?;

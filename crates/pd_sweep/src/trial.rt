@@ -85,7 +85,7 @@ fn half_way(low: usize, high: usize) -> usize
 }
 
 /// The place of the first entry that isn't before a time, by halves.
-fn place_at<const N: usize, T: Runner<N>>(run: &T, at: u64) -> usize
+pub(crate) fn place_at<const N: usize, T: Runner<N>>(run: &T, at: u64) -> usize
     ensures within { result ≤ length (T.entries run.now) }
     ensures before { AreBefore at (take result (T.entries run.now)) }
 {

@@ -2,25 +2,29 @@
 
 ghost use Rattle.std.specs.Prelude.{◌≡◌, ◌+◌, ◌<◌, ◌≤◌, ◌^◌, ◌++◌, OnOk, decimal, length};
 ghost use Rattle.pd_device.specs.Text.{right};
-ghost use Rattle.pd_sweep.specs.Words.{are_same, changes_from, contracts_words, instant_words, instead_words, is_same, lower_words};
-ghost use Rattle.pd_sweep.specs.Words.{margin_words, message_words, more_words, obstacle_words, others_words, outcome_words};
-ghost use Rattle.pd_sweep.specs.Words.{packet_words, run_words, set_words, standing_words, summary_words, trial_line};
+ghost use Rattle.pd_sweep.specs.Words.{are_same, changes_from, contracts_words, instant_words, instead_words, is_same, listed};
+ghost use Rattle.pd_sweep.specs.Words.{lower_words, makers_words, margin_words, message_words, more_words, obstacle_words};
+ghost use Rattle.pd_sweep.specs.Words.{others_words, outcome_words, packet_words, run_words, set_words, standing_words};
+ghost use Rattle.pd_sweep.specs.Words.{summary_words, trial_line};
 
 use crate::Target;
 use crate::findings::Findings;
+use crate::makers::Makers;
 use crate::summary::Summary;
 use crate::trial::{Outcome, Trial};
 use crate::variant::Obstacle;
 use pd_device::Text;
 use pd_header::{header_id, header_kind};
 use pd_objects::Contract;
-use pd_report::Margin;
 use pd_symbols::Channel;
 use pd_tell::{push_contract, push_number, side_text};
 use std::alloc::AllocError;
 
 /// Writes a number.
-pub(crate) fn push_wide(text: &mut Vec<u8>, number: u128) -> Result<(), AllocError>
+///
+/// # Errors
+/// There is no memory for it; some of it may stand in the text.
+pub fn push_wide(text: &mut Vec<u8>, number: u128) -> Result<(), AllocError>
     ensures { OnOk result (text.new.items ≡ text.old.items ++ decimal number) }
 {
     let mut digits = Text::<64>::new();
@@ -81,7 +85,7 @@ fn push_standing(text: &mut Vec<u8>, contract: &Option<Contract>) -> Result<(), 
 }
 
 /// Whether two contracts are the same, or both none.
-fn is_same(old: &Option<Contract>, new: &Option<Contract>) -> bool
+pub fn is_same(old: &Option<Contract>, new: &Option<Contract>) -> bool
     ensures { result ≡ is_same old.now new.now }
 {
     match (old, new) {
@@ -92,7 +96,7 @@ fn is_same(old: &Option<Contract>, new: &Option<Contract>) -> bool
 }
 
 /// Whether the contracts of all ports are the same.
-pub(crate) fn are_same(olds: &[Option<Contract>], news: &[Option<Contract>]) -> bool
+pub fn are_same(olds: &[Option<Contract>], news: &[Option<Contract>]) -> bool
     ensures { result ≡ are_same olds.now news.now }
 {
     let [old, olds @ ..] = olds else {
@@ -159,7 +163,10 @@ fn push_others(
 }
 
 /// Writes the contracts at the end beside those without the loss.
-fn push_contracts(
+///
+/// # Errors
+/// There is no memory for it; some of it may stand in the text.
+pub fn push_contracts(
     text: &mut Vec<u8>,
     olds: &[Option<Contract>; 8],
     news: &[Option<Contract>; 8],
@@ -207,31 +214,65 @@ fn push_summary(text: &mut Vec<u8>, old: &Summary, new: &Summary) -> Result<(), 
     push_more(text, old.mishaps.hard_resets, new.mishaps.hard_resets)
 }
 
-/// Writes an instant.
-fn push_instant(text: &mut Vec<u8>, at: u64) -> Result<(), AllocError>
-    ensures { OnOk result (text.new.items ≡ text.old.items ++ instant_words at) }
+/// Writes the ports that are marked, from one on: the first behind some words, and each further one behind others.
+///
+/// # Errors
+/// There is no memory for it; some of it may stand in the text.
+#[tactic(auto, unfolding(crate::specs::Words::listed))]
+pub fn push_listed(
+    text: &mut Vec<u8>,
+    first: &[u8],
+    next: &[u8],
+    port: u64,
+    marks: &[bool],
+) -> Result<(), AllocError>
+    requires { port + length marks.now < 2 ^ 64 }
+    ensures { OnOk result (text.new.items ≡ text.old.items ++ listed first.now next.now port marks.now) }
 {
-    text.extend_from_slice(b" at ")?;
-    push_number(text, at)
+    let [is_marked, marks @ ..] = marks else {
+        return Ok(());
+    };
+    if !*is_marked {
+        return push_listed(text, first, next, port + 1, marks);
+    }
+    text.extend_from_slice(first)?;
+    push_number(text, port)?;
+    push_listed(text, next, next, port + 1, marks)
 }
 
-/// Writes the first instant at which the least is left, where that is less than without the loss.
-fn push_lower(text: &mut Vec<u8>, old: &Margin, new: &Margin) -> Result<(), AllocError>
+/// Writes the ports whose contracts are made at an instant, if any are.
+fn push_makers(text: &mut Vec<u8>, makers: &Makers) -> Result<(), AllocError>
+    ensures { OnOk result (text.new.items ≡ text.old.items ++ makers_words makers.now) }
+{
+    push_listed(text, b" by port ", b" and port ", 1, &makers.ports)
+}
+
+/// Writes an instant, and the ports whose contracts are made then.
+pub(crate) fn push_instant(text: &mut Vec<u8>, at: u64, makers: &Makers) -> Result<(), AllocError>
+    ensures { OnOk result (text.new.items ≡ text.old.items ++ instant_words at makers.now) }
+{
+    text.extend_from_slice(b" at ")?;
+    push_number(text, at)?;
+    push_makers(text, makers)
+}
+
+/// Writes the first instant at which the least is left, and by which ports, where that is less than without the loss.
+fn push_lower(text: &mut Vec<u8>, old: &Findings, new: &Findings) -> Result<(), AllocError>
     ensures { OnOk result (text.new.items ≡ text.old.items ++ lower_words old.now new.now) }
 {
-    if new.left < old.left {
-        push_instant(text, new.at)
+    if new.margin.left < old.margin.left {
+        push_instant(text, new.margin.at, &new.makers)
     } else {
         Ok(())
     }
 }
 
 /// Writes the least that is left of the budget at the end of an instant.
-fn push_margin(text: &mut Vec<u8>, old: &Margin, new: &Margin) -> Result<(), AllocError>
+fn push_margin(text: &mut Vec<u8>, old: &Findings, new: &Findings) -> Result<(), AllocError>
     ensures { OnOk result (text.new.items ≡ text.old.items ++ margin_words old.now new.now) }
 {
     text.extend_from_slice(b", least margin ")?;
-    push_number(text, new.left)?;
+    push_number(text, new.margin.left)?;
     push_lower(text, old, new)
 }
 
@@ -240,7 +281,7 @@ fn push_run(text: &mut Vec<u8>, old: &Findings, new: &Findings) -> Result<(), Al
     ensures { OnOk result (text.new.items ≡ text.old.items ++ run_words old.now new.now) }
 {
     push_summary(text, &old.summary, &new.summary)?;
-    push_margin(text, &old.margin, &new.margin)
+    push_margin(text, old, new)
 }
 
 /// Writes why a packet can't be lost.
@@ -272,12 +313,11 @@ fn push_outcome(text: &mut Vec<u8>, old: &Findings, outcome: &Outcome) -> Result
 }
 
 /// Writes the line of a trial.
+///
+/// # Errors
+/// There is no memory for it; some of it may stand in the text.
 #[tactic(auto, unfolding(crate::specs::Words::trial_line))]
-pub(crate) fn push_trial(
-    text: &mut Vec<u8>,
-    old: &Findings,
-    trial: &Trial,
-) -> Result<(), AllocError>
+pub fn push_trial(text: &mut Vec<u8>, old: &Findings, trial: &Trial) -> Result<(), AllocError>
     ensures { OnOk result (text.new.items ≡ text.old.items ++ trial_line old.now trial.now) }
 {
     push_packet(text, &trial.target)?;

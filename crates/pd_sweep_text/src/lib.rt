@@ -6,4 +6,5 @@ mod texts;
 
 pub use count::packet_count;
 pub use pd_sweep::{Campaign, Choice, Loss, Tally};
+pub use pd_sweep_lines::Form;
 pub use texts::{SweepFault, sweep_text};

@@ -6,7 +6,7 @@ ghost use Rattle.pd_scenario_tables.specs.Ports.{counted};
 ghost use Rattle.pd_scenario_text.specs.File.{members_of};
 ghost use Rattle.pd_run_text.specs.Texts.{ForTexts};
 ghost use Rattle.pd_script.specs.Script.{followed};
-ghost use Rattle.pd_sweep.specs.Sweeps.{CountsSweep, Sweeps};
+ghost use Rattle.pd_sweep_lines.specs.Sweeps.{CountsSweep, Sweeps};
 ghost use Rattle.pd_sweep_text.specs.Texts.{CountsSwept, SweepsText, has_port};
 
 use pd_device::{BenchFault, TextOut};
@@ -15,7 +15,8 @@ use pd_run::Runner;
 use pd_scenario::Scenario;
 use pd_scenario_text::{ScenarioFault, ScenarioFile};
 use pd_script::follow;
-use pd_sweep::{Campaign, Tally, sweep};
+use pd_sweep::{Campaign, Tally};
+use pd_sweep_lines::{Form, sweep};
 use std::alloc::Global;
 
 /// Why a sweep wasn't made to its end.
@@ -31,9 +32,9 @@ pub enum SweepFault {
 
 // Sweeps the scenario of as many ports as the file has.
 macro_rules! sweep_by {
-    ($alloc:ident, $file:ident, $script:ident, $campaign:ident, $writer:ident; $($n:literal)*) => {
+    ($alloc:ident, $file:ident, $script:ident, $campaign:ident, $form:ident, $writer:ident; $($n:literal)*) => {
         match $file.port_count().map_err(SweepFault::Scenario)? {
-            $($n => sweep_file::<$n, W>($alloc, $file, $script, $campaign, $writer),)*
+            $($n => sweep_file::<$n, W>($alloc, $file, $script, $campaign, $form, $writer),)*
             _ => Err(SweepFault::Scenario(ScenarioFault::Limit)),
         }
     };
@@ -50,13 +51,14 @@ pub fn sweep_text<W: TextOut>(
     text: &[u8],
     script: &[u8],
     campaign: &Campaign,
+    form: Form,
     writer: &mut W,
 ) -> Result<Tally, SweepFault>
-    ensures text { SweepsText result text.now script.now campaign.now (W.taken writer.old) (W.taken writer.new) }
+    ensures text { SweepsText result text.now script.now campaign.now form (W.taken writer.old) (W.taken writer.new) }
     ensures counts { CountsSwept result (W.failures writer.old) (W.failures writer.new) }
 {
     let file = ScenarioFile::parse(alloc, text).map_err(SweepFault::Scenario)?;
-    sweep_by!(alloc, file, script, campaign, writer; 1 2 3 4 5 6 7 8)
+    sweep_by!(alloc, file, script, campaign, form, writer; 1 2 3 4 5 6 7 8)
 }
 
 // Whether the port that is chosen is among so many.
@@ -75,12 +77,13 @@ fn sweep_file<const N: usize, W: TextOut>(
     file: ScenarioFile,
     script: &[u8],
     campaign: &Campaign,
+    form: Form,
     writer: &mut W,
 ) -> Result<Tally, SweepFault>
     requires from_one { 1 ≤ N }
     requires to_eight { N ≤ 8 }
     requires counts { counted (members_of file) ≡ Ok N }
-    ensures text { ForTexts file (λ text. SweepsText result text script.now campaign.now (W.taken writer.old) (W.taken writer.new)) }
+    ensures text { ForTexts file (λ text. SweepsText result text script.now campaign.now form (W.taken writer.old) (W.taken writer.new)) }
     ensures counts { CountsSwept result (W.failures writer.old) (W.failures writer.new) }
 {
     let scenario = match file.scenario::<N>(alloc) {
@@ -90,7 +93,7 @@ fn sweep_file<const N: usize, W: TextOut>(
     if !has_port(N, campaign.choice.port) {
         return Err(SweepFault::NoSuchPort);
     }
-    sweep_scenario(alloc, scenario, script, campaign, writer).map_err(SweepFault::Run)
+    sweep_scenario(alloc, scenario, script, campaign, form, writer).map_err(SweepFault::Run)
 }
 
 // Sweeps a scenario, as a script leaves it.
@@ -99,9 +102,10 @@ fn sweep_scenario<const N: usize, W: TextOut>(
     scenario: Scenario<N>,
     script: &[u8],
     campaign: &Campaign,
+    form: Form,
     writer: &mut W,
 ) -> Result<Tally, BenchFault>
-    ensures text { Sweeps N (followed N scenario.entry (lines script.now)) campaign.now result
+    ensures text { Sweeps N (followed N scenario.entry (lines script.now)) campaign.now form result
         (W.taken writer.old) (W.taken writer.new) }
     ensures counts { CountsSweep result (W.failures writer.old) (W.failures writer.new) }
 {
@@ -110,5 +114,5 @@ fn sweep_scenario<const N: usize, W: TextOut>(
         return Err(BenchFault::Memory);
     }
     let mut run: Kept<N> = Kept::empty(alloc);
-    sweep(alloc, &mut run, &scenario, campaign, writer)
+    sweep(alloc, &mut run, &scenario, campaign, form, writer)
 }

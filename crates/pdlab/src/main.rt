@@ -29,7 +29,7 @@ use std::io::IsTerminal;
 use std::process::ExitCode;
 use std::rt::{Clock, Env, Files};
 use std::{env, io};
-use swept::{OrderFault, order_of, swept, tell_no_kind};
+use swept::{OrderFault, order_of, sweep_form, swept, tell_no_kind};
 use tested::tested;
 use words::{USAGE, command, help_of};
 
@@ -157,7 +157,10 @@ fn sweep<R: Files + Input + Print + Clock + Alloc<A = Global>, E: Print + IsTerm
     matches: &ArgMatches<'_>,
 ) -> Ending {
     match order_of(matches) {
-        Ok(order) => swept(rt, errors, scenario, matches.get_str("EDITS"), &order),
+        Ok(order) => {
+            let (edits, form) = (matches.get_str("EDITS"), sweep_form(matches));
+            swept(rt, errors, scenario, edits, &order, form)
+        }
         Err(OrderFault::Number) => answer_words(rt, errors, &[], ErrorKind::InvalidValue),
         Err(OrderFault::Name) => tell_no_kind(errors),
     }

@@ -10,14 +10,21 @@ use std::time::{Duration, Instant};
 /// The least milliseconds between two words of how far it is.
 const PAUSE: u128 = 100;
 
+/// How many lines of packets there will be, and how many lines stand before them.
+#[derive(Clone, Copy, Debug)]
+pub struct Packets {
+    pub total: u64,
+    pub heads: u64,
+}
+
 /// Passes the lines of a sweep on, and tells a terminal how many of so many there were, ten times a second at most.
 #[derive(Drop)]
 pub struct Watched<'a, W, C, E> {
     lines: W,
     clock: &'a C,
     terminal: &'a E,
-    total: u64,
-    done: u64,
+    packets: Packets,
+    lines_told: u64,
     began: Instant,
     told: Instant,
     is_shown: bool,
@@ -31,7 +38,7 @@ impl<'a, W: TextOut, C: Clock, E: Print> TextOut for Watched<'a, W, C, E> {
     fn write(&mut self, bytes: &[u8]) -> Result<usize, DeviceFault> {
         self.erase();
         let count = self.lines.write(bytes)?;
-        self.done = self.done.saturating_add(lines_in(bytes, count));
+        self.lines_told = self.lines_told.saturating_add(lines_in(bytes, count));
         self.tell();
         Ok(count)
     }
@@ -50,15 +57,15 @@ fn lines_in(bytes: &[u8], count: usize) -> u64 {
 
 impl<'a, W: TextOut, C: Clock, E: Print> Watched<'a, W, C, E> {
     /// What lines of so many packets go through, from a time on.
-    pub fn of(lines: W, clock: &'a C, terminal: &'a E, total: u64, began: Instant) -> Self
+    pub fn of(lines: W, clock: &'a C, terminal: &'a E, packets: Packets, began: Instant) -> Self
         ensures { result.lines ≡ lines }
     {
         Watched {
             lines,
             clock,
             terminal,
-            total,
-            done: 0,
+            packets,
+            lines_told: 0,
             began,
             told: began,
             is_shown: false,
@@ -82,14 +89,16 @@ impl<'a, W: TextOut, C: Clock, E: Print> Watched<'a, W, C, E> {
         let Ok(now) = Instant::now(self.clock) else {
             return;
         };
-        if self.done >= self.total || now.duration_since(self.told).as_millis() < PAUSE {
+        let done = self.lines_told.saturating_sub(self.packets.heads);
+        let total = self.packets.total;
+        if done >= total || now.duration_since(self.told).as_millis() < PAUSE {
             return;
         }
-        let seconds = seconds_left(now.duration_since(self.began), self.done, self.total);
+        let seconds = seconds_left(now.duration_since(self.began), done, total);
         let _ = print!(self.terminal;
             "{} of {} packets, {seconds} s left",
-            Grouped(self.done),
-            Grouped(self.total)
+            Grouped(done),
+            Grouped(total)
         );
         self.told = now;
         self.is_shown = true;

@@ -2,13 +2,13 @@
 
 use crate::Ending;
 use crate::fault::{output, tell, tell_no_port, tell_refused, tell_unread};
-use crate::progress::Watched;
+use crate::progress::{Packets, Watched};
 use crate::script_file::read_script;
 use crate::shown::tell_lines;
 use clap::ArgMatches;
 use pd_header::{Kind, kind_of};
 use pd_run_text::read_whole;
-use pd_sweep_text::{Campaign, Choice, Loss, SweepFault, Tally, packet_count, sweep_text};
+use pd_sweep_text::{Campaign, Choice, Form, Loss, SweepFault, Tally, packet_count, sweep_text};
 use std::alloc::Global;
 use std::io::IsTerminal;
 use std::num::ParseIntError;
@@ -35,6 +35,25 @@ fn kind_named(name: &str) -> Option<Kind> {
         }
     }
     None
+}
+
+/// The form of a sweep, by the words of the command line.
+pub fn sweep_form(matches: &ArgMatches<'_>) -> Form {
+    if matches.get_flag("json") {
+        Form::Json
+    } else if matches.get_flag("csv") {
+        Form::Csv
+    } else {
+        Form::Words
+    }
+}
+
+/// How many lines stand before those of the packets.
+fn heads(form: Form) -> u64 {
+    match form {
+        Form::Words | Form::Json => 0,
+        Form::Csv => 1,
+    }
 }
 
 /// What the words of the command line order.
@@ -109,17 +128,22 @@ fn tally_of<R: Print + Clock + Alloc<A = Global>, E: Print + IsTerminal>(
     text: &[u8],
     script: &[u8],
     campaign: &Campaign,
+    form: Form,
 ) -> Result<Tally, SweepFault> {
     if !errors.is_terminal() {
-        return sweep_text(rt.alloc(), text, script, campaign, &mut output(rt));
+        return sweep_text(rt.alloc(), text, script, campaign, form, &mut output(rt));
     }
     let total = packet_count(rt.alloc(), text, script, &campaign.choice)?;
     match Instant::now(rt) {
         Ok(began) => {
-            let mut lines = Watched::of(output(rt), rt, errors, total as u64, began);
-            sweep_text(rt.alloc(), text, script, campaign, &mut lines)
+            let packets = Packets {
+                total: total as u64,
+                heads: heads(form),
+            };
+            let mut lines = Watched::of(output(rt), rt, errors, packets, began);
+            sweep_text(rt.alloc(), text, script, campaign, form, &mut lines)
         }
-        Err(_) => sweep_text(rt.alloc(), text, script, campaign, &mut output(rt)),
+        Err(_) => sweep_text(rt.alloc(), text, script, campaign, form, &mut output(rt)),
     }
 }
 
@@ -131,6 +155,7 @@ pub fn swept<R: Files + Input + Print + Clock + Alloc<A = Global>, E: Print + Is
     scenario: &str,
     edits: Option<&str>,
     campaign: &Campaign,
+    form: Form,
 ) -> Ending {
     let Ok(text) = read_whole(rt, scenario) else {
         return tell_unread(errors, scenario);
@@ -143,7 +168,7 @@ pub fn swept<R: Files + Input + Print + Clock + Alloc<A = Global>, E: Print + Is
     if let Err(fault) = tell_lines(rt, errors, text, name, script) {
         return tell(errors, fault);
     }
-    match tally_of(rt, errors, text, script, campaign) {
+    match tally_of(rt, errors, text, script, campaign, form) {
         Ok(tally) => ending_of(&tally),
         Err(SweepFault::Scenario(fault)) => tell_refused(errors, scenario, fault),
         Err(SweepFault::NoSuchPort) => tell_no_port(errors),

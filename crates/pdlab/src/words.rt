@@ -132,10 +132,10 @@ that packet lost. Tells of each, in the order of time: the packet, whether the
 contracts at the end are the same, how much later the last change of a contract
 comes, how many faults and Hard Resets there are more, and the least that the
 contracts leave of the budget, in microwatts; where that is less than without the
-loss, when. At the end how many packets were lost, how many of the runs end with
-other contracts, and the worst of each column. Why lines of EDITS are refused is
-told on standard error, and they change nothing. A terminal is shown there how far
-it is.
+loss, when, and by which ports: those of which a contract is made then. At the end
+how many packets were lost, how many of the runs end with other contracts, and the
+worst of each column. Why lines of EDITS are refused is told on standard error, and
+they change nothing. A terminal is shown there how far it is.
 
   --port P       packets of this port alone; ports are numbered from 1
   --from T       packets from this time on, in microseconds
@@ -145,8 +145,13 @@ it is.
   --in-a-row K   loses the packet and those that start behind it on its port, K in
                  all, 1 to 8
   --reserve MW   each of these runs is to leave so many milliwatts of the budget
+  --json         a JSON object for each packet and one for the summary, with units
+                 in its keys (_us, _mv, _ma, _mw, _uw)
+  --csv          comma-separated values for each packet, behind a line with their
+                 names; no summary
 
 example: pdlab sweep --kind Request examples/charger_65w.toml
+  pdlab sweep --csv examples/derating.toml > derating.csv
 
 status: 0 the packets were tried, 1 a run left less than MW, or the scenario is
         refused, or has no such port, 2 the words are others, 3 a file can't be
@@ -335,7 +340,9 @@ fn sweep<'a>(alloc: Global) -> Result<Command<'a>, AllocError> {
         .arg(option(alloc, "kind", ArgAction::Set))?
         .arg(option(alloc, "damage", ArgAction::SetTrue))?
         .arg(option(alloc, "in-a-row", ArgAction::Set))?
-        .arg(option(alloc, "reserve", ArgAction::Set))
+        .arg(option(alloc, "reserve", ArgAction::Set))?
+        .arg(option(alloc, "json", ArgAction::SetTrue))?
+        .arg(option(alloc, "csv", ArgAction::SetTrue).conflicts_with("json")?)
 }
 
 /// `pdlab draw SCENARIO [EDITS]`, with its options.
