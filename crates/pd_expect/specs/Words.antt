@@ -1,6 +1,7 @@
 -- What is said of a line of a test script: this product's own form, docs/FORMATS.md, "Tests".
 use Rattle.std.specs.Prelude.{ℕ, zero, suc, List, [], ◌∷◌, ◌++◌, codes, decimal, Option, Some, None}
 use Rattle.pd_objects.specs.declared.contract.Contract.{Contract}
+use Rattle.pd_tell.specs.Members.{number_member}
 use Rattle.pd_sweep.specs.Words.{obstacle_words}
 use Rattle.pd_expect.specs.declared.found.Found.{Found}
 use Rattle.pd_expect.specs.declared.found.Found.TheVariants as found
@@ -61,3 +62,9 @@ refused_words (suc n) = codes ", " ++ (decimal (suc n) ++ codes " refused\n")
 unfoldable pub tally_words : TestTally → List ℕ
 tally_words tally =
     decimal tally.passed ++ (codes " passed, " ++ (decimal tally.failed ++ (codes " failed" ++ refused_words tally.refused)))
+
+-- the same as a JSON object on a line of its own
+unfoldable pub tally_object : TestTally → List ℕ
+tally_object tally =
+    codes "{\"passed\":" ++ (decimal tally.passed ++ (number_member (codes "failed") tally.failed
+    ++ (number_member (codes "refused") tally.refused ++ codes "}\n")))

@@ -2,9 +2,9 @@
 
 ghost use Rattle.std.specs.Prelude.{◌≡◌, ◌+◌, ◌-◌, ◌<◌, ◌^◌, ◌++◌, OnOk};
 ghost use Rattle.pd_expect.specs.Tests.{answered, counted_by, no_test, one_failed, one_passed, one_refused};
-ghost use Rattle.pd_expect.specs.Words.{refused_words, tally_words};
+ghost use Rattle.pd_expect.specs.Words.{refused_words, tally_object, tally_words};
 
-use pd_tell::push_number;
+use pd_tell::{push_number, push_number_member};
 use std::alloc::AllocError;
 
 /// How many expectations passed and failed, and how many lines were refused.
@@ -85,6 +85,21 @@ impl TestTally {
         push_number(text, self.failed)?;
         text.extend_from_slice(b" failed")?;
         push_refused(text, self.refused)
+    }
+
+    /// Writes the same as a JSON object on a line of its own.
+    ///
+    /// # Errors
+    /// There is no memory for it; some of it may stand in the text.
+    #[tactic(auto, unfolding(crate::specs::Words::tally_object))]
+    pub fn push_object(&self, text: &mut Vec<u8>) -> Result<(), AllocError>
+        ensures { OnOk result (text.new.items ≡ text.old.items ++ tally_object self.now) }
+    {
+        text.extend_from_slice(b"{\"passed\":")?;
+        push_number(text, self.passed)?;
+        push_number_member(text, b"failed", self.failed)?;
+        push_number_member(text, b"refused", self.refused)?;
+        text.extend_from_slice(b"}\n")
     }
 }
 

@@ -2,7 +2,8 @@
 use Rattle.std.proofs.Common.{◌≡◌, ℕ, suc, ◌+◌, ◌<◌, ◌≤◌, true, false, List, [], ◌∷◌, length, drop, get_or, refl, sym, ap, ◌∙◌}
 use Rattle.std.proofs.Common.{arith}
 use Rattle.std.proofs.lemmas.List.{at_drop_more, at_drop_all}
-use Rattle.pd_json.specs.Parts.{begins, digit_count, is_digit, place_of}
+use Rattle.std.specs.Prelude.{if◌then◌else◌}
+use Rattle.pd_json.specs.Parts.{begins, digit_count, is_digit, last_from, last_place, place_of}
 
 split : (text : List ℕ) (i : ℕ) → i < length text → drop i text ≡ get_or text i 0 ∷ drop (i + 1) text
 split text i within = at_drop_more (λ xs. xs) text i 0 within
@@ -78,3 +79,34 @@ pub words_nowhere : (words text : List ℕ) (i : ℕ) → length text ≤ i → 
 words_nowhere words text i over within so_far =
     let step : place_of words (drop i text) ≡ 0 = at_drop_all (place_of words) text i (omega arith) ∙ no_words words in
     omega arith
+
+-- ---- the last place of words
+
+last_step : (words : List ℕ) (i best x : ℕ) (xs : List ℕ)
+    → last_from words i best (x ∷ xs) ≡ last_from words (suc i) (if begins words (x ∷ xs) then i else best) xs
+unfolding last_from
+last_step words i best x xs = refl
+
+last_none : (words : List ℕ) (i best : ℕ) → last_from words i best [] ≡ best
+unfolding last_from
+last_none words i best = refl
+
+-- one more place
+pub last_here : (words text : List ℕ) (i best best' : ℕ) → i < length text
+    → best' ≡ (if begins words (drop i text) then i else best) → last_place words text ≡ last_from words i best (drop i text)
+    → last_place words text ≡ last_from words (i + 1) best' (drop (i + 1) text)
+last_here words text i best best' within e so_far =
+    let is = split text i within in
+    let x : ℕ = get_or text i 0 in
+    let rest : List ℕ = drop (i + 1) text in
+    let next : suc i ≡ i + 1 = omega arith in
+    so_far ∙ ap (last_from words i best) is ∙ last_step words i best x rest
+    ∙ ap (λ n. last_from words n (if begins words (x ∷ rest) then i else best) rest) next
+    ∙ ap (λ t. last_from words (i + 1) (if begins words t then i else best) rest) (sym is)
+    ∙ ap (λ b. last_from words (i + 1) b rest) (sym e)
+
+-- no place any more
+pub last_of_all : (words text : List ℕ) (i best : ℕ) → length text ≤ i → last_place words text ≡ last_from words i best (drop i text)
+    → best ≡ last_place words text
+last_of_all words text i best over so_far =
+    sym (so_far ∙ at_drop_all (last_from words i best) text i over ∙ last_none words i best)

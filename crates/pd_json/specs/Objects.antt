@@ -1,7 +1,7 @@
 -- What is told of a place as a JSON object: docs/FORMATS.md, "Objects".
 use Rattle.std.specs.Prelude.{ℕ, Bool, ◌&&◌, nat_lt, List, ◌++◌, length, drop, codes, if◌then◌else◌}
 use Rattle.pd_json.specs.Strings.{string_text}
-use Rattle.pd_json.specs.Parts.{after, before, begins, behind_digits, digits, digit_count, has}
+use Rattle.pd_json.specs.Parts.{after, before, before_last, begins, behind_digits, behind_last, digits, digit_count, has}
 
 -- ---- members, each behind a comma
 
@@ -56,10 +56,19 @@ refusal_members text = number_member (codes "refusal") (digits text) ++ place_me
 unfoldable pub warning_members : List ℕ → List ℕ
 warning_members text = number_member (codes "warning") (codes "true") ++ words_members text
 
+-- a line of a test that isn't met, and what there is: no words for that have these in them
+unfoldable pub failed_members : List ℕ → List ℕ
+failed_members text =
+    string_member (codes "expected") (before_last (codes "; there is ") text)
+    ++ string_member (codes "found") (behind_last (codes "; there is ") text)
+
 unfoldable pub told_members : List ℕ → List ℕ
 told_members text =
     if begins (codes " refused ") text then refusal_members (drop 9 text)
     else if begins (codes " warning: ") text then warning_members (drop 10 text)
+    else if begins (codes " failed: ") text then failed_members (drop 9 text)
+    else if begins (codes " not lost: ") text then string_member (codes "not_lost") (drop 11 text)
+    else if begins (codes " not tried: ") text then string_member (codes "not_tried") (drop 12 text)
     else words_members (drop 1 text)
 
 -- ---- all of it

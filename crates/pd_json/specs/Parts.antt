@@ -33,3 +33,18 @@ before words text = take (place_of words text) text
 
 abbrev pub after : List ℕ → List ℕ → List ℕ
 after words text = drop (length words) (drop (place_of words text) text)
+
+-- the last place of the words, in a text of which so many bytes are gone; the best so far where they don't stand in it
+unfoldable pub last_from : List ℕ → ℕ → ℕ → List ℕ → ℕ
+last_from words i best [] = best
+last_from words i best (b ∷ bs) = last_from words (suc i) (if begins words (b ∷ bs) then i else best) bs
+
+-- how many bytes stand before the last place of the words, or in all
+abbrev pub last_place : List ℕ → List ℕ → ℕ
+last_place words text = last_from words 0 (length text) text
+
+abbrev pub before_last : List ℕ → List ℕ → List ℕ
+before_last words text = take (last_place words text) text
+
+abbrev pub behind_last : List ℕ → List ℕ → List ℕ
+behind_last words text = drop (length words) (drop (last_place words text) text)

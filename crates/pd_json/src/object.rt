@@ -1,11 +1,14 @@
 //! What is told of a place as a JSON object.
 
 ghost use Rattle.std.specs.Prelude.{◌≡◌, ◌++◌, OnOk};
-ghost use Rattle.pd_json.specs.Objects.{file_members, is_keyed, is_numbered, is_of, key_members, line_members, members};
-ghost use Rattle.pd_json.specs.Objects.{number_member, object_text, place_members, refusal_members, string_member, table_members};
+ghost use Rattle.pd_json.specs.Objects.{failed_members, file_members, is_keyed, is_numbered, is_of, key_members, line_members};
+ghost use Rattle.pd_json.specs.Objects.{members, number_member, object_text, place_members, refusal_members, string_member, table_members};
 ghost use Rattle.pd_json.specs.Objects.{told_members, warning_members, words_members};
 
-use crate::parts::{after, before, begins, behind, behind_digits, digit_count, digits, has};
+use crate::parts::{
+    after, before, before_last, begins, behind, behind_digits, behind_last, digit_count, digits,
+    has,
+};
 use crate::string::push_string;
 use std::alloc::AllocError;
 
@@ -115,7 +118,16 @@ fn push_warning(text: &mut Vec<u8>, words: &[u8]) -> Result<(), AllocError>
     push_words(text, words)
 }
 
-/// Writes what is told: a refusal, a warning, or how many more places there are.
+/// Writes a line of a test that isn't met, and what there is.
+#[tactic(auto, unfolding(crate::specs::Objects::failed_members))]
+fn push_failed(text: &mut Vec<u8>, words: &[u8]) -> Result<(), AllocError>
+    ensures { OnOk result (text.new.items ≡ text.old.items ++ failed_members words.now) }
+{
+    push_member(text, b"expected", before_last(b"; there is ", words))?;
+    push_member(text, b"found", behind_last(b"; there is ", words))
+}
+
+/// Writes what is told: a refusal, a warning, what a test comes to, or how many more places there are.
 #[tactic(auto, unfolding(crate::specs::Objects::told_members))]
 fn push_told(text: &mut Vec<u8>, words: &[u8]) -> Result<(), AllocError>
     ensures { OnOk result (text.new.items ≡ text.old.items ++ told_members words.now) }
@@ -124,6 +136,12 @@ fn push_told(text: &mut Vec<u8>, words: &[u8]) -> Result<(), AllocError>
         push_refusal(text, behind(words, 9))
     } else if begins(b" warning: ", words) {
         push_warning(text, behind(words, 10))
+    } else if begins(b" failed: ", words) {
+        push_failed(text, behind(words, 9))
+    } else if begins(b" not lost: ", words) {
+        push_member(text, b"not_lost", behind(words, 11))
+    } else if begins(b" not tried: ", words) {
+        push_member(text, b"not_tried", behind(words, 12))
     } else {
         push_words(text, behind(words, 1))
     }

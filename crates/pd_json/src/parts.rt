@@ -1,7 +1,8 @@
 //! The parts of a line that tells of a place.
 
-ghost use Rattle.std.specs.Prelude.{◌≡◌, ◌≤◌, length, drop};
-ghost use Rattle.pd_json.specs.Parts.{after, before, begins, behind_digits, digit_count, digits, has, is_digit, place_of};
+ghost use Rattle.std.specs.Prelude.{◌≡◌, ◌≤◌, length, drop, if◌then◌else◌};
+ghost use Rattle.pd_json.specs.Parts.{after, before, before_last, begins, behind_digits, behind_last, digit_count, digits, has};
+ghost use Rattle.pd_json.specs.Parts.{is_digit, last_place, place_of};
 
 fn is_digit(byte: u8) -> bool
     ensures { result ≡ is_digit byte }
@@ -87,4 +88,37 @@ pub(crate) fn after<'a>(words: &[u8], text: &'a [u8]) -> &'a [u8]
     ensures { result.now ≡ after words.now text.now }
 {
     behind(behind(text, place_of(words, text)), words.len())
+}
+
+/// The later of two places, where the words stand there.
+fn later(is_there: bool, place: usize, before: usize) -> usize
+    ensures { result ≡ if is_there then place else before }
+{
+    if is_there { place } else { before }
+}
+
+/// How many bytes stand before the last place of the words, or in all.
+fn last_place(words: &[u8], text: &[u8]) -> usize
+    ensures value { result ≡ last_place words.now text.now }
+    ensures within { result ≤ length text.now }
+{
+    let mut last = text.len();
+    for i in 0..text.len() {
+        last = later(begins(words, behind(text, i)), i, last);
+    }
+    last
+}
+
+/// What stands before the last place of the words.
+pub(crate) fn before_last<'a>(words: &[u8], text: &'a [u8]) -> &'a [u8]
+    ensures { result.now ≡ before_last words.now text.now }
+{
+    &text[..last_place(words, text)]
+}
+
+/// What stands behind the last place of the words.
+pub(crate) fn behind_last<'a>(words: &[u8], text: &'a [u8]) -> &'a [u8]
+    ensures { result.now ≡ behind_last words.now text.now }
+{
+    behind(behind(text, last_place(words, text)), words.len())
 }

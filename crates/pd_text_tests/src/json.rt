@@ -3,7 +3,7 @@
 use pd_json::push_object;
 use std::test::Fail;
 
-const LINES: [(&[u8], &[u8]); 8] = [
+const LINES: [(&[u8], &[u8]); 11] = [
     (
         b": refused 2: port 12: `flor` is no key of this table; there are floor; hint: did you mean `floor`?",
         b"{\"file\":\"a\\\"b\",\"refusal\":2,\"table\":\"port\",\"number\":12,\"key\":\"flor\",\
@@ -36,6 +36,18 @@ const LINES: [(&[u8], &[u8]); 8] = [
     (
         b":2: refused 1: a\\b\t\x1f\"",
         b"{\"file\":\"c\",\"line\":2,\"refusal\":1,\"sentence\":\"a\\\\b\\u0009\\u001f\\\"\"}\n",
+    ),
+    (
+        b":3: failed: expect faults none # so; there is one; there is 2 faults",
+        b"{\"file\":\"c\",\"line\":3,\"expected\":\"expect faults none # so; there is one\",\"found\":\"2 faults\"}\n",
+    ),
+    (
+        b":4: not lost: there is no such packet",
+        b"{\"file\":\"c\",\"line\":4,\"not_lost\":\"there is no such packet\"}\n",
+    ),
+    (
+        b":5: not tried: no id is free",
+        b"{\"file\":\"c\",\"line\":5,\"not_tried\":\"no id is free\"}\n",
     ),
 ];
 

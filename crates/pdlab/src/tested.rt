@@ -1,10 +1,11 @@
-//! `pdlab test SCRIPT..`.
+//! `pdlab test [--json] SCRIPT..`.
 
 use crate::Ending;
 use crate::fault::{output, tell, tell_refused, tell_unread};
 use clap::ArgMatches;
 use pd_device::{BenchFault, write_all};
 use pd_expect::{TestFault, TestReport, TestTally, scenario_name, test_text};
+use pd_explain_text::push_objects;
 use pd_run_text::read_whole;
 use std::alloc::{AllocError, Global};
 use std::rt::Files;
@@ -25,11 +26,17 @@ fn scenario_of(alloc: Global, script: &str, text: &[u8]) -> Result<Option<String
     Ok(Some(beside(alloc, script, file)?))
 }
 
+/// What stands before the first colon of a line: objects have the script's name as a member.
+fn named(script: &str, json: bool) -> &[u8] {
+    if json { b"" } else { script.as_bytes() }
+}
+
 /// Goes through a script, and writes what is said of its lines.
 fn report_of<R: Files + Print + Alloc<A = Global>, E: Print>(
     rt: &R,
     errors: &E,
     script: &str,
+    json: bool,
 ) -> Result<TestTally, Ending> {
     let Ok(lines) = read_whole(rt, script) else {
         return Err(tell_unread(errors, script));
@@ -48,10 +55,11 @@ fn report_of<R: Files + Print + Alloc<A = Global>, E: Print>(
     match test_text(
         rt.alloc(),
         text.as_slice(),
-        script.as_bytes(),
+        named(script, json),
         lines.as_slice(),
     ) {
-        Ok(report) => written(rt, errors, &report),
+        Ok(report) if json => written_objects(rt, errors, script.as_bytes(), &report),
+        Ok(report) => written(rt, errors, report.text.as_slice(), report.tally),
         Err(TestFault::Scenario(fault)) => Err(tell_refused(errors, scenario.as_str(), fault)),
         Err(TestFault::Memory) => Err(tell(errors, BenchFault::Memory)),
     }
@@ -61,11 +69,26 @@ fn report_of<R: Files + Print + Alloc<A = Global>, E: Print>(
 fn written<R: Print, E: Print>(
     rt: &R,
     errors: &E,
+    text: &[u8],
+    tally: TestTally,
+) -> Result<TestTally, Ending> {
+    match write_all(&mut output(rt), text) {
+        Ok(()) => Ok(tally),
+        Err(fault) => Err(tell(errors, fault)),
+    }
+}
+
+/// Writes the same as JSON objects.
+fn written_objects<R: Print + Alloc<A = Global>, E: Print>(
+    rt: &R,
+    errors: &E,
+    script: &[u8],
     report: &TestReport,
 ) -> Result<TestTally, Ending> {
-    match write_all(&mut output(rt), report.text.as_slice()) {
-        Ok(()) => Ok(report.tally),
-        Err(fault) => Err(tell(errors, fault)),
+    let mut objects = Vec::new(rt.alloc());
+    match push_objects(&mut objects, script, script, report.text.as_slice()) {
+        Ok(()) => written(rt, errors, objects.as_slice(), report.tally),
+        Err(_) => Err(tell(errors, BenchFault::Memory)),
     }
 }
 
@@ -79,9 +102,19 @@ fn both(first: TestTally, second: TestTally) -> TestTally {
 }
 
 /// Writes how many expectations passed and failed, and how many lines were refused.
-fn close<R: Print + Alloc<A = Global>, E: Print>(rt: &R, errors: &E, tally: TestTally) -> Ending {
+fn close<R: Print + Alloc<A = Global>, E: Print>(
+    rt: &R,
+    errors: &E,
+    tally: TestTally,
+    json: bool,
+) -> Ending {
     let mut text = Vec::new(rt.alloc());
-    if tally.push(&mut text).is_err() {
+    let told = if json {
+        tally.push_object(&mut text)
+    } else {
+        tally.push(&mut text)
+    };
+    if told.is_err() {
         return tell(errors, BenchFault::Memory);
     }
     if let Err(fault) = write_all(&mut output(rt), text.as_slice()) {
@@ -101,15 +134,16 @@ pub fn tested<R: Files + Print + Alloc<A = Global>, E: Print>(
     errors: &E,
     matches: &ArgMatches<'_>,
 ) -> Ending {
+    let json = matches.get_flag("json");
     let mut tally = TestTally::none();
     let Some(scripts) = matches.get_strs("SCRIPT") else {
-        return close(rt, errors, tally);
+        return close(rt, errors, tally, json);
     };
     for script in scripts {
-        match report_of(rt, errors, script) {
+        match report_of(rt, errors, script, json) {
             Ok(more) => tally = both(tally, more),
             Err(ending) => return ending,
         }
     }
-    close(rt, errors, tally)
+    close(rt, errors, tally, json)
 }

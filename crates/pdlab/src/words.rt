@@ -6,7 +6,7 @@ use std::alloc::{AllocError, Global};
 /// What stands where the words are others.
 pub const USAGE: &str =
     "usage: pdlab live SCENARIO | show SCENARIO [EDITS] [OPTIONS] | why [--json] SCENARIO EDITS PORT [AT] | \
-     sweep SCENARIO [EDITS] [OPTIONS] | test SCRIPT.. | draw SCENARIO [EDITS] [OPTIONS] | \
+     sweep SCENARIO [EDITS] [OPTIONS] | test [--json] SCRIPT.. | draw SCENARIO [EDITS] [OPTIONS] | \
      explain [--json] SCENARIO [EDITS] | decode [--json] [FILE] | --help";
 
 /// What `--help` prints.
@@ -185,7 +185,7 @@ status: 0 the run was drawn, 1 the scenario is refused, or has no such port,
 /// What `test --help` prints.
 pub const TEST_HELP: &str = "pdlab test: whether runs are as scripts expect them
 
-usage: pdlab test SCRIPT..
+usage: pdlab test [--json] SCRIPT..
 
 Goes through the file SCRIPT, whose line `# scenario FILE` names the scenario, a file
 beside it. Its other lines are those of an edit script, and beside them
@@ -207,6 +207,10 @@ moved it. What stands behind a # is passed over, and shows are too.
 
 Each line that fails is told with what there is, and each that is refused with the
 reason; at the end how many expectations passed and failed.
+
+  --json   a JSON object for each of these lines: file, line, and expected and found,
+           refusal and sentence, not_lost, or not_tried; and one for the counts:
+           passed, failed, refused
 
 example: pdlab test examples/charger_65w.test
 
@@ -356,13 +360,15 @@ fn draw<'a>(alloc: Global) -> Result<Command<'a>, AllocError> {
         .arg(option(alloc, "width", ArgAction::Set))
 }
 
-/// `pdlab test SCRIPT..`.
+/// `pdlab test [--json] SCRIPT..`.
 fn test<'a>(alloc: Global) -> Result<Command<'a>, AllocError> {
     let scripts = Arg::new(alloc, "SCRIPT")
         .required(true)
         .num_args(1..)
         .action(ArgAction::Append);
-    Command::new(alloc, "test").arg(scripts)
+    Command::new(alloc, "test")
+        .arg(option(alloc, "json", ArgAction::SetTrue))?
+        .arg(scripts)
 }
 
 /// `pdlab explain [--json] SCENARIO [EDITS]`.
