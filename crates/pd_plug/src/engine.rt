@@ -17,7 +17,7 @@ use pd_timers::{Deadlines, LAST_TIME, Timer};
 use std::marker::Model;
 
 /// The plug's policy engine.
-#[derive(Drop)]
+#[derive(Clone, Copy)]
 pub struct Plug {
     state: State,
     deadlines: Deadlines,
@@ -33,6 +33,8 @@ impl Model for Plug {
     ghost Value = { PlugRecord };
 
     ghost view = { λ s. record { state = s.state; deadlines = s.deadlines; sent = s.sent; cable = s.cable } };
+
+    ghost inverse = { λ v. record { state = v.state; deadlines = v.deadlines; sent = v.sent; cable = v.cable } };
 }
 
 impl Plug {
@@ -164,12 +166,7 @@ impl Plug {
     pub fn copy(&self) -> Plug
         ensures { result ≡ self.now }
     {
-        Plug {
-            state: self.state,
-            deadlines: self.deadlines.copy(),
-            sent: self.sent,
-            cable: self.cable,
-        }
+        *self
     }
 }
 

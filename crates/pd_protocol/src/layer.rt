@@ -31,7 +31,7 @@ pub enum LayerAct {
 /// The layer of one side on one channel: the next ID (the standard's MessageIDCounter), the ID that came last (its stored
 /// MessageID), and the packet that waits for its GoodCRC with its tries (its RetryCounter, up to nRetryCount retries)
 /// (USB Power Delivery 3.0, sections 6.7 and 6.8.1).
-#[derive(Debug, Drop)]
+#[derive(Clone, Copy, Debug)]
 pub struct Layer {
     side: Side,
     channel: Channel,
@@ -52,6 +52,14 @@ impl Model for Layer {
     } };
 
     ghost invariant = { λ l. l.next_id < 2 ^ 3 };
+
+    ghost inverse = { λ v. record {
+      side = v.side;
+      channel = v.channel;
+      next_id = v.next_id;
+      stored_id = v.stored_id;
+      outstanding = v.outstanding;
+    } };
 }
 
 /// How often a packet with this header is sent at most: once and nRetryCount times again, which is 3 in revision 2.0 and 2
@@ -93,13 +101,7 @@ impl Layer {
     pub fn copy(&self) -> Layer
         ensures { result ≡ self.now }
     {
-        Layer {
-            side: self.side,
-            channel: self.channel,
-            next_id: self.next_id,
-            stored_id: self.stored_id,
-            outstanding: self.outstanding,
-        }
+        *self
     }
 
     /// Forgets the IDs and the outstanding message.
@@ -179,7 +181,7 @@ impl Layer {
     {
         let id = header_id(header);
         if header_kind(header).is_soft_reset() {
-            *self = Layer::new(self.side, self.channel);
+            self.reset();
             self.stored_id = Some(id);
             return LayerAct::Up;
         }

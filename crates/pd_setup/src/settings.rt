@@ -9,7 +9,7 @@ use std::marker::Model;
 
 /// What a port is set to: its floor in mW, 500 to 100,000; 1 to 7 supplies, the first of 5 V and the voltages rising;
 /// how often its cable is asked who it is, 0 to 20; and whether its power is unconstrained.
-#[derive(Drop)]
+#[derive(Clone, Copy)]
 pub struct Settings {
     floor_mw: u32,
     supplies: SupplyList,
@@ -33,6 +33,13 @@ impl Model for Settings {
       identity_tries = s.identity_tries;
       unconstrained = s.unconstrained;
     }) };
+
+    ghost inverse = { λ v. record {
+      floor_mw = v.floor_mw;
+      supplies = v.supplies;
+      identity_tries = v.identity_tries;
+      unconstrained = v.unconstrained;
+    } };
 }
 
 impl Settings {
@@ -108,11 +115,6 @@ impl Settings {
     pub fn copy(&self) -> Settings
         ensures { result ≡ self.now }
     {
-        Settings {
-            floor_mw: self.floor_mw,
-            supplies: self.supplies,
-            identity_tries: self.identity_tries,
-            unconstrained: self.unconstrained,
-        }
+        *self
     }
 }

@@ -24,7 +24,7 @@ use std::marker::Model;
 const N_HARD_RESET_COUNT: u8 = 2;
 
 /// The sink's policy engine.
-#[derive(Drop)]
+#[derive(Clone, Copy)]
 pub struct Sink {
     state: State,
     deadlines: Deadlines,
@@ -58,6 +58,18 @@ impl Model for Sink {
       has_contract = s.has_contract;
       sink = s.sink;
       kept_offer = s.kept_offer;
+    } };
+
+    ghost inverse = { λ v. record {
+      state = v.state;
+      deadlines = v.deadlines;
+      sent = v.sent;
+      hard_reset_counter = v.hard_reset_counter;
+      again = v.again;
+      fresh = v.fresh;
+      has_contract = v.has_contract;
+      sink = v.sink;
+      kept_offer = v.kept_offer;
     } };
 }
 
@@ -332,17 +344,7 @@ impl Sink {
     pub fn copy(&self) -> Sink
         ensures { result ≡ self.now }
     {
-        Sink {
-            state: self.state,
-            deadlines: self.deadlines.copy(),
-            sent: self.sent,
-            hard_reset_counter: self.hard_reset_counter,
-            again: self.again,
-            fresh: self.fresh,
-            has_contract: self.has_contract,
-            sink: self.sink,
-            kept_offer: self.kept_offer,
-        }
+        *self
     }
 }
 

@@ -28,7 +28,7 @@ mod power;
 const CABLE_CURRENT_MA: u32 = 3_000;
 
 /// The source's policy engine.
-#[derive(Drop)]
+#[derive(Clone, Copy)]
 pub struct Source {
     supplies: SupplyList,
     identity_tries: u8,
@@ -80,6 +80,25 @@ impl Model for Source {
         delivered_offer = s.delivered_offer;
         contract = s.contract;
       };
+    } };
+
+    ghost inverse = { λ v. record {
+      supplies = v.settings.supplies;
+      identity_tries = v.settings.identity_tries;
+      unconstrained = v.settings.unconstrained;
+      state = v.record.state;
+      deadlines = v.record.deadlines;
+      caps_counter = v.record.caps_counter;
+      discover_identity_counter = v.record.discover_identity_counter;
+      hard_reset_counter = v.record.hard_reset_counter;
+      limit = v.record.limit;
+      sent = v.record.sent;
+      revision = v.record.revision;
+      kept_request = v.record.kept_request;
+      accepted_request = v.record.accepted_request;
+      draft_offer = v.record.draft_offer;
+      delivered_offer = v.record.delivered_offer;
+      contract = v.record.contract;
     } };
 }
 

@@ -51,23 +51,6 @@ impl Source {
     pub fn copy(&self) -> Source
         ensures { result ≡ self.now }
     {
-        Source {
-            supplies: self.supplies,
-            identity_tries: self.identity_tries,
-            unconstrained: self.unconstrained,
-            state: self.state,
-            deadlines: self.deadlines.copy(),
-            caps_counter: self.caps_counter,
-            discover_identity_counter: self.discover_identity_counter,
-            hard_reset_counter: self.hard_reset_counter,
-            limit: self.limit,
-            sent: self.sent,
-            revision: self.revision,
-            kept_request: self.kept_request,
-            accepted_request: self.accepted_request,
-            draft_offer: self.draft_offer,
-            delivered_offer: self.delivered_offer,
-            contract: self.contract,
-        }
+        *self
     }
 }

@@ -13,15 +13,18 @@ loop-timer-preserved c =
     let lt : c.loop-timer.timer-index < 14 = omega arith in
     let e = fold_more (λ (best : Option (ℕ × Timer)) (t : Timer). keep best (deadline d t) t) None timers c.loop-timer.timer-index Delay
     lt in
-    let h = c.sooner-first.ensures in
+    let h = c.sooner-first.ensures.value in
     let p = c.place_of.ensures.value in
-    let i = c.loop-timer.invariant in
+    let i = c.loop-timer.invariant.0 in
     let in_range : c.place_of.result < length c.args.at.now = omega arith in
     let slot = get_or-map time_of c.args.at.now c.place_of.result 0 None in_range in
-    cc (h, e, p, i, slot)
+    (cc (h, e, p, i, slot), c.sooner-first.ensures.plain c.loop-timer.invariant.1)
 
-pub returns : goal.returns
+pub returns-clause-value : goal.returns-clause-value
 unfolding first_of
-returns c =
+returns-clause-value c =
     let n : c.loop-timer.timer-index ≡ 14 = omega arith in
-    c.loop-timer.invariant ∙ ap (λ k. best_of (take k timers) (times_of c.args.at.now)) n
+    c.loop-timer.invariant.0 ∙ ap (λ k. best_of (take k timers) (times_of c.args.at.now)) n
+
+pub returns-clause-plain : goal.returns-clause-plain
+returns-clause-plain c = c.loop-timer.invariant.1
