@@ -43,7 +43,7 @@ use Rattle.pd_plug.proofs.Cables.{cable-stepped, acts_of-of}
 use Rattle.pd_line.specs.declared.notes.Fault.{Fault}
 use Rattle.pd_line.specs.declared.notes.Fault.TheVariants.{NoGoodCrc}
 use Rattle.pd_line.specs.declared.notes.Start.{Start}
-use Rattle.pd_line.specs.declared.port_parts.Disturbance.{Disturbance}
+use Rattle.pd_line.specs.declared.disturbances.Disturbance.{Disturbance}
 use Rattle.pd_line.specs.declared.port_parts.Line.{Line}
 use Rattle.pd_line.specs.declared.port_parts.Line.TheVariants.{Idle, Message, Pause, GoodCrc, NoAnswer, HardReset}
 use Rattle.pd_line.specs.declared.port_parts.Waiting.{Waiting}
@@ -263,13 +263,13 @@ module _ (cable : Option Cable) (t : ℕ) where
   packet_starts_on : (side : Side) (p : Contents) (w : PortStep) → TellsOn cable side p → On cable w → On cable (packet_starts side p t w)
   unfolding packet_starts taken
   packet_starts_on side p w k h =
-      let r = taken_from w.port.disturbances.items w in
-      starts_on _ (Message side p r.1 (t + lasts p)) r.0 k (taken_on w.port.disturbances.items w h)
+      let r = taken_from w.port.disturbances w in
+      starts_on _ (Message side p r.1 (t + lasts p)) r.0 k (taken_on w.port.disturbances w h)
 
   good_crc_starts_on : (side : Side) (p : Contents) (w : PortStep) → TellsOn cable side p → On cable w →
       On cable (good_crc_starts side p t w)
   unfolding good_crc_starts taken
-  good_crc_starts_on side p w k h = starts_on _ _ (taken_from w.port.disturbances.items w).0 k (taken_on w.port.disturbances.items w h)
+  good_crc_starts_on side p w k h = starts_on _ _ (taken_from w.port.disturbances w).0 k (taken_on w.port.disturbances w h)
 
   message_heard_on : (side : Side) (p : Contents) (o : Option Contents) (w : PortStep) → TellsOn cable side p →
       ((q : Contents) → o ≡ Some q → TellsOn cable side q) →

@@ -38,7 +38,7 @@ use Rattle.pd_line.specs.declared.notes.Fault.{Fault}
 use Rattle.pd_line.specs.declared.notes.Fault.TheVariants.{NoGoodCrc}
 use Rattle.pd_line.specs.declared.notes.Start.{Start}
 use Rattle.pd_line.specs.declared.notes.Start.TheVariants as start
-use Rattle.pd_line.specs.declared.port_parts.Disturbance.{Disturbance}
+use Rattle.pd_line.specs.declared.disturbances.Disturbance.{Disturbance}
 use Rattle.pd_line.specs.declared.port_parts.Line.{Line}
 use Rattle.pd_line.specs.declared.port_parts.Line.TheVariants.{Idle, Message, Pause, GoodCrc, NoAnswer, HardReset}
 use Rattle.pd_line.specs.declared.port_parts.Waiting.{Waiting}
@@ -192,12 +192,12 @@ module _ (t : ℕ) (k : StepRelation t) where
       k.holds w (λ z. g (taken z).1 (taken z).0)
   unfolding taken
   taken_kept g w h =
-      k.reads (List Disturbance) (λ z. z.port.disturbances.items) (λ row z. g (taken_from row z).1 (taken_from row z).0) w refl
-      (by_row w.port.disturbances.items w) where
+      k.reads (List Disturbance) (λ z. z.port.disturbances) (λ row z. g (taken_from row z).1 (taken_from row z).0) w refl
+      (by_row w.port.disturbances w) where
         by_row : (row : List Disturbance) (w : PortStep) → k.holds w (λ z. g (taken_from row z).1 (taken_from row z).0)
         by_row [] w = h Undisturbed w
         by_row (d ∷ rest) w =
-            let f : PortStep → PortStep = λ z. with_port (record z.port { disturbances = record { items = rest } }) z in
+            let f : PortStep → PortStep = λ z. with_port (record z.port { disturbances = rest }) z in
             k.joins f (g (fate_of d)) w (k.leaves f w refl refl) (h (fate_of d) (f w))
 
   -- something that lasts starts on the line

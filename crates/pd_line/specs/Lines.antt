@@ -25,8 +25,8 @@ use Rattle.pd_plug.specs.Step as plug
 use Rattle.pd_line.specs.declared.notes.Fault.TheVariants.{NoGoodCrc}
 use Rattle.pd_line.specs.declared.notes.Start.{Start}
 use Rattle.pd_line.specs.declared.notes.Start.TheVariants as start
-use Rattle.pd_line.specs.declared.port_parts.Disturbance.{Disturbance}
-use Rattle.pd_line.specs.declared.port_parts.Disturbance.TheVariants as disturbance
+use Rattle.pd_line.specs.declared.disturbances.Disturbance.{Disturbance}
+use Rattle.pd_line.specs.declared.disturbances.Disturbance.TheVariants as disturbance
 use Rattle.pd_line.specs.declared.port_parts.Line.{Line}
 use Rattle.pd_line.specs.declared.port_parts.Line.TheVariants.{Idle, Message, Pause, GoodCrc, NoAnswer, HardReset}
 use Rattle.pd_line.specs.declared.port_parts.Waiting.{Waiting}
@@ -113,11 +113,11 @@ fate_of (disturbance.Damaged damage) = DamagedOnTheWay damage
 -- the first disturbance that waits, and the step without it; an undisturbed packet where none waits
 abbrev pub taken_from : List Disturbance → PortStep → PortStep × Fate
 taken_from [] w = (w, Undisturbed)
-taken_from (d ∷ rest) w = (with_port (record w.port { disturbances = record { items = rest } }) w, fate_of d)
+taken_from (d ∷ rest) w = (with_port (record w.port { disturbances = rest }) w, fate_of d)
 
 -- Each packet that starts takes the first disturbance that waits on the port, GoodCRC included.
 unfoldable pub taken : PortStep → PortStep × Fate
-taken w = taken_from w.port.disturbances.items w
+taken w = taken_from w.port.disturbances w
 
 -- a message's packet starts: from its layer, or again (N4)
 unfoldable pub packet_starts : Side → Contents → ℕ → PortStep → PortStep

@@ -12,7 +12,7 @@ use Rattle.pd_sink.specs.Record as sink
 use Rattle.pd_plug.specs.Record.{PlugRecord}
 use Rattle.pd_plug.specs.Record as plug
 use Rattle.pd_line.specs.declared.port_parts.PortParts.{PortParts}
-use Rattle.pd_line.specs.declared.port_parts.Disturbance.{Disturbance}
+use Rattle.pd_line.specs.declared.disturbances.Disturbance.{Disturbance}
 use Rattle.pd_line.specs.declared.port_parts.Line.{Line}
 use Rattle.pd_line.specs.declared.port_parts.Line.TheVariants.{Idle}
 use Rattle.pd_line.specs.declared.port_parts.Waiting.{Waiting}
@@ -51,7 +51,7 @@ without_settings r =
       sink_waits = r.sink_waits;
       plug_waits = r.plug_waits;
       line = r.line;
-      disturbances = r.disturbances.items;
+      disturbances = r.disturbances;
     }
 
 -- and with it again
@@ -70,7 +70,7 @@ with_settings settings r =
       sink_waits = r.sink_waits;
       plug_waits = r.plug_waits;
       line = r.line;
-      disturbances = record { items = r.disturbances };
+      disturbances = r.disturbances;
     }
 
 -- nothing is attached: the engines are off, the layers reset, and the line is idle

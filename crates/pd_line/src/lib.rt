@@ -1,6 +1,7 @@
 //! The line of a port: who speaks on it, what reaches whom, and what the layers and engines make of it.
 #![tactic(auto)]
 
+mod disturbances;
 mod hard_reset;
 pub mod laws;
 mod lines;

@@ -3,8 +3,9 @@
 ghost use Rattle.std.specs.Prelude.{◌≡◌, ℕ, ◌+◌, ◌<◌, ◌≤◌, length};
 ghost use Rattle.pd_line.specs.Lines.{receiver, channel_for, rest_of_time_out, fate_of};
 
+use crate::disturbances::Disturbance;
 use crate::notes::{Fault, Start};
-use crate::port_parts::{Disturbance, Line, Waiting};
+use crate::port_parts::{Line, Waiting};
 use crate::port_step::PortStep;
 use crate::told::sent_as;
 use pd_header::{Kind, Side, header_id, header_kind};
@@ -121,10 +122,9 @@ impl PortStep {
         ensures fate { result ≡ (taken self.old).1 }
         ensures faults { self.new.faults ≡ self.old.faults }
     {
-        if self.port.disturbances.is_empty() {
-            Fate::Undisturbed
-        } else {
-            self.port.disturbances.remove(0).fate()
+        match self.port.disturbances.take_first() {
+            None => Fate::Undisturbed,
+            Some(disturbance) => disturbance.fate(),
         }
     }
 

@@ -1,21 +1,13 @@
 //! What a port is made of.
 
-use arrayvec::ArrayVec;
+use crate::disturbances::Disturbances;
 use pd_header::Side;
 use pd_identity::Cable;
-use pd_packet::{Damage, Fate, Packet};
+use pd_packet::{Fate, Packet};
 use pd_plug::Plug;
 use pd_protocol::{Layer, Message};
 use pd_sink::Sink;
 use pd_source::Source;
-
-/// What is to become of a packet that starts later: of the next one that no earlier disturbance takes.
-#[derive(Clone, Copy, Debug, Default)]
-pub enum Disturbance {
-    #[default]
-    Lost,
-    Damaged(Damage),
-}
 
 /// What waits on a side until the line is idle: what its engine sent last.
 #[derive(Clone, Copy, Debug)]
@@ -66,7 +58,7 @@ pub enum Line {
 /// All that a port keeps from step to step: the attached cable, the engines, the layers by side and channel, what waits,
 /// what is on the line, and the disturbances that wait for packets. The source's engine has its settings in it; without
 /// them these are the port's record, `PortRecord` of `specs/Record.antt`.
-#[derive(Drop)]
+#[derive(Clone, Copy)]
 pub struct PortParts {
     pub cable: Option<Cable>,
     pub source: Source,
@@ -80,5 +72,5 @@ pub struct PortParts {
     pub sink_waits: Waiting,
     pub plug_waits: Waiting,
     pub line: Line,
-    pub disturbances: ArrayVec<Disturbance, 8>,
+    pub disturbances: Disturbances,
 }

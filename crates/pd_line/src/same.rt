@@ -2,8 +2,8 @@
 
 ghost use Rattle.std.specs.Prelude.{◌≡◌, ℕ, ◌≤◌, length, IsTrue, ◌↔◌};
 
-use crate::port_parts::{Disturbance, Line, PortParts, Waiting};
-use arrayvec::ArrayVec;
+use crate::disturbances::{Disturbance, Disturbances};
+use crate::port_parts::{Line, PortParts, Waiting};
 use pd_header::Side;
 use pd_objects::Supply;
 use pd_packet::{Fate, Packet};
@@ -11,7 +11,7 @@ use pd_plug::Plug;
 use pd_protocol::Layer;
 use pd_sink::Sink;
 use pd_source::Source;
-use pd_symbols::{Channel, copied};
+use pd_symbols::Channel;
 
 impl Waiting {
     /// Whether the same waits on both.
@@ -181,7 +181,7 @@ impl PortParts {
             sink_waits: Waiting::Nothing,
             plug_waits: Waiting::Nothing,
             line: Line::Idle,
-            disturbances: ArrayVec::new(),
+            disturbances: Disturbances::new(),
         }
     }
 
@@ -232,20 +232,6 @@ impl PortParts {
     pub fn copy(&self) -> PortParts
         ensures { result ≡ self.now }
     {
-        PortParts {
-            cable: self.cable,
-            source: self.source.copy(),
-            sink: self.sink.copy(),
-            plug: self.plug.copy(),
-            source_sop: self.source_sop.copy(),
-            sink_sop: self.sink_sop.copy(),
-            source_sop_prime: self.source_sop_prime.copy(),
-            plug_sop_prime: self.plug_sop_prime.copy(),
-            source_waits: self.source_waits,
-            sink_waits: self.sink_waits,
-            plug_waits: self.plug_waits,
-            line: self.line,
-            disturbances: copied(self.disturbances.as_slice()),
-        }
+        *self
     }
 }

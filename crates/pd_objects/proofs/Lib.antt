@@ -1,4 +1,3 @@
 pub mod FixedSupplies
 pub mod SinkSupplies
 pub mod Requests
-pub mod SupplyLists

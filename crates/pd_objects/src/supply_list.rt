@@ -26,8 +26,8 @@ impl Model for SupplyList {
     ghost inverse = { λ v. record { items = v ++ replicate (7 - length v) least; count = length v } };
 
     ghost inverse_ok = { λ l h i. record {
-      items = refilled least l.items l.count h.0 h.1 h.2 i;
-      count = counted l.items l.count h.0 h.1 i;
+      items = refilled 7 least l.items l.count h.0 h.1 h.2 i;
+      count = counted 7 l.items l.count h.0 h.1 i;
     } };
 }
 

@@ -22,8 +22,8 @@ use Rattle.pd_setup.specs.declared.event.Happening.{Happening}
 use Rattle.pd_setup.specs.declared.event.Happening.TheVariants.{Port, Budget}
 use Rattle.pd_setup.specs.Settings.{SettingsData}
 use Rattle.pd_line.specs.declared.notes.Fault.TheVariants.{Ignored}
-use Rattle.pd_line.specs.declared.port_parts.Disturbance.{Disturbance}
-use Rattle.pd_line.specs.declared.port_parts.Disturbance.TheVariants.{Lost, Damaged}
+use Rattle.pd_line.specs.declared.disturbances.Disturbance.{Disturbance}
+use Rattle.pd_line.specs.declared.disturbances.Disturbance.TheVariants.{Lost, Damaged}
 use Rattle.pd_line.specs.declared.port_step.PortStep.{PortStep}
 use Rattle.pd_line.specs.Record.{without_settings, nothing_attached}
 use Rattle.pd_line.specs.PortStep.{with_port, noted, sink_steps, plug_steps, source_steps, tells_timer, tells_attach}
@@ -72,8 +72,8 @@ disturbs_spares : (id : ℕ) (d : Disturbance) (t : ℕ) (w : PortStep) → Spar
 unfolding disturbs
 disturbs_spares id d t w =
     let waits : PortStep → PortStep =
-    λ z. with_port (record z.port { disturbances = record { items = z.port.disturbances.items ++ d ∷ [] } }) z in
-    choice t (sparing t) (nat_lt (length w.port.disturbances.items) 8) waits (noted (Ignored id)) w
+    λ z. with_port (record z.port { disturbances = z.port.disturbances ++ d ∷ [] }) z in
+    choice t (sparing t) (nat_lt (length w.port.disturbances) 8) waits (noted (Ignored id)) w
     (spares w _ refl refl) (noted_kept t (sparing t) (Ignored id) w)
 
 gets_source_spares : (id t : ℕ) (w : PortStep) → Spares w (gets_source id t w) (gets_source id t (unanswered w))

@@ -13,8 +13,8 @@ use Rattle.pd_setup.specs.declared.event.Happening.{Happening}
 use Rattle.pd_setup.specs.declared.event.Happening.TheVariants.{Port, Budget}
 use Rattle.pd_setup.specs.Settings.{SettingsData}
 use Rattle.pd_line.specs.declared.notes.Fault.TheVariants.{Ignored}
-use Rattle.pd_line.specs.declared.port_parts.Disturbance.{Disturbance}
-use Rattle.pd_line.specs.declared.port_parts.Disturbance.TheVariants.{Lost, Damaged}
+use Rattle.pd_line.specs.declared.disturbances.Disturbance.{Disturbance}
+use Rattle.pd_line.specs.declared.disturbances.Disturbance.TheVariants.{Lost, Damaged}
 use Rattle.pd_line.specs.declared.port_parts.PortParts.{PortParts}
 use Rattle.pd_line.specs.declared.port_step.PortStep.{PortStep}
 use Rattle.pd_line.specs.Record.{without_settings, nothing_attached}
@@ -40,8 +40,8 @@ disturbs_line : (id : ℕ) (d : Disturbance) (t : ℕ) (w : PortStep) → Leaves
 unfolding disturbs
 disturbs_line id d t w =
     let waits : PortStep → PortStep =
-    λ z. with_port (record z.port { disturbances = record { items = z.port.disturbances.items ++ d ∷ [] } }) z in
-    choice t (leaves_line t) (nat_lt (length w.port.disturbances.items) 8) waits (noted (Ignored id)) w
+    λ z. with_port (record z.port { disturbances = z.port.disturbances ++ d ∷ [] }) z in
+    choice t (leaves_line t) (nat_lt (length w.port.disturbances) 8) waits (noted (Ignored id)) w
     (record { line = refl; start = refl }) (noted_kept t (leaves_line t) (Ignored id) w)
 
 gets_source_line : (id t : ℕ) (w : PortStep) → LeavesLine w (gets_source id t w)

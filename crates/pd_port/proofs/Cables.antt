@@ -41,8 +41,8 @@ use Rattle.pd_setup.specs.declared.event.Happening.{Happening}
 use Rattle.pd_setup.specs.declared.event.Happening.TheVariants.{Port, Budget}
 use Rattle.pd_setup.specs.Settings.{SettingsData}
 use Rattle.pd_line.specs.declared.notes.Fault.TheVariants.{Ignored}
-use Rattle.pd_line.specs.declared.port_parts.Disturbance.{Disturbance}
-use Rattle.pd_line.specs.declared.port_parts.Disturbance.TheVariants.{Lost, Damaged}
+use Rattle.pd_line.specs.declared.disturbances.Disturbance.{Disturbance}
+use Rattle.pd_line.specs.declared.disturbances.Disturbance.TheVariants.{Lost, Damaged}
 use Rattle.pd_line.specs.declared.port_parts.PortParts.{PortParts}
 use Rattle.pd_line.specs.declared.port_parts.Line.{Line}
 use Rattle.pd_line.specs.declared.port_parts.Line.TheVariants.{GoodCrc, NoAnswer, HardReset}
@@ -91,7 +91,7 @@ detaches_on w = record { attached = refl; known = inl refl; plug_waits = tt; sin
 disturbs_on : (cable : Option Cable) (id : ℕ) (d : Disturbance) (t : ℕ) (w : PortStep) → On cable w → On cable (disturbs id d w)
 unfolding disturbs
 disturbs_on cable id d t w h =
-    either_on cable t (nat_lt (length w.port.disturbances.items) 8) _ (noted (Ignored id) w) h
+    either_on cable t (nat_lt (length w.port.disturbances) 8) _ (noted (Ignored id) w) h
     (noted_on cable t (Ignored id) w h)
 
 gets_source_on : (cable : Option Cable) (id t : ℕ) (w : PortStep) → On cable w → On cable (gets_source id t w)

@@ -16,8 +16,8 @@ use Rattle.pd_setup.specs.declared.event.Happening.{Happening}
 use Rattle.pd_setup.specs.declared.event.Happening.TheVariants.{Port, Budget}
 use Rattle.pd_setup.specs.Settings.{SettingsData}
 use Rattle.pd_line.specs.declared.notes.Fault.TheVariants.{Ignored}
-use Rattle.pd_line.specs.declared.port_parts.Disturbance.{Disturbance}
-use Rattle.pd_line.specs.declared.port_parts.Disturbance.TheVariants.{Lost, Damaged}
+use Rattle.pd_line.specs.declared.disturbances.Disturbance.{Disturbance}
+use Rattle.pd_line.specs.declared.disturbances.Disturbance.TheVariants.{Lost, Damaged}
 use Rattle.pd_line.specs.declared.port_parts.PortParts.{PortParts}
 use Rattle.pd_line.specs.declared.port_step.PortStep.{PortStep}
 use Rattle.pd_line.specs.Record.{PortRecord, nothing_attached}
@@ -54,8 +54,8 @@ disturbs_leads : (id : ℕ) (d : Disturbance) (t : ℕ) (w : PortStep) → Leads
 unfolding disturbs
 disturbs_leads id d t w =
     let waits : PortStep → PortStep =
-    λ z. with_port (record z.port { disturbances = record { items = z.port.disturbances.items ++ d ∷ [] } }) z in
-    choice t (leads t) (nat_lt (length w.port.disturbances.items) 8) waits (noted (Ignored id)) w
+    λ z. with_port (record z.port { disturbances = z.port.disturbances ++ d ∷ [] }) z in
+    choice t (leads t) (nat_lt (length w.port.disturbances) 8) waits (noted (Ignored id)) w
     (record { settings_are = refl; later = later_kept t (times w.port) }) (noted_kept t (leads t) (Ignored id) w)
 
 gets_source_leads : (id t : ℕ) (w : PortStep) → LeadsOn t w (gets_source id t w)

@@ -10,13 +10,14 @@ use Rattle.pd_line.specs.declared.notes.Start.{Start}
 use Rattle.pd_line.specs.declared.port_parts.PortParts.{PortParts}
 use Rattle.pd_line.specs.declared.port_step.PortStep.{PortStep}
 use Rattle.pd_line.specs.Record.{PortRecord, with_settings, without_settings}
+use Rattle.pd_line.specs.Lines.{line_starts}
 use Rattle.pd_port.specs.declared.due.Due.{Due}
 use Rattle.pd_port.specs.declared.entry.ContractChange.{ContractChange}
 use Rattle.pd_port.specs.declared.entry.Entry.{Entry}
 use Rattle.pd_setup.specs.Settings.{SettingsData}
 use Rattle.pd_port.proofs.Later.{portstep-settings}
 use Rattle.pd_port.specs.Changes.{contract_change}
-use Rattle.pd_port.specs.Port.{PortData, earlier, begun, portstep, whole, source_settings, ask, record_after, entry_of}
+use Rattle.pd_port.specs.Port.{PortData, earlier, begun, happens, portstep, whole, source_settings, ask, record_after, entry_of}
 
 -- the later of nothing
 pub earlier-None : (d : Option Due) → earlier d None ≡ d
@@ -37,6 +38,13 @@ SeenAs p settings w = port_data settings (without_settings w.port) ≡ p
 -- the step for this due, with this answer, has led from p to u
 abbrev pub LedTo : PortData → Due → Option Answer → PortStep → Type 0
 LedTo p d given u = u ≡ portstep (whole p.settings p.port_record) d given
+
+-- a port's step is what its two calls do, one after the other
+pub portstep_is : (r : PortParts) (d : Due) (given : Option Answer) (w v u : PortStep) → w ≡ begun r None →
+    v ≡ happens d.what d.time (record w { answer = given }) → u ≡ line_starts d.time v → u ≡ portstep r d given
+unfolding portstep
+portstep_is r d given w v u begins first second =
+    second ∙ ap (line_starts d.time) (first ∙ ap (λ (x : PortStep). happens d.what d.time (record x { answer = given })) begins)
 
 -- the step of a port's parts is that of the port
 pub led_whole : (p : PortData) (settings : SettingsData) (r : PortParts) (d : Due) (given : Option Answer) →

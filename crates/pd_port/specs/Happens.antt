@@ -11,8 +11,8 @@ use Rattle.pd_source.specs.declared.kinds.Stimulus.TheVariants as source_told
 use Rattle.pd_sink.specs.Step as sink
 use Rattle.pd_sink.specs.declared.kinds.Stimulus.TheVariants as sink_told
 use Rattle.pd_line.specs.declared.notes.Fault.TheVariants.{Ignored}
-use Rattle.pd_line.specs.declared.port_parts.Disturbance.{Disturbance}
-use Rattle.pd_line.specs.declared.port_parts.Disturbance.TheVariants.{Lost, Damaged}
+use Rattle.pd_line.specs.declared.disturbances.Disturbance.{Disturbance}
+use Rattle.pd_line.specs.declared.disturbances.Disturbance.TheVariants.{Lost, Damaged}
 use Rattle.pd_line.specs.declared.port_step.PortStep.{PortStep}
 use Rattle.pd_line.specs.Record.{with_settings, nothing_attached}
 use Rattle.pd_line.specs.PortStep.{with_port, noted, sink_steps, source_steps, tells_attach}
@@ -26,8 +26,8 @@ detaches w = let set = w.port.source.settings in with_port (with_settings set (n
 -- a disturbance waits behind the others, of which there are at most eight
 unfoldable pub disturbs : ℕ → Disturbance → PortStep → PortStep
 disturbs id d w =
-    if nat_lt (length w.port.disturbances.items) 8
-    then with_port (record w.port { disturbances = record { items = w.port.disturbances.items ++ d ∷ [] } }) w
+    if nat_lt (length w.port.disturbances) 8
+    then with_port (record w.port { disturbances = w.port.disturbances ++ d ∷ [] }) w
     else noted (Ignored id) w
 
 -- the sink is to ask for the source's capabilities, which it does in Ready

@@ -9,9 +9,7 @@ use crate::asks::{is_budget, source_told};
 use crate::dues::{due_of_event, due_of_line, due_of_timer, earlier_of};
 use crate::entry::change_of;
 use crate::happens::event_happens;
-use crate::{Due, Entry, Event, Fault, Meter, Settings, Start, What};
-use arrayvec::ArrayVec;
-use core::mem::replace_with;
+use crate::{Due, Entry, Event, Meter, Settings, What};
 use pd_header::Side;
 use pd_line::stepping::{PortParts, PortStep};
 use pd_objects::{Answer, Contract, Query};
@@ -64,41 +62,6 @@ fn happens(step: &mut PortStep, settings: &Settings, what: &What, t: u64)
         What::Line => step.line_ends(t),
         What::Timer { side, timer } => step.tell_timer(*side, *timer, t),
     }
-}
-
-/// What a step is told: what its port is set to, what falls due, and the answer to what the port asked.
-#[derive(Drop)]
-struct Told<'a> {
-    settings: &'a Settings,
-    due: &'a Due,
-    answer: Option<Answer>,
-}
-
-/// What a step leaves to be read, beside the port's parts.
-#[derive(Drop)]
-struct Left {
-    faults: ArrayVec<Fault, 8>,
-    start: Option<Start>,
-}
-
-/// The parts after the step for a due, and what it leaves to be read. They are moved through it, and never copied.
-#[tactic(auto, unfolding(crate::specs::Port::portstep))]
-fn stepped(parts: PortParts, told: Told) -> (PortParts, Left)
-    requires time { told.due.now.time ≤ LAST_TIME }
-    requires settings { parts.source.settings ≡ source_settings told.settings.now }
-    ensures after { result.0 ≡ (portstep parts told.entry.due.now told.entry.answer).port }
-    ensures faults { result.1.faults ≡ (portstep parts told.entry.due.now told.entry.answer).faults }
-    ensures start { result.1.start ≡ (portstep parts told.entry.due.now told.entry.answer).start }
-{
-    let mut step = PortStep::at_rest(parts);
-    step.answer = told.answer;
-    happens(&mut step, told.settings, &told.due.what, told.due.time);
-    step.line_starts(told.due.time);
-    let left = Left {
-        faults: step.faults,
-        start: step.start,
-    };
-    (step.port, left)
 }
 
 // The parts of a port to which nothing is attached.
@@ -166,19 +129,18 @@ impl Port {
         let query = self.ask(due);
         let before = self.contract();
         meter.rise();
-        let told = Told {
-            settings: &self.settings,
-            due,
-            answer,
-        };
-        let left = replace_with(&mut self.parts, told, stepped);
+        let mut step = PortStep::at_rest(self.parts);
+        step.answer = answer;
+        happens(&mut step, &self.settings, &due.what, due.time);
+        step.line_starts(due.time);
+        self.parts = step.port;
         Entry {
             at: due.time,
             due: *due,
             query,
-            faults: left.faults,
+            faults: step.faults,
             contract: change_of(before, self.contract()),
-            start: left.start,
+            start: step.start,
         }
     }
 
@@ -225,8 +187,8 @@ impl Port {
         ensures { result ≡ self.now }
     {
         Port {
-            settings: self.settings.copy(),
-            parts: self.parts.copy(),
+            settings: self.settings,
+            parts: self.parts,
         }
     }
 }

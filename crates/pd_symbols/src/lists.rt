@@ -37,7 +37,10 @@ impl Model for ShortList {
 
     ghost inverse = { λ v. record { items = v ++ replicate (7 - length v) 0; count = length v } };
 
-    ghost inverse_ok = { λ l h i. record { items = refilled 0 l.items l.count h.0 h.1 h.2 i; count = counted l.items l.count h.0 h.1 i } };
+    ghost inverse_ok = { λ l h i. record {
+      items = refilled 7 0 l.items l.count h.0 h.1 h.2 i;
+      count = counted 7 l.items l.count h.0 h.1 i;
+    } };
 }
 
 impl ShortList {

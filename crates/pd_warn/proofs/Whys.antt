@@ -11,8 +11,8 @@ use Rattle.pd_source.specs.Step as source
 use Rattle.pd_source.specs.declared.kinds.Stimulus.TheVariants as source_told
 use Rattle.pd_sink.specs.Step as sink
 use Rattle.pd_sink.specs.declared.kinds.Stimulus.TheVariants as sink_told
-use Rattle.pd_line.specs.declared.port_parts.Disturbance.{Disturbance}
-use Rattle.pd_line.specs.declared.port_parts.Disturbance.TheVariants as disturbance
+use Rattle.pd_line.specs.declared.disturbances.Disturbance.{Disturbance}
+use Rattle.pd_line.specs.declared.disturbances.Disturbance.TheVariants as disturbance
 use Rattle.pd_line.specs.declared.port_step.PortStep.{PortStep}
 use Rattle.pd_line.specs.Record.{nothing_attached}
 use Rattle.pd_line.specs.Lines.{line_starts}
@@ -52,7 +52,7 @@ unfolding disturbs
 full_row s r given t id d false e said = full (length r.disturbances) e
 full_row s r given t id d true e said =
     let w : PortStep = first s r given in
-    not_ignored t (record w { port = record w.port { disturbances = record { items = r.disturbances ++ d ∷ [] } } })
+    not_ignored t (record w { port = record w.port { disturbances = r.disturbances ++ d ∷ [] } })
     (record (view_of r) { row = r.disturbances ++ d ∷ [] }) (8 ≤ length r.disturbances) refl refl refl (rw e at said)
 
 sink_waits : (s : SettingsData) (r : PortRecord) (given : Option Answer) (t id : ℕ) (b : Bool) → sink.is_ready r.sink ≡ b

@@ -46,8 +46,8 @@ use Rattle.pd_line.specs.declared.notes.Fault.{Fault}
 use Rattle.pd_line.specs.declared.notes.Fault.TheVariants.{NoGoodCrc}
 use Rattle.pd_line.specs.declared.notes.Start.{Start}
 use Rattle.pd_line.specs.declared.notes.Start.TheVariants as start
-use Rattle.pd_line.specs.declared.port_parts.Disturbance.{Disturbance}
-use Rattle.pd_line.specs.declared.port_parts.Disturbance.TheVariants as disturbance
+use Rattle.pd_line.specs.declared.disturbances.Disturbance.{Disturbance}
+use Rattle.pd_line.specs.declared.disturbances.Disturbance.TheVariants as disturbance
 use Rattle.pd_line.specs.declared.port_parts.Line.{Line}
 use Rattle.pd_line.specs.declared.port_parts.Line.TheVariants.{Idle, Message, Pause, GoodCrc, NoAnswer, HardReset}
 use Rattle.pd_line.specs.declared.port_parts.Waiting.{Waiting}
@@ -76,7 +76,7 @@ pub record View : Type 0 where
 abbrev pub view : PortStep → View
 view w = record {
   cable = w.port.cable;
-  row = w.port.disturbances.items;
+  row = w.port.disturbances;
   ignored = list_any ignores w.faults.items;
   start = w.start;
 }
@@ -116,7 +116,7 @@ any_push (x ∷ xs) f e = ap (λ b. ignores x || b) (any_push xs f e)
 noted_same : (f : Fault) (w : PortStep) → ignores f ≡ false → view (noted f w) ≡ view w
 unfolding noted
 noted_same f w e =
-    let make : Bool → View = λ b. record { cable = w.port.cable; row = w.port.disturbances.items; ignored = b; start = w.start } in
+    let make : Bool → View = λ b. record { cable = w.port.cable; row = w.port.disturbances; ignored = b; start = w.start } in
     ap make (any_push w.faults.items f e)
 
 wait_same : (side : Side) (x : Waiting) (w : PortStep) → view (wait side x w) ≡ view w
@@ -268,8 +268,8 @@ one_less (disturbance.Damaged damage) side p row = refl
 drew : (side : Side) (p : Contents) (line : Fate → Line) (w : PortStep)
     → Took (view w) (view (started (start.Packet side p (taken w).1) (with_line (line (taken w).1) (taken w).0)))
 unfolding taken started with_line
-drew side p line w = by_row w.port.disturbances.items refl where
-  by_row : (row : List Disturbance) → w.port.disturbances.items ≡ row
+drew side p line w = by_row w.port.disturbances refl where
+  by_row : (row : List Disturbance) → w.port.disturbances ≡ row
       → let r = taken_from row w in Took (view w) (view (started (start.Packet side p r.1) (with_line (line r.1) r.0)))
   by_row [] e = record {
     cable_is = refl;
@@ -280,7 +280,7 @@ drew side p line w = by_row w.port.disturbances.items refl where
   by_row (d ∷ rest) e = record {
     cable_is = refl;
     ignored_is = refl;
-    row_is = ap (drop 1) (sym e) ∙ sym (one_less d side p w.port.disturbances.items);
+    row_is = ap (drop 1) (sym e) ∙ sym (one_less d side p w.port.disturbances);
     fated = ap (λ (ds : List Disturbance). first_fate (map fate_of ds)) (sym e);
   }
 

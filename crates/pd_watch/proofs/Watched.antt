@@ -20,8 +20,8 @@ use Rattle.pd_sink.specs.declared.kinds.Stimulus.TheVariants as sink_told
 use Rattle.pd_line.specs.declared.notes.Fault.TheVariants.{Ignored}
 use Rattle.pd_line.specs.declared.notes.Start.{Start}
 use Rattle.pd_line.specs.declared.notes.Start.TheVariants as start
-use Rattle.pd_line.specs.declared.port_parts.Disturbance.{Disturbance}
-use Rattle.pd_line.specs.declared.port_parts.Disturbance.TheVariants as disturbance
+use Rattle.pd_line.specs.declared.disturbances.Disturbance.{Disturbance}
+use Rattle.pd_line.specs.declared.disturbances.Disturbance.TheVariants as disturbance
 use Rattle.pd_line.specs.declared.port_step.PortStep.{PortStep}
 use Rattle.pd_line.specs.PortStep.{noted}
 use Rattle.pd_line.specs.Record.{nothing_attached}

@@ -1,33 +1,39 @@
 use Rattle.std.proofs.Common.{None, ap, ◌∙◌}
-use Rattle.pd_line.specs.declared.port_parts.PortParts.{PortParts}
 use Rattle.pd_line.specs.declared.port_step.PortStep.{PortStep}
 use Rattle.pd_line.specs.Record.{without_settings}
 use Rattle.pd_port.specs.Port.{begun, portstep}
-use Rattle.pd_port.proofs.Steps.{led_whole, port_data, after_is, settings_are, entry_is, change_is}
+use Rattle.pd_port.proofs.Steps.{portstep_is, led_whole, port_data, after_is, settings_are, entry_is, change_is}
 use Rattle.pd_port.proofs.port.Port.step.Goals as goal
 
 pub invariant_of-self : goal.invariant_of-self
 invariant_of-self c =
-    let p = c.self.inside.parts in let d = c.args.due.now in
-    let u : PortStep = portstep p d c.args.answer in
-    let done = led_whole c.args.self.now c.self.inside.settings p d c.args.answer c.self.view_is c.self.invariant in
-    ap (λ (x : PortParts). x.source.settings) c.replace_with-left.ensures.0
-    ∙ settings_are c.args.self.now c.self.inside.settings (begun p None) u d c.args.answer c.self.view_is done
+    let p = c.self.inside.parts in let d = c.args.due.now in let given = c.args.answer in
+    let u : PortStep = portstep p d given in
+    let is = portstep_is p d given c.at_rest-step.result c.happens.new.step c.line_starts.new.self c.at_rest-step.ensures
+    c.happens.ensures c.line_starts.ensures.after in
+    let done = led_whole c.args.self.now c.self.inside.settings p d given c.self.view_is c.self.invariant in
+    ap (λ (x : PortStep). x.port.source.settings) is
+    ∙ settings_are c.args.self.now c.self.inside.settings (begun p None) u d given c.self.view_is done
 
 pub returns-clause-after : goal.returns-clause-after
 returns-clause-after c =
-    let p = c.self.inside.parts in let d = c.args.due.now in
-    let u : PortStep = portstep p d c.args.answer in
-    let done = led_whole c.args.self.now c.self.inside.settings p d c.args.answer c.self.view_is c.self.invariant in
-    ap (λ (x : PortParts). port_data c.self.inside.settings (without_settings x)) c.replace_with-left.ensures.0
-    ∙ after_is c.args.self.now c.self.inside.settings (begun p None) u d c.args.answer c.self.view_is done
+    let p = c.self.inside.parts in let d = c.args.due.now in let given = c.args.answer in
+    let u : PortStep = portstep p d given in
+    let is = portstep_is p d given c.at_rest-step.result c.happens.new.step c.line_starts.new.self c.at_rest-step.ensures
+    c.happens.ensures c.line_starts.ensures.after in
+    let done = led_whole c.args.self.now c.self.inside.settings p d given c.self.view_is c.self.invariant in
+    ap (λ (x : PortStep). port_data c.self.inside.settings (without_settings x.port)) is
+    ∙ after_is c.args.self.now c.self.inside.settings (begun p None) u d given c.self.view_is done
 
 pub returns-clause-entry : goal.returns-clause-entry
 returns-clause-entry c =
-    let p = c.self.inside.parts in let d = c.args.due.now in let left = c.replace_with-left in
-    let u : PortStep = portstep p d c.args.answer in
-    let done = led_whole c.args.self.now c.self.inside.settings p d c.args.answer c.self.view_is c.self.invariant in
-    entry_is c.args.self.now u d c.args.answer c.ask-query.result left.result.faults c.change_of.result left.result.start done
-    c.ask-query.ensures left.ensures.1.0
+    let p = c.self.inside.parts in let d = c.args.due.now in let given = c.args.answer in
+    let u : PortStep = portstep p d given in let left = c.line_starts.new.self in
+    let is = portstep_is p d given c.at_rest-step.result c.happens.new.step left c.at_rest-step.ensures
+    c.happens.ensures c.line_starts.ensures.after in
+    let done = led_whole c.args.self.now c.self.inside.settings p d given c.self.view_is c.self.invariant in
+    entry_is c.args.self.now u d given c.ask-query.result left.faults c.change_of.result left.start done
+    c.ask-query.ensures (ap (λ (x : PortStep). x.faults) is)
     (change_is c.args.self.now u c.contract-before.result c.contract.result c.change_of.result c.contract-before.ensures
-    (c.contract.ensures ∙ ap (λ (x : PortParts). x.source.record.contract) left.ensures.0) c.change_of.ensures) left.ensures.1.1
+    (c.contract.ensures ∙ ap (λ (x : PortStep). x.port.source.record.contract) is) c.change_of.ensures)
+    (ap (λ (x : PortStep). x.start) is)
