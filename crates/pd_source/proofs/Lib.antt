@@ -1,4 +1,5 @@
 pub mod Records
+pub mod ByState
 pub mod Walk
 pub mod RowTaken
 pub mod Powers

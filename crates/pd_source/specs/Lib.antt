@@ -9,3 +9,4 @@ pub mod Sound
 pub mod Rest
 pub mod Silent
 pub mod Laws
+pub mod ByState

@@ -3,6 +3,7 @@
 ghost use Rattle.std.specs.Prelude.{◌≡◌, ◌≤◌, length};
 ghost use Rattle.pd_source.specs.Table as table;
 ghost use Rattle.pd_source.specs.Facts.{told};
+ghost use Rattle.pd_source.specs.ByState.{deeds_in};
 
 use crate::kinds::{Deed, Facts, Heard, Message};
 use crate::{Note, Sent, State, Stimulus};
@@ -188,9 +189,17 @@ pub(crate) fn heard_of(stimulus: &Stimulus) -> Heard
 }
 
 /// What the first row that fits does.
-#[tactic(auto, unfolding(crate::specs::Table::row_of))]
+#[tactic(auto, using(crate::proofs::ByState::deeds_by_state))]
 pub(crate) fn choose(state: State, heard: Heard, facts: Facts) -> &'static [Deed]
     ensures deeds { result.now ≡ table.deeds_of_row (told facts) (table.row_of (told facts) state heard) }
+    ensures few { length result.now ≤ 6 }
+{
+    choose_in(state, heard, facts)
+}
+
+/// What the first row of a state does that fits.
+fn choose_in(state: State, heard: Heard, facts: Facts) -> &'static [Deed]
+    ensures deeds { result.now ≡ deeds_in (told facts) state heard }
     ensures few { length result.now ≤ 6 }
 {
     table!(rows state, heard, facts;)
