@@ -7,3 +7,4 @@ pub mod Facts
 pub mod Acts
 pub mod Step
 pub mod Laws
+pub mod ByState

@@ -3,6 +3,7 @@
 ghost use Rattle.std.specs.Prelude.{◌≡◌, ◌≤◌, length};
 ghost use Rattle.pd_sink.specs.Table.{row_of, deeds_of_row};
 ghost use Rattle.pd_sink.specs.Facts.{told};
+ghost use Rattle.pd_sink.specs.ByState.{deeds_in};
 
 use crate::kinds::{Deed, Facts, Message};
 use crate::{Note, State, Stimulus};
@@ -155,9 +156,17 @@ macro_rules! table {
 }
 
 /// What the first row that fits does.
-#[tactic(auto, unfolding(crate::specs::Table::row_of))]
+#[tactic(auto, using(crate::proofs::ByState::deeds_by_state))]
 pub(crate) fn choose(state: State, stimulus: &Stimulus, facts: Facts) -> &'static [Deed]
     ensures deeds { result.now ≡ deeds_of_row (told facts) (row_of (told facts) state stimulus.now) }
+    ensures few { length result.now ≤ 6 }
+{
+    choose_in(state, stimulus, facts)
+}
+
+/// What the first row of a state does that fits.
+fn choose_in(state: State, stimulus: &Stimulus, facts: Facts) -> &'static [Deed]
+    ensures deeds { result.now ≡ deeds_in (told facts) state stimulus.now }
     ensures few { length result.now ≤ 6 }
 {
     table!(rows state, stimulus, facts;)
