@@ -157,7 +157,6 @@ impl Sink {
     }
 
     /// Takes the first row that fits.
-    #[tactic(auto, unfolding(crate::specs::Step::stepped, crate::specs::Step::acts_of))]
     fn take_row(&mut self, now: u64, stimulus: &Stimulus) -> ArrayVec<Act, 8>
         requires { now ≤ LAST_TIME }
         ensures after { self.new ≡ stepped now stimulus.now self.old }

@@ -1,11 +1,11 @@
 -- The table read state by state is the table.
-use Rattle.std.proofs.Common.{◌≡◌, Bool, ◌&&◌, List, refl, ap, sym, ◌∙◌}
+use Rattle.std.proofs.Common.{◌≡◌, Bool, ◌&&◌, refl, ap, sym, ◌∙◌}
 use Rattle.pd_table.specs.ByState.{first_deeds}
 use Rattle.pd_table.proofs.ByState.{deeds_by_state as first_by_state}
 use Rattle.pd_source.specs.declared.kinds.State.{State}
 use Rattle.pd_source.specs.declared.kinds.State.TheVariants as state
 use Rattle.pd_source.specs.declared.kinds.Heard.{Heard}
-use Rattle.pd_source.specs.Table.{Row, Guard, table, among, match_one, anything_else, row_of, deeds_of_row}
+use Rattle.pd_source.specs.Table.{Guard, table, among, match_one, anything_else, row_of, deeds_of_row}
 use Rattle.pd_source.specs.ByState.{rows_of, rows_in, deeds_in}
 
 each-state : (s : State) → rows_in s ≡ rows_of s
