@@ -5,3 +5,4 @@ pub mod Found
 pub mod Nowhere
 pub mod Unique
 pub mod Valid
+pub mod Mapped

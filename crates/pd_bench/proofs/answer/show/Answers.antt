@@ -12,4 +12,5 @@ returns-then-not-can_show-clause-reply g c =
 
 pub returns-clause-reply : goal.returns-clause-reply
 returns-clause-reply g c =
-    (show_text c.args.shown (plan_of c.args.state.now.scenario) (g.T.Runner.entries c.args.runner.now), Shown, search rules, search rules, search rules)
+    let text = show_text c.args.shown (plan_of c.args.state.now.scenario) (g.T.Runner.entries c.args.runner.now) in
+    (text, Shown, search rules, search rules, search rules)

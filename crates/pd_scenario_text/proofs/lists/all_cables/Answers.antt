@@ -2,9 +2,17 @@ use Rattle.std.proofs.lemmas.List.Elements.{All-get_or}
 use Rattle.toml.specs.View.{table_view}
 use Rattle.pd_scenario_tables.specs.declared.schema.TableKind.TheVariants.{Cable}
 use Rattle.pd_scenario_tables.specs.Tables.{IsSound}
+use Rattle.pd_scenario_tables.specs.Convert.{cable_of}
+use Rattle.pd_scenario_text.proofs.Mapped.{mapped_more}
 use Rattle.pd_scenario_text.proofs.lists.all_cables.Goals as goal
 
 pub cable_of-requires : goal.cable_of-requires
 cable_of-requires c =
     rw c.table-item.is (All-get_or (λ t. IsSound Cable (table_view t.now)) c.args.tables.now c.loop-table.table-index c.table-item.result
     c.loop-table-test.true c.requires)
+
+pub loop-table-preserved : goal.loop-table-preserved
+loop-table-preserved c =
+    mapped_more (λ t. table_view t.now) cable_of c.args.tables.now c.loop-table.table-index c.table-item.result c.loop-table.all.items
+    c.push.new.self.items c.cable_of.result c.loop-table-test.true c.table-item.is c.cable_of.ensures c.loop-table.invariant
+    c.in_ok-push.ensures.items

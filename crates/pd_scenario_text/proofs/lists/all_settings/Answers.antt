@@ -1,9 +1,17 @@
 use Rattle.std.proofs.lemmas.List.Elements.{All-get_or}
 use Rattle.toml.specs.View.{table_view}
 use Rattle.pd_scenario_tables.specs.Tables.{IsSoundPort}
+use Rattle.pd_scenario_tables.specs.Convert.{settings_of}
+use Rattle.pd_scenario_text.proofs.Mapped.{mapped_more}
 use Rattle.pd_scenario_text.proofs.lists.all_settings.Goals as goal
 
 pub settings_of-requires : goal.settings_of-requires
 settings_of-requires c =
     rw c.table-item.is (All-get_or (λ t. IsSoundPort (table_view t.now)) c.args.tables.now c.loop-table.table-index c.table-item.result
     c.loop-table-test.true c.requires)
+
+pub loop-table-preserved : goal.loop-table-preserved
+loop-table-preserved c =
+    mapped_more (λ t. table_view t.now) settings_of c.args.tables.now c.loop-table.table-index c.table-item.result c.loop-table.all.items
+    c.push.new.self.items c.settings_of.result c.loop-table-test.true c.table-item.is c.settings_of.ensures c.loop-table.invariant
+    c.in_ok-push.ensures.items
