@@ -8,6 +8,7 @@ mod run;
 mod words;
 
 use check::check;
+use clap::ArgMatches;
 use clap::error::ErrorKind;
 use decode::decode;
 use run::run;
@@ -51,18 +52,12 @@ fn refuse_words(rt: &impl Eprint, kind: ErrorKind) -> Ending {
     Ending::Usage
 }
 
-/// Does what the words of the command line say.
-fn obey<R: Files + Print + Eprint + Alloc<A = Global>>(rt: &R, words: &[String]) -> Ending {
-    let Ok(command) = command(rt.alloc()) else {
-        return refuse_words(rt, ErrorKind::OutOfMemory);
-    };
-    let matches = match command.try_get_matches_from(words) {
-        Ok(matches) => matches,
-        Err(error) => return refuse_words(rt, error.kind()),
-    };
-    let Some((name, matches)) = matches.subcommand() else {
-        return refuse_words(rt, ErrorKind::MissingSubcommand);
-    };
+/// Does what a command says, by the words behind it.
+fn follow<R: Files + Print + Eprint + Alloc<A = Global>>(
+    rt: &R,
+    name: &str,
+    matches: &ArgMatches,
+) -> Ending {
     match name {
         "decode" => match matches.get_str("SYMBOLS") {
             Some(symbols) => decode(rt, symbols),
@@ -76,6 +71,21 @@ fn obey<R: Files + Print + Eprint + Alloc<A = Global>>(rt: &R, words: &[String])
             (Some(scenario), Some(edits)) => run(rt, scenario, edits),
             _ => refuse_words(rt, ErrorKind::MissingRequiredArgument),
         },
+    }
+}
+
+/// Does what the words of the command line say.
+fn obey<R: Files + Print + Eprint + Alloc<A = Global>>(rt: &R, words: &[String]) -> Ending {
+    let Ok(command) = command(rt.alloc()) else {
+        return refuse_words(rt, ErrorKind::OutOfMemory);
+    };
+    let matches = match command.try_get_matches_from(words) {
+        Ok(matches) => matches,
+        Err(error) => return refuse_words(rt, error.kind()),
+    };
+    match matches.subcommand() {
+        Some((name, matches)) => follow(rt, name, matches),
+        None => refuse_words(rt, ErrorKind::MissingSubcommand),
     }
 }
 
