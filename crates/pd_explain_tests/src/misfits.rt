@@ -67,7 +67,7 @@ a.toml: refused 5: port 1: `identity_tries` is 21, not 0 to 20
         b"version = 2\n[[port]]\n[[cable]]\nplug = \"wide\"\nrating = 4000\n[[sink]]\nmax = 5001\ndemand = 49\nmode = \"fast\"\n\
 revision = 4\n",
         ScenarioFault::Range,
-        b"a.toml: refused 5: cable 1: `plug` is `wide`, not one of none, ack, nak, busy, silent, drop
+        b"a.toml: refused 5: cable 1: `plug` is `wide`, not one of none, ack, nak, busy, silent
 a.toml: refused 5: cable 1: `rating` is 4000, not 3000 or 5000
 a.toml: refused 5: sink 1: `max` is 5001, not 5000 to 20000 in steps of 50
 a.toml: refused 5: sink 1: `demand` is 49, not 50 to 100000
@@ -125,7 +125,7 @@ a.toml: refused 2: event 1: `ids` is no key of this table; there are port id at 
     (
         b"version = 2\n[[event]]\nkind = \"budgte\"\n[[event]]\nkind = \"Lose\"\n[[cable]]\nplug = \"acknak\"\n",
         ScenarioFault::Range,
-        b"a.toml: refused 5: cable 1: `plug` is `acknak`, not one of none, ack, nak, busy, silent, drop
+        b"a.toml: refused 5: cable 1: `plug` is `acknak`, not one of none, ack, nak, busy, silent
 a.toml: refused 5: event 1: `kind` is `budgte`, not one of attach, detach, demand, lose, damage, get_source, get_sink, \
 and under version 2 budget; hint: did you mean `budget`?
 a.toml: refused 5: event 2: `kind` is `Lose`, not one of attach, detach, demand, lose, damage, get_source, get_sink, \

@@ -38,7 +38,7 @@ mw = 4999
 
 const MANY_SAID: &[u8] =
     b"a.toml: refused 2: `colour` is no key of this table; there are version end budget port cable sink event
-a.toml: refused 5: cable 2: `plug` is `wide`, not one of none, ack, nak, busy, silent, drop
+a.toml: refused 5: cable 2: `plug` is `wide`, not one of none, ack, nak, busy, silent
 a.toml: refused 5: event 2: `at` is -1, not 0 to 120000000
 a.toml: refused 7: cable 2: `name` is `thin`, as of cable 1
 a.toml: refused 7: event 2: `id` is 1, as of event 1

@@ -25,7 +25,7 @@ kind_words =
     codes "attach" ∷ codes "detach" ∷ codes "demand" ∷ codes "lose" ∷ codes "damage" ∷ codes "get_source" ∷ codes "get_sink" ∷ []
 
 abbrev pub plug_words : List (List ℕ)
-plug_words = codes "none" ∷ codes "ack" ∷ codes "nak" ∷ codes "busy" ∷ codes "silent" ∷ codes "drop" ∷ []
+plug_words = codes "none" ∷ codes "ack" ∷ codes "nak" ∷ codes "busy" ∷ codes "silent" ∷ []
 
 abbrev pub mode_words : List (List ℕ)
 mode_words = codes "pd" ∷ codes "plain" ∷ codes "greedy" ∷ []

@@ -13,7 +13,7 @@ use pd_scenario_tables::{
 use std::alloc::AllocError;
 use toml::Value;
 
-const PLUGS: [&str; 6] = ["none", "ack", "nak", "busy", "silent", "drop"];
+const PLUGS: [&str; 5] = ["none", "ack", "nak", "busy", "silent"];
 
 const MODES: [&str; 3] = ["pd", "plain", "greedy"];
 

@@ -70,7 +70,7 @@ fn push_range(text: &mut Vec<u8>, ports: u64, form: Form) -> Result<(), AllocErr
         Form::VersionNumber => text.extend_from_slice(b"1 or 2"),
         Form::RatingNumber => text.extend_from_slice(b"3000 or 5000"),
         Form::RevisionNumber => text.extend_from_slice(b"2 or 3"),
-        Form::PlugWord => text.extend_from_slice(b"one of none, ack, nak, busy, silent, drop"),
+        Form::PlugWord => text.extend_from_slice(b"one of none, ack, nak, busy, silent"),
         Form::ModeWord => text.extend_from_slice(b"one of pd, plain, greedy"),
         Form::EventWord => text.extend_from_slice(
             b"one of attach, detach, demand, lose, damage, get_source, get_sink, and under version 2 budget",
