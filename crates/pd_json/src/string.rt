@@ -2,9 +2,11 @@
 
 ghost use Rattle.std.specs.Prelude.{◌≡◌, ◌<◌, ◌/◌, ◌%◌, ◌∷◌, ◌++◌, [], OnOk, codes};
 ghost use Rattle.std.specs.List.{flat_map};
-ghost use Rattle.pd_json.specs.Strings.{escaped, escaped_byte, hex_digit, string_text};
+ghost use Rattle.std.specs.Str.{is_utf8};
+ghost use Rattle.pd_json.specs.Strings.{ascii, ascii_byte, escaped, escaped_byte, hex_digit, shown, string_text};
 
 use std::alloc::AllocError;
+use std::str::from_utf8;
 
 fn hex_digit(n: u8) -> u8
     requires { n < 16 }
@@ -41,8 +43,48 @@ fn push_escaped(text: &mut Vec<u8>, words: &[u8]) -> Result<(), AllocError>
     Ok(())
 }
 
+fn push_ascii_byte(text: &mut Vec<u8>, byte: u8) -> Result<(), AllocError>
+    ensures { OnOk result (text.new.items ≡ text.old.items ++ ascii_byte byte) }
+{
+    if byte < 128 {
+        push_escaped_byte(text, byte)
+    } else {
+        text.extend_from_slice(b"?")
+    }
+}
+
+/// Writes a text with a question mark for each byte beyond ASCII.
+fn push_ascii(text: &mut Vec<u8>, words: &[u8]) -> Result<(), AllocError>
+    ensures { OnOk result (text.new.items ≡ text.old.items ++ ascii words.now) }
+{
+    for byte in words {
+        push_ascii_byte(text, *byte)?;
+    }
+    Ok(())
+}
+
+fn is_utf8(words: &[u8]) -> bool
+    ensures { result ≡ is_utf8 words.now }
+{
+    match from_utf8(words) {
+        Ok(_) => true,
+        Err(_) => false,
+    }
+}
+
+/// Writes a text, in ASCII alone where it is no UTF-8: all that is written is UTF-8.
+fn push_shown(text: &mut Vec<u8>, words: &[u8]) -> Result<(), AllocError>
+    ensures { OnOk result (text.new.items ≡ text.old.items ++ shown words.now) }
+{
+    if is_utf8(words) {
+        push_escaped(text, words)
+    } else {
+        push_ascii(text, words)
+    }
+}
+
 /// Writes a text as a JSON string: in quotes, where quotes and backslashes stand behind a backslash, and control characters as
-/// their numbers.
+/// their numbers. In a text that is no UTF-8, a byte beyond ASCII is a question mark.
 ///
 /// # Errors
 /// There is no memory; some of it may stand in the text.
@@ -51,6 +93,6 @@ pub fn push_string(text: &mut Vec<u8>, words: &[u8]) -> Result<(), AllocError>
     ensures { OnOk result (text.new.items ≡ text.old.items ++ string_text words.now) }
 {
     text.push(b'"')?;
-    push_escaped(text, words)?;
+    push_shown(text, words)?;
     text.extend_from_slice(b"\"")
 }
