@@ -34,14 +34,11 @@ before words text = take (place_of words text) text
 abbrev pub after : List ℕ → List ℕ → List ℕ
 after words text = drop (length words) (drop (place_of words text) text)
 
--- the last place of the words, in a text of which so many bytes are gone; the best so far where they don't stand in it
-unfoldable pub last_from : List ℕ → ℕ → ℕ → List ℕ → ℕ
-last_from words i best [] = best
-last_from words i best (b ∷ bs) = last_from words (suc i) (if begins words (b ∷ bs) then i else best) bs
-
--- how many bytes stand before the last place of the words, or in all
-abbrev pub last_place : List ℕ → List ℕ → ℕ
-last_place words text = last_from words 0 (length text) text
+-- how many bytes stand before the last place of the words, or in all: that place is in the tail where they stand there
+unfoldable pub last_place : List ℕ → List ℕ → ℕ
+last_place words [] = 0
+last_place words (b ∷ bs) =
+    if has words bs then suc (last_place words bs) else if begins words (b ∷ bs) then 0 else suc (length bs)
 
 abbrev pub before_last : List ℕ → List ℕ → List ℕ
 before_last words text = take (last_place words text) text
