@@ -43,12 +43,12 @@ a.toml: refused 3: port 1: `unconstrained` is 0, not true or false
         ScenarioFault::MissingKey,
         b"a.toml: refused 4: `budget` is missing
 a.toml: refused 4: port 1: `supplies` is missing
-a.toml: refused 4: event 1: `mw` is missing
-a.toml: refused 4: event 1: `port` is missing
-a.toml: refused 4: event 1: `at` is missing
-a.toml: refused 4: event 2: `mw` is missing
-a.toml: refused 4: event 2: `id` is missing
-a.toml: refused 4: event 2: `at` is missing
+a.toml: refused 4: event 1 (id 1, demand): `mw` is missing
+a.toml: refused 4: event 1 (id 1, demand): `port` is missing
+a.toml: refused 4: event 1 (id 1, demand): `at` is missing
+a.toml: refused 4: event 2 (budget): `mw` is missing
+a.toml: refused 4: event 2 (budget): `id` is missing
+a.toml: refused 4: event 2 (budget): `at` is missing
 ",
     ),
     (
@@ -79,10 +79,10 @@ a.toml: refused 5: sink 1: `revision` is 4, not 2 or 3
         b"version = 1\n[[port]]\n[[port]]\n[[event]]\nport = 2\nkind = \"lose\"\n[[event]]\nid = 0\nat = 120000001\nport = 3\n\
 kind = \"budget\"\n",
         ScenarioFault::Range,
-        b"a.toml: refused 5: event 2: `port` is 3, not 1 to 2
-a.toml: refused 5: event 2: `id` is 0, not 1 to 1000000
-a.toml: refused 5: event 2: `at` is 120000001, not 0 to 120000000
-a.toml: refused 5: event 2: `kind` is `budget`, not one of attach, detach, demand, lose, damage, get_source, get_sink, \
+        b"a.toml: refused 5: event 2 (id 0, port 3): `port` is 3, not 1 to 2
+a.toml: refused 5: event 2 (id 0, port 3): `id` is 0, not 1 to 1000000
+a.toml: refused 5: event 2 (id 0, port 3): `at` is 120000001, not 0 to 120000000
+a.toml: refused 5: event 2 (id 0, port 3): `kind` is `budget`, not one of attach, detach, demand, lose, damage, get_source, get_sink, \
 and under version 2 budget; hint: a change of the budget needs `version = 2`
 ",
     ),
@@ -92,7 +92,7 @@ kind = \"attach\"\ncable = \"12345678901234567\"\nsink = \"phone\"\n",
         ScenarioFault::Name,
         b"a.toml: refused 6: cable 1: `name` is ``, not 1 to 16 letters and digits
 a.toml: refused 6: sink 1: `name` is `a b?`, not 1 to 16 letters and digits
-a.toml: refused 6: event 1: `cable` is `12345678901234567`, not 1 to 16 letters and digits
+a.toml: refused 6: event 1 (attach): `cable` is `12345678901234567`, not 1 to 16 letters and digits
 ",
     ),
     (
@@ -118,8 +118,8 @@ a.toml: refused 2: port 1: `end` is no key of this table; there are floor suppli
 hint: it is a key of the top
 a.toml: refused 2: port 1: `flor` is no key of this table; there are floor supplies identity_tries unconstrained; \
 hint: did you mean `floor`?
-a.toml: refused 2: event 1: `cable` is no key of this table; there are port id at kind; hint: it is a key of [[event]] by its kind
-a.toml: refused 2: event 1: `ids` is no key of this table; there are port id at kind; hint: did you mean `id`?
+a.toml: refused 2: event 1 (lose): `cable` is no key of this table; there are port id at kind; hint: it is a key of [[event]] by its kind
+a.toml: refused 2: event 1 (lose): `ids` is no key of this table; there are port id at kind; hint: did you mean `id`?
 ",
     ),
     (

@@ -1,5 +1,5 @@
 -- What is told of a place as a JSON object: docs/FORMATS.md, "Objects".
-use Rattle.std.specs.Prelude.{ℕ, Bool, ◌&&◌, nat_lt, List, ◌++◌, length, drop, codes, if◌then◌else◌}
+use Rattle.std.specs.Prelude.{ℕ, Bool, ◌&&◌, nat_lt, List, [], ◌++◌, length, drop, codes, if◌then◌else◌}
 use Rattle.pd_json.specs.Strings.{string_text}
 use Rattle.pd_json.specs.Parts.{after, before, before_last, begins, behind_digits, behind_last, digits, digit_count, has}
 
@@ -37,6 +37,31 @@ table_members word text =
     string_member (codes "table") word
     ++ (number_member (codes "number") (digits text) ++ key_members (drop 2 (behind_digits text)))
 
+-- of an event its id, its port and its kind, where they are told in brackets behind its number
+unfoldable pub kind_members : List ℕ → List ℕ
+kind_members text = if nat_lt 0 (length text) then string_member (codes "kind") text else []
+
+unfoldable pub port_members : List ℕ → List ℕ
+port_members text =
+    if begins (codes "port ") text
+    then number_member (codes "port") (before (codes ", ") (drop 5 text)) ++ kind_members (after (codes ", ") text)
+    else kind_members text
+
+unfoldable pub id_members : List ℕ → List ℕ
+id_members text =
+    if begins (codes "id ") text
+    then number_member (codes "id") (before (codes ", ") (drop 3 text)) ++ port_members (after (codes ", ") text)
+    else port_members text
+
+abbrev pub is_told : List ℕ → Bool
+is_told text = nat_lt 0 (digit_count text) && (begins (codes " (") (behind_digits text) && has (codes "): ") text)
+
+unfoldable pub event_members : List ℕ → List ℕ
+event_members text =
+    string_member (codes "table") (codes "event")
+    ++ (number_member (codes "number") (digits text)
+    ++ (id_members (before (codes "): ") (drop 2 (behind_digits text))) ++ key_members (after (codes "): ") text)))
+
 abbrev pub is_of : List ℕ → List ℕ → Bool
 is_of word text = begins word text && is_numbered (drop (length word) text)
 
@@ -46,6 +71,7 @@ place_members text =
     else if is_of (codes "cable ") text then table_members (codes "cable") (drop 6 text)
     else if is_of (codes "sink ") text then table_members (codes "sink") (drop 5 text)
     else if is_of (codes "event ") text then table_members (codes "event") (drop 6 text)
+    else if begins (codes "event ") text && is_told (drop 6 text) then event_members (drop 6 text)
     else key_members text
 
 -- ---- what it is

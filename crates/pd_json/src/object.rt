@@ -3,6 +3,7 @@
 ghost use Rattle.std.specs.Prelude.{◌≡◌, ◌++◌, OnOk};
 ghost use Rattle.pd_json.specs.Objects.{failed_members, file_members, is_keyed, is_numbered, is_of, key_members, line_members};
 ghost use Rattle.pd_json.specs.Objects.{members, number_member, object_text, place_members, refusal_members, string_member, table_members};
+ghost use Rattle.pd_json.specs.Objects.{event_members, id_members, is_told, kind_members, port_members};
 ghost use Rattle.pd_json.specs.Objects.{told_members, warning_members, words_members};
 
 use crate::parts::{
@@ -78,6 +79,61 @@ fn push_table(text: &mut Vec<u8>, word: &[u8], words: &[u8]) -> Result<(), Alloc
     push_key(text, behind(behind_digits(words), 2))
 }
 
+/// Writes the kind of an event, where it is told.
+#[tactic(auto, unfolding(crate::specs::Objects::kind_members))]
+fn push_kind(text: &mut Vec<u8>, words: &[u8]) -> Result<(), AllocError>
+    ensures { OnOk result (text.new.items ≡ text.old.items ++ kind_members words.now) }
+{
+    if words.is_empty() {
+        Ok(())
+    } else {
+        push_member(text, b"kind", words)
+    }
+}
+
+/// Writes the port of an event and its kind, where they are told.
+#[tactic(auto, unfolding(crate::specs::Objects::port_members))]
+fn push_port(text: &mut Vec<u8>, words: &[u8]) -> Result<(), AllocError>
+    ensures { OnOk result (text.new.items ≡ text.old.items ++ port_members words.now) }
+{
+    if begins(b"port ", words) {
+        push_number(text, b"port", before(b", ", behind(words, 5)))?;
+        push_kind(text, after(b", ", words))
+    } else {
+        push_kind(text, words)
+    }
+}
+
+/// Writes the id of an event, its port and its kind, where they are told.
+#[tactic(auto, unfolding(crate::specs::Objects::id_members))]
+fn push_id(text: &mut Vec<u8>, words: &[u8]) -> Result<(), AllocError>
+    ensures { OnOk result (text.new.items ≡ text.old.items ++ id_members words.now) }
+{
+    if begins(b"id ", words) {
+        push_number(text, b"id", before(b", ", behind(words, 3)))?;
+        push_port(text, after(b", ", words))
+    } else {
+        push_port(text, words)
+    }
+}
+
+fn is_told(words: &[u8]) -> bool
+    ensures { result ≡ is_told words.now }
+{
+    0 < digit_count(words) && begins(b" (", behind_digits(words)) && has(b"): ", words)
+}
+
+/// Writes an event by its number and by what is told in brackets, and what is told of it.
+#[tactic(auto, unfolding(crate::specs::Objects::event_members))]
+fn push_event(text: &mut Vec<u8>, words: &[u8]) -> Result<(), AllocError>
+    ensures { OnOk result (text.new.items ≡ text.old.items ++ event_members words.now) }
+{
+    push_member(text, b"table", b"event")?;
+    push_number(text, b"number", digits(words))?;
+    push_id(text, before(b"): ", behind(behind_digits(words), 2)))?;
+    push_key(text, after(b"): ", words))
+}
+
 fn is_of(word: &[u8], words: &[u8]) -> bool
     ensures { result ≡ is_of word.now words.now }
 {
@@ -97,6 +153,8 @@ fn push_place(text: &mut Vec<u8>, words: &[u8]) -> Result<(), AllocError>
         push_table(text, b"sink", behind(words, 5))
     } else if is_of(b"event ", words) {
         push_table(text, b"event", behind(words, 6))
+    } else if begins(b"event ", words) && is_told(behind(words, 6)) {
+        push_event(text, behind(words, 6))
     } else {
         push_key(text, words)
     }

@@ -1,5 +1,5 @@
 -- What is told of the tables of a list, a table at a time.
-use Rattle.std.proofs.Common.{◌≡◌, ℕ, ◌+◌, List, [], ◌∷◌, ◌++◌, refl, sym, ap, ◌∙◌, append_assoc, codes, ◌<◌, length, drop, get_or}
+use Rattle.std.proofs.Common.{◌≡◌, ℕ, ◌+◌, List, [], ◌∷◌, ◌++◌, refl, sym, ap, ◌∙◌, append_assoc, ◌<◌, length, drop, get_or}
 use Rattle.std.proofs.lemmas.List.{append-nil, at_drop_more}
 use Rattle.toml.specs.Data.{Members}
 use Rattle.pd_scenario_tables.specs.declared.schema.Version.{Version}
@@ -7,7 +7,7 @@ use Rattle.pd_scenario_tables.specs.declared.schema.TableKind.{TableKind}
 use Rattle.pd_scenario_tables.specs.declared.schema.TableKind.TheVariants.{Event}
 use Rattle.pd_scenario_tables.specs.declared.fault.ScenarioFault.{ScenarioFault}
 use Rattle.pd_scenario_tables.specs.Tables.{event_at}
-use Rattle.pd_misfits.specs.Lines.{table_front, table_text, list_text, events_text}
+use Rattle.pd_misfits.specs.Lines.{table_front, event_front, table_text, list_text, events_text}
 
 list_first : (front word : List ℕ) (refusal : ScenarioFault) (version : Version) (ports : ℕ) (kind : TableKind) (number : ℕ) (t : Members)
     (ts : List Members)
@@ -24,7 +24,7 @@ list_none front word refusal version ports kind number = refl
 
 events_first : (front : List ℕ) (refusal : ScenarioFault) (version : Version) (ports number : ℕ) (t : Members) (ts : List Members)
     → events_text front refusal version ports number (t ∷ ts)
-    ≡ table_text (table_front front (codes "event") number) refusal version ports (Event (event_at version t)) t
+    ≡ table_text (event_front front version number t) refusal version ports (Event (event_at version t)) t
     ++ events_text front refusal version ports (number + 1) ts
 unfolding events_text
 events_first front refusal version ports number t ts = refl
@@ -59,11 +59,11 @@ all_listed whole text front word refusal version ports kind number so_far =
 -- one more event
 pub more_events : (whole text text' front own : List ℕ) (refusal : ScenarioFault) (version : Version) (ports number : ℕ) (t : Members)
     (ts : List Members)
-    → whole ≡ text ++ events_text front refusal version ports number (t ∷ ts) → own ≡ table_front front (codes "event") number
+    → whole ≡ text ++ events_text front refusal version ports number (t ∷ ts) → own ≡ event_front front version number t
     → text' ≡ text ++ table_text own refusal version ports (Event (event_at version t)) t
     → whole ≡ text' ++ events_text front refusal version ports (number + 1) ts
 more_events whole text text' front own refusal version ports number t ts so_far place said =
-    written whole text text' (table_text (table_front front (codes "event") number) refusal version ports (Event (event_at version t)) t)
+    written whole text text' (table_text (event_front front version number t) refusal version ports (Event (event_at version t)) t)
     (events_text front refusal version ports (number + 1) ts)
     (so_far ∙ ap (λ s. text ++ s) (events_first front refusal version ports number t ts))
     (said ∙ ap (λ a. text ++ table_text a refusal version ports (Event (event_at version t)) t) place)

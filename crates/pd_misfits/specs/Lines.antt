@@ -1,8 +1,12 @@
 -- The lines that tell where the tables of a scenario file break the rule of a refusal.
-use Rattle.std.specs.Prelude.{ℕ, ◌+◌, List, [], ◌∷◌, ◌++◌, length, codes, decimal, Option, None, Some, if◌then◌else◌}
+use Rattle.std.specs.Prelude.{ℕ, ◌+◌, List, [], ◌∷◌, ◌++◌, length, drop, nat_lt, codes, decimal, Option, None, Some, if◌then◌else◌}
 use Rattle.std.specs.List.{flat_map}
-use Rattle.toml.specs.Data.{Data, Members}
+use Rattle.std.specs.Fmt.{signed_decimal}
+use Rattle.toml.specs.Data.{Data, Members, string, integer}
 use Rattle.pd_scenario_tables.specs.declared.schema.Version.{Version}
+use Rattle.pd_scenario_tables.specs.declared.schema.EventName.{EventName}
+use Rattle.pd_scenario_tables.specs.declared.schema.EventName.TheVariants.{OnPort, Budget, Unknown}
+use Rattle.pd_scenario_tables.specs.declared.schema.Key.TheVariants as key
 use Rattle.pd_scenario_tables.specs.declared.schema.TableKind.{TableKind}
 use Rattle.pd_scenario_tables.specs.declared.schema.TableKind.TheVariants.{Top, Port, Cable, Sink, Event}
 use Rattle.pd_scenario_tables.specs.declared.schema.Rule.{Rule}
@@ -68,6 +72,39 @@ file_front name refusal = name ++ (codes ": refused " ++ (decimal (number_of ref
 unfoldable pub table_front : List ℕ → List ℕ → ℕ → List ℕ
 table_front front word number = front ++ (word ++ (32 ∷ (decimal number ++ codes ": ")))
 
+-- ---- an event by its place, and by its id, its port and its kind where these can be read
+
+-- a whole number behind its name
+abbrev pub whole_part : List ℕ → Option Data → List ℕ
+whole_part word (Some (integer z)) = word ++ signed_decimal z
+whole_part word _ = []
+
+abbrev pub word_part : Option Data → List ℕ
+word_part (Some (string word)) = codes ", " ++ word
+word_part _ = []
+
+-- a kind that the file's version has
+abbrev pub known_part : EventName → Option Data → List ℕ
+known_part Unknown d = []
+known_part (OnPort kind) d = word_part d
+known_part Budget d = word_part d
+
+unfoldable pub event_parts : Version → Members → List ℕ
+event_parts version t =
+    whole_part (codes ", id ") (value_at key.Id t)
+    ++ (whole_part (codes ", port ") (value_at key.Port t) ++ known_part (event_at version t) (value_at key.Kind t))
+
+-- in brackets, without the first comma
+unfoldable pub in_brackets : List ℕ → List ℕ
+in_brackets parts = codes " (" ++ (drop 2 parts ++ codes ")")
+
+abbrev pub bracketed : List ℕ → List ℕ
+bracketed parts = if nat_lt 0 (length parts) then in_brackets parts else []
+
+unfoldable pub event_front : List ℕ → Version → ℕ → Members → List ℕ
+event_front front version number t =
+    front ++ (codes "event " ++ (decimal number ++ (bracketed (event_parts version t) ++ codes ": ")))
+
 -- the tables of a kind, the first of which has this number
 unfoldable pub list_text : List ℕ → List ℕ → ScenarioFault → Version → ℕ → TableKind → ℕ → List Members → List ℕ
 list_text front word refusal version ports kind number [] = []
@@ -79,7 +116,7 @@ list_text front word refusal version ports kind number (t ∷ ts) =
 unfoldable pub events_text : List ℕ → ScenarioFault → Version → ℕ → ℕ → List Members → List ℕ
 events_text front refusal version ports number [] = []
 events_text front refusal version ports number (t ∷ ts) =
-    table_text (table_front front (codes "event") number) refusal version ports (Event (event_at version t)) t
+    table_text (event_front front version number t) refusal version ports (Event (event_at version t)) t
     ++ events_text front refusal version ports (number + 1) ts
 
 unfoldable pub lists_text : List ℕ → ScenarioFault → Version → ℕ → Tables → List ℕ
@@ -95,3 +132,7 @@ tables_text front refusal ports d =
 -- each place of a file at which the rule of a refusal of single tables is broken, in the order of the file's tables
 abbrev pub file_text : List ℕ → ScenarioFault → Tables → List ℕ
 file_text name refusal d = tables_text (file_front name refusal) refusal (length d.ports) d
+
+-- the same of its top table alone, whose rules need no count of the ports
+abbrev pub top_text : List ℕ → ScenarioFault → Tables → List ℕ
+top_text name refusal d = table_text (file_front name refusal) refusal d.version (length d.ports) Top d.top

@@ -5,8 +5,9 @@ ghost use Rattle.toml.specs.View.{table_view};
 ghost use Rattle.pd_scenario_tables.specs.Seen.{views};
 ghost use Rattle.pd_scenario_tables.specs.Tables.{tables_at};
 ghost use Rattle.pd_scenario_text.specs.FileTables.{tables_of};
-ghost use Rattle.pd_misfits.specs.Lines.{file_front, table_front, list_text, events_text, lists_text, tables_text, file_text};
+ghost use Rattle.pd_misfits.specs.Lines.{file_front, table_front, list_text, events_text, lists_text, tables_text, file_text, top_text};
 
+use crate::event::event_front;
 use crate::table::{Refused, push_table};
 use crate::values::push_number;
 use pd_scenario_tables::{Key, ScenarioFault, TableKind, event_at, tables_at, version_at};
@@ -71,7 +72,7 @@ fn push_events(
 {
     let mut number = 1;
     for table in tables {
-        let own = table_front(alloc, front, "event", number)?;
+        let own = event_front(alloc, front, refused.version, number, table)?;
         let kind = TableKind::Event(event_at(refused.version, table));
         push_table(text, own.as_slice(), refused, kind, table)?;
         number += 1;
@@ -181,5 +182,29 @@ pub fn explain_tables(
         ports.len() as u64,
         top,
     )?;
+    Ok(text)
+}
+
+/// The lines of those places that are in the top table, whose rules need no count of the ports.
+///
+/// # Errors
+/// There is no memory.
+pub fn explain_top(
+    alloc: Global,
+    name: &[u8],
+    fault: ScenarioFault,
+    top: &Table,
+) -> Result<Vec<u8>, AllocError>
+    ensures { IfOk result (λ v. v.items ≡ top_text name.now fault (tables_of (table_view top.now))) }
+{
+    let front = file_front(alloc, name, fault)?;
+    let ports = tables_at(alloc, top, Key::Port)?;
+    let refused = Refused {
+        fault,
+        version: version_at(top),
+        ports: ports.len() as u64,
+    };
+    let mut text = Vec::new(alloc);
+    push_table(&mut text, front.as_slice(), refused, TableKind::Top, top)?;
     Ok(text)
 }

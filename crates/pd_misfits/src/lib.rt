@@ -1,6 +1,7 @@
 //! Where tables of a scenario file break the rule of a refusal, and what would be right there.
 #![tactic(auto)]
 
+mod event;
 mod file;
 mod hints;
 mod table;
@@ -8,6 +9,7 @@ mod text;
 mod values;
 mod wanted;
 
-pub use file::{explain_tables, file_front, table_front};
+pub use event::event_front;
+pub use file::{explain_tables, explain_top, file_front, table_front};
 pub use text::{explain_file, push_line};
 pub use values::{push_number, push_quoted};

@@ -29,7 +29,7 @@ pub fn push_behind(text: &mut Vec<u8>, front: &str, number: u64) -> Result<(), A
 }
 
 /// Writes a number in decimal digits, with its sign where it is negative.
-fn push_signed(text: &mut Vec<u8>, number: i64) -> Result<(), AllocError>
+pub fn push_signed(text: &mut Vec<u8>, number: i64) -> Result<(), AllocError>
     ensures { OnOk result (text.new.items ≡ text.old.items ++ signed_decimal number) }
 {
     let mut buffer = Buffer::new();

@@ -30,10 +30,10 @@ use Rattle.pd_scenario_text.specs.FileTables.{Tables, scenario_of}
 use Rattle.pd_scenario_text.specs.Refusals.{fails_somewhere, exceeds_budget}
 use Rattle.pd_scenario_text.proofs.Decided.{Clean}
 use Rattle.pd_scenario_text.proofs.Valid.{sound_events}
-use Rattle.pd_misfits.specs.Lines.{table_front}
+use Rattle.pd_misfits.specs.Lines.{event_front}
 use Rattle.pd_places.specs.Funds.{floors_of, low_sentence, low_part, named_low_part, event_low_part, budgets_text, funds_text}
 use Rattle.pd_places.proofs.Told.{Told, or_told, if_told, each_told}
-use Rattle.pd_places.proofs.TablesTold.{numbered_told}
+use Rattle.pd_places.proofs.TablesTold.{event_told}
 
 -- ---- the top is sound
 
@@ -143,8 +143,8 @@ budgets_told front ports d clean =
     subst (λ b. Told front b (budgets_text front d)) (budgets_are d)
     (or_told front _ _ _ _ (top_told front ports floors d clean)
     (each_told front (is_sound_event d.version ports) (changed floors d.version) (event_low_part front d.version floors)
-    (λ number t sound. numbered_told front (codes "event") number _ _
-    (named_told (table_front front (codes "event") number) d.version ports floors (event_at d.version t) t sound))
+    (λ number t sound. event_told front d.version number t _ _
+    (named_told (event_front front d.version number t) d.version ports floors (event_at d.version t) t sound))
     1 d.events (sound_events ports d clean)))
 
 pub funds_told : (front : List ℕ) (ports : ℕ) (d : Tables) → nat_lt 8 (length d.ports) ≡ false → Clean ports d

@@ -26,10 +26,10 @@ use Rattle.pd_scenario_text.specs.Refusals.{has_unknown_name}
 use Rattle.pd_scenario_text.proofs.Decided.{Clean}
 use Rattle.pd_scenario_text.proofs.Valid.{sound_events}
 use Rattle.pd_places.specs.Same.{names_of}
-use Rattle.pd_misfits.specs.Lines.{table_front}
+use Rattle.pd_misfits.specs.Lines.{event_front}
 use Rattle.pd_places.specs.Known.{stranger_sentence, stranger_part, attach_part, kind_part, named_part, event_known_part, known_text}
 use Rattle.pd_places.proofs.Told.{Told, or_told, if_told, each_told}
-use Rattle.pd_places.proofs.TablesTold.{numbered_told}
+use Rattle.pd_places.proofs.TablesTold.{event_told}
 
 -- ---- names
 
@@ -115,6 +115,6 @@ known_told front ports d clean =
     subst (λ b. Told front b (known_text front d)) (not_all known (event_of d.version) d.events)
     (each_told front (is_sound_event d.version ports) (λ t. not (known (event_of d.version t)))
     (event_known_part front d.version (names_of d.cables) (names_of d.sinks))
-    (λ number t sound. numbered_told front (codes "event") number _ _
-    (named_told (table_front front (codes "event") number) d.version ports d.cables d.sinks (event_at d.version t) t sound))
+    (λ number t sound. event_told front d.version number t _ _
+    (named_told (event_front front d.version number t) d.version ports d.cables d.sinks (event_at d.version t) t sound))
     1 d.events (sound_events ports d clean))

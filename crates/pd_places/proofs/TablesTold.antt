@@ -16,6 +16,7 @@ use Rattle.pd_scenario_text.specs.Refusals.{fails_somewhere}
 use Rattle.pd_misfits.specs.Sentences.{value_sentence, missing_sentence, unknown_sentence}
 use Rattle.pd_misfits.specs.Hints.{key_hint}
 use Rattle.pd_misfits.specs.Lines.{value_part, missing_part, rule_part, key_part, unknown_line, known_keys, table_text, table_front}
+use Rattle.pd_misfits.specs.Lines.{event_front, event_parts, bracketed}
 use Rattle.pd_misfits.specs.Lines.{list_text, events_text, lists_text, tables_text}
 use Rattle.pd_places.proofs.Told.{Told, or_told, any_told, shorter, unless_told, required_told, none_told}
 
@@ -57,6 +58,12 @@ pub numbered_told : (front word : List ℕ) (number : ℕ) (b : Bool) (text : Li
 unfolding table_front
 numbered_told front word number b text told = shorter front (word ++ (32 ∷ (decimal number ++ codes ": "))) b text told
 
+pub event_told : (front : List ℕ) (version : Version) (number : ℕ) (t : Members) (b : Bool) (text : List ℕ)
+    → Told (event_front front version number t) b text → Told front b text
+unfolding event_front
+event_told front version number t b text told =
+    shorter front (codes "event " ++ (decimal number ++ (bracketed (event_parts version t) ++ codes ": "))) b text told
+
 list_told : (front word : List ℕ) (refusal : ScenarioFault) (version : Version) (ports : ℕ) (kind : TableKind) (number : ℕ)
     (ts : List Members)
     → Told front (list_any (fails refusal version ports kind) ts) (list_text front word refusal version ports kind number ts)
@@ -75,10 +82,10 @@ unfolding events_text
 events_told front refusal version ports number [] = refl
 events_told front refusal version ports number (t ∷ ts) =
     or_told front (event_fails refusal version ports t) (list_any (event_fails refusal version ports) ts)
-    (table_text (table_front front (codes "event") number) refusal version ports (Event (event_at version t)) t)
+    (table_text (event_front front version number t) refusal version ports (Event (event_at version t)) t)
     (events_text front refusal version ports (number + 1) ts)
-    (numbered_told front (codes "event") number _ _
-    (table_told (table_front front (codes "event") number) refusal version ports (Event (event_at version t)) t))
+    (event_told front version number t _ _
+    (table_told (event_front front version number t) refusal version ports (Event (event_at version t)) t))
     (events_told front refusal version ports (number + 1) ts)
 
 -- all tables

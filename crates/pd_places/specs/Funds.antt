@@ -11,7 +11,7 @@ use Rattle.pd_scenario_tables.specs.Schema.{text_of, top_rules, port_rules, even
 use Rattle.pd_scenario_tables.specs.Tables.{number_at, event_at}
 use Rattle.pd_scenario_text.specs.FileTables.{Tables}
 use Rattle.pd_misfits.specs.Sentences.{quoted}
-use Rattle.pd_misfits.specs.Lines.{line, table_front}
+use Rattle.pd_misfits.specs.Lines.{line, event_front}
 use Rattle.pd_places.specs.Numbered.{numbered}
 
 -- what the floors of ports add to, in mW
@@ -34,7 +34,7 @@ named_low_part front floors event.Unknown t = []
 
 abbrev pub event_low_part : List ℕ → Version → ℕ → ℕ → Members → List ℕ
 event_low_part front version floors number t =
-    named_low_part (table_front front (codes "event") number) floors (event_at version t) t
+    named_low_part (event_front front version number t) floors (event_at version t) t
 
 -- ---- a file; where it has more ports than there may be, that is told instead
 

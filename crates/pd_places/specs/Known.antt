@@ -14,7 +14,7 @@ use Rattle.pd_scenario_tables.specs.Schema.{text_of}
 use Rattle.pd_scenario_tables.specs.Tables.{word_at, event_at}
 use Rattle.pd_scenario_text.specs.FileTables.{Tables}
 use Rattle.pd_misfits.specs.Sentences.{quoted}
-use Rattle.pd_misfits.specs.Lines.{line, table_front}
+use Rattle.pd_misfits.specs.Lines.{line, event_front}
 use Rattle.pd_places.specs.Numbered.{numbered}
 use Rattle.pd_places.specs.Same.{names_of}
 
@@ -57,7 +57,7 @@ named_part front cables sinks event.Unknown t = []
 
 abbrev pub event_known_part : List ℕ → Version → List (List ℕ) → List (List ℕ) → ℕ → Members → List ℕ
 event_known_part front version cables sinks number t =
-    named_part (table_front front (codes "event") number) cables sinks (event_at version t) t
+    named_part (event_front front version number t) cables sinks (event_at version t) t
 
 -- ---- a file
 

@@ -7,7 +7,7 @@ ghost use Rattle.pd_misfits.specs.Lines.{line};
 ghost use Rattle.pd_places.specs.Numbered.{numbered};
 ghost use Rattle.pd_places.specs.Funds.{low_sentence, low_part, event_low_part};
 
-use pd_misfits::{push_line, push_number, push_quoted, table_front};
+use pd_misfits::{event_front, push_line, push_number, push_quoted};
 use pd_scenario_tables::{EventName, Key, Version, event_at, number_at};
 use std::alloc::{AllocError, Global};
 use toml::Table;
@@ -58,7 +58,7 @@ fn push_event_low(
 {
     match event_at(version, table) {
         EventName::Budget => {
-            let own = table_front(alloc, front, "event", number)?;
+            let own = event_front(alloc, front, version, number, table)?;
             let mw = u64::from(number_at(table, Key::Mw));
             push_low(alloc, text, own.as_slice(), Key::Mw, mw, floors)
         }

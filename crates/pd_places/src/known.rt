@@ -11,7 +11,7 @@ ghost use Rattle.pd_places.specs.Known.{name_word, names_text, plain_stranger, s
 ghost use Rattle.pd_places.specs.Known.{event_known_part, stranger_part, attach_part};
 
 use crate::collect::word_at;
-use pd_misfits::{push_line, push_quoted, table_front};
+use pd_misfits::{event_front, push_line, push_quoted};
 use pd_near::{nearest, push_meant};
 use pd_scenario_tables::{EventName, Key, Version, event_at};
 use pd_setup::EventKind;
@@ -166,7 +166,7 @@ fn push_event_known(
 {
     match event_at(version, table) {
         EventName::OnPort(EventKind::Attach { .. }) => {
-            let own = table_front(alloc, front, "event", number)?;
+            let own = event_front(alloc, front, version, number, table)?;
             push_attach(alloc, text, own.as_slice(), names.0, names.1, table)
         }
         _ => Ok(()),

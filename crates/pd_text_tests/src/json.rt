@@ -3,7 +3,7 @@
 use pd_json::push_object;
 use std::test::Fail;
 
-const LINES: [(&[u8], &[u8]); 11] = [
+const LINES: [(&[u8], &[u8]); 16] = [
     (
         b": refused 2: port 12: `flor` is no key of this table; there are floor; hint: did you mean `floor`?",
         b"{\"file\":\"a\\\"b\",\"refusal\":2,\"table\":\"port\",\"number\":12,\"key\":\"flor\",\
@@ -48,6 +48,29 @@ const LINES: [(&[u8], &[u8]); 11] = [
     (
         b":5: not tried: no id is free",
         b"{\"file\":\"c\",\"line\":5,\"not_tried\":\"no id is free\"}\n",
+    ),
+    (
+        b":6: not lost: caf\xc3\xa9 \"",
+        b"{\"file\":\"c\",\"line\":6,\"not_lost\":\"caf\xc3\xa9 \\\"\"}\n",
+    ),
+    (
+        b":7: not lost: caf\xe9 \xc3\xa9\x01\"",
+        b"{\"file\":\"c\",\"line\":7,\"not_lost\":\"caf? ??\\u0001\\\"\"}\n",
+    ),
+    (
+        b": refused 5: event 3 (id 9, port 1, detach): `at` is 5): 6, not 0 to 120000000",
+        b"{\"file\":\"a\\\"b\",\"refusal\":5,\"table\":\"event\",\"number\":3,\"id\":9,\"port\":1,\"kind\":\"detach\",\"key\":\"at\",\
+\"sentence\":\"`at` is 5): 6, not 0 to 120000000\"}\n",
+    ),
+    (
+        b": refused 4: event 12 (id -7, budget): `at` is missing",
+        b"{\"file\":\"a\\\"b\",\"refusal\":4,\"table\":\"event\",\"number\":12,\"id\":-7,\"kind\":\"budget\",\"key\":\"at\",\
+\"sentence\":\"`at` is missing\"}\n",
+    ),
+    (
+        b": refused 4: event 1 (port 2): `id` is missing",
+        b"{\"file\":\"a\\\"b\",\"refusal\":4,\"table\":\"event\",\"number\":1,\"port\":2,\"key\":\"id\",\
+\"sentence\":\"`id` is missing\"}\n",
     ),
 ];
 
