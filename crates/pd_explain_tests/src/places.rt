@@ -57,7 +57,7 @@ fn many_refusals(rt: HostRuntime) -> Result<(), Fail> {
     Ok(())
 }
 
-/// A port more than there may be: the other refusals aren't told.
+/// A port more than there may be: of the other refusals those of the top table are told.
 #[test]
 fn nine_ports(rt: HostRuntime) -> Result<(), Fail> {
     let text =
@@ -65,7 +65,13 @@ fn nine_ports(rt: HostRuntime) -> Result<(), Fail> {
     let said = explain_places(rt.alloc(), b"a\nb", text)?;
     assert_eq!(rt;
         said.as_slice(),
-        b"a?b: refused 11: there are 9 ports, not 1 to 8\n".as_slice()
+        b"a?b: refused 11: there are 9 ports, not 1 to 8
+a?b: refused 2: `colour` is no key of this table; there are version end budget port cable sink event
+a?b: refused 4: `version` is missing
+a?b: refused 4: `end` is missing
+a?b: refused 4: `budget` is missing
+"
+            .as_slice()
     );
     Ok(())
 }

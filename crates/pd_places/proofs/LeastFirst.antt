@@ -15,7 +15,7 @@ use Rattle.pd_scenario_text.specs.Refusals.{applies, refusals, refusal}
 use Rattle.pd_scenario_text.specs.Reading.{answered, reading}
 use Rattle.pd_scenario_text.proofs.Decided.{Clean}
 use Rattle.pd_misfits.specs.Lines.{file_front}
-use Rattle.pd_places.specs.Places.{refusal_text, told_refusals, places_text}
+use Rattle.pd_places.specs.Places.{refusal_text, other_text, top_refusals, counted_text, places_text}
 use Rattle.pd_places.specs.First.{Begins, IsRefusedFor}
 use Rattle.pd_places.proofs.Told.{Told, begins_on, one_told}
 use Rattle.pd_places.proofs.TablesTold.{tables_told}
@@ -84,11 +84,12 @@ refused_for (Some first) c k h = let same : first ≡ k = cc in ap (λ (f : Scen
 
 pub least_first : (name : List ℕ) (k : ScenarioFault) (t : Members) → IsRefusedFor k t → Begins (file_front name k) (places_text name t)
 least_first name k t (inl uncounted) =
-    subst (λ (r : Result ℕ ScenarioFault). Begins (file_front name k) (texts_of name (tables_of t) (told_refusals r))) (sym uncounted)
-    (begins_on (file_front name k) (refusal_text name k (tables_of t)) [] (uncounted_told name t k uncounted))
+    subst (λ (r : Result ℕ ScenarioFault). Begins (file_front name k) (counted_text name (tables_of t) r)) (sym uncounted)
+    (begins_on (file_front name k) (refusal_text name k (tables_of t)) (flat_map (other_text name k (tables_of t)) top_refusals)
+    (uncounted_told name t k uncounted))
 least_first name k t (inr (ports, is, read)) =
     let d = tables_of t in
     let (same, within) = counted_ports t ports is in
     let refused = subst (λ n. reading n t ≡ Err k) (sym same) read in
-    subst (λ (r : Result ℕ ScenarioFault). Begins (file_front name k) (texts_of name d (told_refusals r))) (sym is)
+    subst (λ (r : Result ℕ ScenarioFault). Begins (file_front name k) (counted_text name d r)) (sym is)
     (all_lead name d within k (refused_for (refusal (length d.ports) d) (scenario_of d) k refused))

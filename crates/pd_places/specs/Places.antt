@@ -5,11 +5,12 @@ use Rattle.std.specs.List.{flat_map}
 use Rattle.toml.specs.Data.{Members}
 use Rattle.pd_scenario_tables.specs.declared.fault.ScenarioFault.{ScenarioFault}
 use Rattle.pd_scenario_tables.specs.declared.fault.ScenarioFault.TheVariants as fault
+use Rattle.pd_scenario_tables.specs.Numbers.{number_of}
 use Rattle.pd_scenario_tables.specs.Ports.{counted}
 use Rattle.pd_scenario_text.specs.FileTables.{Tables, tables_of}
 use Rattle.pd_scenario_text.specs.Reading.{IsTextOf}
 use Rattle.pd_scenario_text.specs.Refusals.{refusals}
-use Rattle.pd_misfits.specs.Lines.{file_front, file_text}
+use Rattle.pd_misfits.specs.Lines.{file_front, file_text, top_text}
 use Rattle.pd_misfits.specs.Texts.{ends_line, TellsSyntax}
 use Rattle.pd_places.specs.Same.{same_text}
 use Rattle.pd_places.specs.Funds.{funds_text}
@@ -26,14 +27,22 @@ refusal_text name fault.UnknownName d = known_text (file_front name fault.Unknow
 refusal_text name fault.Limit d = counts_text (file_front name fault.Limit) d
 refusal_text name refusal d = file_text name refusal d
 
--- the refusals that are told: where the ports can't be counted, that alone
-abbrev pub told_refusals : Result ℕ ScenarioFault → List ScenarioFault
-told_refusals (Ok ports) = refusals
-told_refusals (Err refusal) = refusal ∷ []
+-- the refusals whose rules the top table has, and which need no count of the ports
+abbrev pub top_refusals : List ScenarioFault
+top_refusals = fault.UnknownKey ∷ fault.WrongType ∷ fault.MissingKey ∷ fault.Range ∷ []
+
+-- the places of the top table at which one of them applies, but for the refusal that is told already
+abbrev pub other_text : List ℕ → ScenarioFault → Tables → ScenarioFault → List ℕ
+other_text name refusal d other = if number_of other == number_of refusal then [] else top_text name other d
+
+-- where the ports can't be counted, that is told first, and of the others what is in the top table
+abbrev pub counted_text : List ℕ → Tables → Result ℕ ScenarioFault → List ℕ
+counted_text name d (Ok ports) = flat_map (λ refusal. refusal_text name refusal d) refusals
+counted_text name d (Err refusal) = refusal_text name refusal d ++ flat_map (other_text name refusal d) top_refusals
 
 -- the least refusal first, then in the order of the file's tables
 abbrev pub places_text : List ℕ → Members → List ℕ
-places_text name t = flat_map (λ refusal. refusal_text name refusal (tables_of t)) (told_refusals (counted t))
+places_text name t = counted_text name (tables_of t) (counted t)
 
 -- ---- twenty of them
 

@@ -12,17 +12,25 @@ ghost use Rattle.pd_places.specs.Same.{same_text};
 ghost use Rattle.pd_places.specs.Funds.{budgets_text, funds_text};
 ghost use Rattle.pd_places.specs.Known.{known_text};
 ghost use Rattle.pd_places.specs.Counts.{counts_text};
-ghost use Rattle.pd_places.specs.Places.{refusal_text, places_text};
+ghost use Rattle.pd_places.specs.Places.{other_text, refusal_text, places_text};
 
 use crate::collect::{floors_of, ids_of, names_of};
 use crate::counts::push_count;
 use crate::funds::{push_events_low, push_low};
 use crate::known::push_events_known;
 use crate::same::{push_same_ids, push_same_names};
-use pd_misfits::{explain_tables, file_front};
+use pd_misfits::{explain_tables, explain_top, file_front};
 use pd_scenario_tables::{Key, ScenarioFault, counted, number_at, tables_at, version_at};
 use std::alloc::{AllocError, Global};
 use toml::Table;
+
+/// The refusals whose rules the top table has, and which need no count of the ports.
+const TOP_REFUSALS: [ScenarioFault; 4] = [
+    ScenarioFault::UnknownKey,
+    ScenarioFault::WrongType,
+    ScenarioFault::MissingKey,
+    ScenarioFault::Range,
+];
 
 /// The refusals of tables, the least number first.
 const REFUSALS: [ScenarioFault; 10] = [
@@ -185,9 +193,45 @@ fn push_refusals(
     Ok(())
 }
 
+/// Writes where another refusal than one that is told already applies in the top table.
+fn push_other(
+    alloc: Global,
+    text: &mut Vec<u8>,
+    name: &[u8],
+    fault: ScenarioFault,
+    top: &Table,
+    other: ScenarioFault,
+) -> Result<(), AllocError>
+    ensures { OnOk result (text.new.items ≡ text.old.items ++ other_text name.now fault (tables_of (table_view top.now)) other) }
+{
+    if other.number() == fault.number() {
+        return Ok(());
+    }
+    let said = explain_top(alloc, name, other, top)?;
+    text.extend_from_slice(said.as_slice())
+}
+
+/// Writes where each of some refusals other than one that is told already applies in the top table.
+fn push_others(
+    alloc: Global,
+    text: &mut Vec<u8>,
+    name: &[u8],
+    fault: ScenarioFault,
+    top: &Table,
+    others: &[ScenarioFault],
+) -> Result<(), AllocError>
+    ensures { OnOk result (text.new.items
+        ≡ text.old.items ++ flat_map (other_text name.now fault (tables_of (table_view top.now))) others.now) }
+{
+    for other in others {
+        push_other(alloc, text, name, fault, top, *other)?;
+    }
+    Ok(())
+}
+
 /// Writes a line for each place at which the tables of a scenario file break a rule, with what stands there and what is
 /// wanted: those of the least refusal first, then in the order of the file. Each table is told by its place among those of
-/// its kind, from 1. Where the ports can't be counted, that alone is told.
+/// its kind, from 1. Where the ports can't be counted, that is told first, and of the others what is in the top table.
 ///
 /// # Errors
 /// There is no memory; some of the lines may stand there.
@@ -201,6 +245,9 @@ pub fn push_places(
 {
     match counted(top) {
         Ok(_) => push_refusals(alloc, text, name, &REFUSALS, top),
-        Err(fault) => push_refusals(alloc, text, name, &[fault], top),
+        Err(fault) => {
+            push_refusal(alloc, text, name, fault, top)?;
+            push_others(alloc, text, name, fault, top, &TOP_REFUSALS)
+        }
     }
 }
