@@ -289,6 +289,23 @@ fn scripts_are_explained(rt: HostRuntime) -> Result<(), Fail> {
     Ok(())
 }
 
+/// Of the places of a line twenty are told, and how many more there are.
+#[test]
+fn many_places(rt: HostRuntime) -> Result<(), Fail> {
+    let mut script = Vec::new(rt.alloc());
+    for id in 10..31 {
+        let line = format!(in rt.alloc(); "insert {id} 9 1 attach thin phone\n")?;
+        script.extend_from_slice(line.as_bytes())?;
+    }
+    script.extend_from_slice(b"cable thin drop\n")?;
+    let text = said(&rt, script.as_slice())?;
+    let lines = text.iter().filter(|byte| **byte == b'\n').count();
+    assert_eq!(rt; lines, 21);
+    assert!(rt; text.starts_with(b"it:22: refused 25: event 1 at 0 names it\nit:22: refused 25: event 10 at 9 names it\n"));
+    assert!(rt; text.ends_with(b"it:22: refused 25: event 28 at 9 names it\nit:22: 2 more places\n"));
+    Ok(())
+}
+
 /// A line may have 256 bytes.
 #[test]
 fn long_lines(rt: HostRuntime) -> Result<(), Fail> {

@@ -1,6 +1,6 @@
 -- What is said of the refused lines of an edit script: this product's own form, docs/FORMATS.md, "Reasons". The answers to
 -- lines are those of Session.antt of pd_bench.
-use Rattle.std.specs.Prelude.{ℕ, ◌+◌, List, [], ◌∷◌, ◌++◌, codes, decimal, Result, Ok, Err, if◌then◌else◌}
+use Rattle.std.specs.Prelude.{ℕ, ◌+◌, ◌-◌, ◌==◌, List, [], ◌∷◌, ◌++◌, length, take, codes, decimal, Result, Ok, Err, if◌then◌else◌}
 use Rattle.std.specs.List.{flat_map}
 use Rattle.pd_scenario.specs.Scenarios.{ScenarioData}
 use Rattle.pd_scenario.specs.Limits.{is_port}
@@ -36,10 +36,31 @@ reason_line at refusal text = front_text at refusal ++ (text ++ 10 ∷ [])
 abbrev pub places_text : ℕ → List ℕ → ℕ → ScenarioData → List Place → List ℕ
 places_text refusal at n c places = flat_map (λ place. reason_line at refusal (sentence n c place)) places
 
+-- ---- twenty of them
+
+abbrev pub most_places : ℕ
+most_places = 20
+
+unfoldable pub more_words : ℕ → List ℕ
+more_words count = if count == 1 then codes " more place\n" else codes " more places\n"
+
+unfoldable pub more_line : List ℕ → ℕ → List ℕ
+more_line at count = at ++ (decimal count ++ more_words count)
+
+-- how many more places there are, where there are any
+abbrev pub more_text : List ℕ → ℕ → List ℕ
+more_text at count = if count == 0 then [] else more_line at count
+
+unfoldable pub first_places_text : ℕ → List ℕ → ℕ → ScenarioData → List Place → List ℕ
+first_places_text refusal at n c places =
+    places_text refusal at n c (take most_places places) ++ more_text at (length places - most_places)
+
+-- ---- a line
+
 -- an edit that is made needs no words
 abbrev pub edit_text : List ℕ → ℕ → ScenarioData → Edit → Result ScenarioData EditFault → List ℕ
 edit_text at n c edit (Ok after) = []
-edit_text at n c edit (Err fault) = places_text (number_of fault) at n c (causes fault n c edit)
+edit_text at n c edit (Err fault) = first_places_text (number_of fault) at n c (causes fault n c edit)
 
 -- a show is refused for its port alone
 abbrev pub show_text : List ℕ → ℕ → ScenarioData → Show → List ℕ

@@ -1,13 +1,13 @@
 //! Why lines of an edit script are refused.
 
-ghost use Rattle.std.specs.Prelude.{◌≡◌, ◌++◌, OnOk, IfOk};
+ghost use Rattle.std.specs.Prelude.{◌≡◌, ◌++◌, OnOk, IfOk, take};
 ghost use Rattle.std.specs.Str.Lines.{lines};
 ghost use Rattle.pd_edit_lines.specs.Numbers.{number_of};
 ghost use Rattle.pd_edit.specs.Refusals.{edited};
 ghost use Rattle.pd_explain.specs.Sentences.{sentence};
 ghost use Rattle.pd_explain.specs.Stops.{syntax_text};
 ghost use Rattle.pd_script.specs.Script.{at_line, reason_line, places_text, edit_text, show_text, kept_or, line_text, after_line};
-ghost use Rattle.pd_script.specs.Script.{script_text, front_text};
+ghost use Rattle.pd_script.specs.Script.{script_text, front_text, most_places, more_words, more_line, more_text, first_places_text};
 
 use crate::lines::first_line;
 use pd_content::push_number;
@@ -16,6 +16,9 @@ use pd_edit_lines::{Edit, EditFault, Line, Show};
 use pd_explain::{Place, causes, is_port, push_sentence, push_syntax};
 use pd_scenario::Scenario;
 use std::alloc::{AllocError, Global};
+
+/// So many places of a line are told at the most.
+const MOST_PLACES: usize = 20;
 
 /// Writes where a line stands and the number of its refusal.
 fn push_front(text: &mut Vec<u8>, at: &[u8], fault: EditFault) -> Result<(), AllocError>
@@ -58,6 +61,63 @@ fn push_places<const N: usize>(
         push_place(text, at, fault, scenario, place)?;
     }
     Ok(())
+}
+
+/// At most twenty of the places, from the first on.
+fn first_places(places: &[Place]) -> &[Place]
+    ensures { result.now ≡ take most_places places.now }
+{
+    if places.len() <= MOST_PLACES {
+        places
+    } else {
+        &places[..MOST_PLACES]
+    }
+}
+
+#[tactic(auto, unfolding(crate::specs::Script::more_words))]
+fn more_words(count: u64) -> &'static [u8]
+    ensures { result.now ≡ more_words count }
+{
+    if count == 1 {
+        b" more place\n"
+    } else {
+        b" more places\n"
+    }
+}
+
+#[tactic(auto, unfolding(crate::specs::Script::more_line))]
+fn push_more_line(text: &mut Vec<u8>, at: &[u8], count: u64) -> Result<(), AllocError>
+    ensures { OnOk result (text.new.items ≡ text.old.items ++ more_line at.now count) }
+{
+    text.extend_from_slice(at)?;
+    push_number(text, count)?;
+    text.extend_from_slice(more_words(count))
+}
+
+/// Writes how many more places there are, where there are any.
+fn push_more(text: &mut Vec<u8>, at: &[u8], count: u64) -> Result<(), AllocError>
+    ensures { OnOk result (text.new.items ≡ text.old.items ++ more_text at.now count) }
+{
+    if count == 0 {
+        Ok(())
+    } else {
+        push_more_line(text, at, count)
+    }
+}
+
+/// Writes a line for each of the first places, and how many more there are.
+#[tactic(auto, unfolding(crate::specs::Script::first_places_text))]
+fn push_first_places<const N: usize>(
+    text: &mut Vec<u8>,
+    at: &[u8],
+    fault: EditFault,
+    scenario: &Scenario<N>,
+    places: &[Place],
+) -> Result<(), AllocError>
+    ensures { OnOk result (text.new.items ≡ text.old.items ++ first_places_text (number_of fault) at.now N scenario.now places.now) }
+{
+    push_places(text, at, fault, scenario, first_places(places))?;
+    push_more(text, at, places.len().saturating_sub(MOST_PLACES) as u64)
 }
 
 /// Writes why a line is none of an edit script.
@@ -119,12 +179,13 @@ fn push_edit<const N: usize>(
         Err(EditFault::Memory) => Err(AllocError),
         Err(fault) => {
             let places = causes(alloc, fault, scenario, edit)?;
-            push_places(text, at, fault, scenario, places.as_slice())
+            push_first_places(text, at, fault, scenario, places.as_slice())
         }
     }
 }
 
-/// Takes in a line, and writes why it is refused, where it is: a line for each place.
+/// Takes in a line, and writes why it is refused, where it is: a line for each of at most twenty places, and how many more
+/// there are.
 ///
 /// # Errors
 /// There is no memory for it; some of it may stand in the text.
