@@ -34,7 +34,7 @@ a.toml: refused 3: event 1: `kind` is 5, not a text
     (
         b"[[port]]\nsupplies = [[5000, 3000], [9000]]\nunconstrained = 0\n",
         ScenarioFault::WrongType,
-        b"a.toml: refused 3: port 1: `supplies` is a list, not a list of pairs of whole numbers
+        b"a.toml: refused 3: port 1: `supplies` is a list whose supply 2 is a list, not a list of pairs of whole numbers
 a.toml: refused 3: port 1: `unconstrained` is 0, not true or false
 ",
     ),
@@ -58,7 +58,7 @@ a.toml: refused 4: event 2 (budget): `at` is missing
 a.toml: refused 5: `end` is -5, not 0 to 120000000
 a.toml: refused 5: `budget` is 499, not 500 to 1000000
 a.toml: refused 5: port 1: `floor` is 100001, not 500 to 100000
-a.toml: refused 5: port 1: `supplies` is a list, not pairs of a voltage of 5000 to 20000 in steps of 50 \
+a.toml: refused 5: port 1: `supplies` is a list whose supply 2 is [9001, 3000], not pairs of a voltage of 5000 to 20000 in steps of 50 \
 and a current of 10 to 5000 in steps of 10
 a.toml: refused 5: port 1: `identity_tries` is 21, not 0 to 20
 ",
@@ -99,7 +99,8 @@ a.toml: refused 6: event 1 (attach): `cable` is `12345678901234567`, not 1 to 16
         b"[[port]]\nsupplies = [[5000, 3000], [5000, 2000]]\n[[port]]\nsupplies = [[5000, 3000], [9000, 2000]]\n[[port]]\n\
 supplies = []\n",
         ScenarioFault::Supplies,
-        b"a.toml: refused 8: port 1: `supplies` is a list, not 1 to 7 pairs, the first of 5000 mV, each voltage above the one before
+        b"a.toml: refused 8: port 1: `supplies` is a list whose supply 2 is [5000, 2000], not 1 to 7 pairs, the first of 5000 mV, \
+each voltage above the one before
 a.toml: refused 8: port 3: `supplies` is a list, not 1 to 7 pairs, the first of 5000 mV, each voltage above the one before
 ",
     ),

@@ -1,2 +1,3 @@
 mod Keys
 mod Listed
+mod Pairs

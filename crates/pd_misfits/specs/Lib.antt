@@ -1,4 +1,6 @@
 pub mod Hints
 pub mod Lines
 pub mod Sentences
+pub mod Supplies
 pub mod Texts
+pub mod Values

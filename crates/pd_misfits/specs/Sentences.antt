@@ -1,7 +1,6 @@
 -- What is said of a key of a scenario file at which a rule is broken: this product's own form, docs/FORMATS.md, "Reasons".
-use Rattle.std.specs.Prelude.{ℕ, true, false, nat_le, ◌&&◌, List, [], ◌∷◌, ◌++◌, map, codes, decimal, if◌then◌else◌}
-use Rattle.std.specs.Fmt.{signed_decimal}
-use Rattle.toml.specs.Data.{Data, string, integer, float, boolean, datetime, array, table}
+use Rattle.std.specs.Prelude.{ℕ, List, [], ◌++◌, codes, decimal}
+use Rattle.toml.specs.Data.{Data, array}
 use Rattle.pd_scenario.specs.Limits.{Range, between, stepped, range_of}
 use Rattle.pd_scenario_tables.specs.declared.schema.Version.{Version}
 use Rattle.pd_scenario_tables.specs.declared.schema.Key.{Key}
@@ -11,26 +10,17 @@ use Rattle.pd_scenario_tables.specs.declared.schema.Form.TheVariants.{PlugWord, 
 use Rattle.pd_scenario_tables.specs.declared.fault.ScenarioFault.{ScenarioFault}
 use Rattle.pd_scenario_tables.specs.declared.fault.ScenarioFault.TheVariants as fault
 use Rattle.pd_scenario_tables.specs.Schema.{text_of}
+use Rattle.pd_scenario_tables.specs.Values.{elements}
 use Rattle.pd_misfits.specs.Hints.{value_hint}
+use Rattle.pd_misfits.specs.Supplies.{supplies_text}
+use Rattle.pd_misfits.specs.Values.{quoted, value_text}
 
 -- ---- what stands there
 
--- a byte as it is shown: what is no printable ASCII character is a question mark
-abbrev pub printable : ℕ → ℕ
-printable byte = if nat_le 32 byte && nat_le byte 126 then byte else 63
-
-unfoldable pub quoted : List ℕ → List ℕ
-quoted word = 96 ∷ (map printable word ++ 96 ∷ [])
-
-abbrev pub value_text : Data → List ℕ
-value_text (string s) = quoted s
-value_text (integer z) = signed_decimal z
-value_text (float x) = codes "a fraction"
-value_text (boolean true) = codes "true"
-value_text (boolean false) = codes "false"
-value_text (datetime dt) = codes "a date or a time"
-value_text (array ds) = codes "a list"
-value_text (table ms) = codes "a table"
+-- of a list of supplies the first that isn't what is wanted, too
+abbrev pub shown_text : ScenarioFault → Form → Data → List ℕ
+shown_text refusal Supplies (array ds) = supplies_text refusal (elements ds)
+shown_text refusal form d = value_text d
 
 -- ---- what is wanted there
 
@@ -84,7 +74,7 @@ wanted_text _ ports form = []
 
 unfoldable pub plain_sentence : ScenarioFault → ℕ → Key → Form → Data → List ℕ
 plain_sentence refusal ports k form d =
-    quoted (text_of k) ++ (codes " is " ++ (value_text d ++ (codes ", not " ++ wanted_text refusal ports form)))
+    quoted (text_of k) ++ (codes " is " ++ (shown_text refusal form d ++ (codes ", not " ++ wanted_text refusal ports form)))
 
 -- and what is likelier meant, where that is known
 unfoldable pub value_sentence : ScenarioFault → Version → ℕ → Key → Form → Data → List ℕ

@@ -4,6 +4,7 @@
 mod event;
 mod file;
 mod hints;
+mod supplies;
 mod table;
 mod text;
 mod values;

@@ -5,11 +5,12 @@ ghost use Rattle.std.specs.List.{flat_map};
 ghost use Rattle.toml.specs.View.{view, table_view};
 ghost use Rattle.pd_scenario_tables.specs.Schema.{text_of, rules_of};
 ghost use Rattle.pd_scenario_tables.specs.Tables.{value_at, keys_of};
-ghost use Rattle.pd_misfits.specs.Sentences.{plain_sentence, value_sentence, missing_sentence, unknown_sentence};
+ghost use Rattle.pd_misfits.specs.Sentences.{plain_sentence, shown_text, value_sentence, missing_sentence, unknown_sentence};
 ghost use Rattle.pd_misfits.specs.Lines.{line, value_part, missing_part, rule_part, key_word, known_keys, unknown_line};
 ghost use Rattle.pd_misfits.specs.Lines.{key_part, table_text};
 
 use crate::hints::{push_key_hint, push_value_hint};
+use crate::supplies::push_supplies;
 use crate::values::{push_quoted, push_value};
 use crate::wanted::push_wanted;
 use pd_scenario_tables::{
@@ -27,6 +28,21 @@ pub struct Refused {
     pub ports: u64,
 }
 
+/// Writes a value; of a list of supplies the first that isn't what is wanted, too.
+fn push_shown(
+    text: &mut Vec<u8>,
+    fault: ScenarioFault,
+    form: Form,
+    value: &Value,
+) -> Result<(), AllocError>
+    ensures { OnOk result (text.new.items ≡ text.old.items ++ shown_text fault form (view value.now)) }
+{
+    match (form, value) {
+        (Form::Supplies, Value::Array(items)) => push_supplies(text, fault, items),
+        _ => push_value(text, value),
+    }
+}
+
 /// Writes what stands at a key, and what is wanted there.
 #[tactic(auto, unfolding(crate::specs::Sentences::plain_sentence))]
 fn push_plain_sentence(
@@ -40,7 +56,7 @@ fn push_plain_sentence(
 {
     push_quoted(text, rule.key.text().as_bytes())?;
     text.extend_from_slice(b" is ")?;
-    push_value(text, value)?;
+    push_shown(text, refused.fault, rule.form, value)?;
     text.extend_from_slice(b", not ")?;
     push_wanted(text, refused.fault, refused.ports, rule.form)
 }

@@ -3,7 +3,7 @@
 ghost use Rattle.std.specs.Prelude.{◌≡◌, ◌++◌, OnOk, map, decimal};
 ghost use Rattle.std.specs.Fmt.{signed_decimal};
 ghost use Rattle.toml.specs.View.{view};
-ghost use Rattle.pd_misfits.specs.Sentences.{printable, quoted, value_text};
+ghost use Rattle.pd_misfits.specs.Values.{printable, quoted, value_text};
 
 use itoa::Buffer;
 use std::alloc::AllocError;
@@ -60,7 +60,7 @@ fn push_printable(text: &mut Vec<u8>, word: &[u8]) -> Result<(), AllocError>
 ///
 /// # Errors
 /// There is no memory; some of the word may stand there.
-#[tactic(auto, unfolding(crate::specs::Sentences::quoted))]
+#[tactic(auto, unfolding(crate::specs::Values::quoted))]
 pub fn push_quoted(text: &mut Vec<u8>, word: &[u8]) -> Result<(), AllocError>
     ensures { OnOk result (text.new.items ≡ text.old.items ++ quoted word.now) }
 {

@@ -29,7 +29,7 @@ use Rattle.pd_scenario_text.specs.Refusals.{has_duplicate}
 use Rattle.pd_scenario_text.proofs.Decided.{Clean}
 use Rattle.pd_scenario_text.proofs.Differing.{differ, differ-part, differ-last, turn_from}
 use Rattle.pd_scenario_text.proofs.Valid.{sound_cables, sound_sinks, sound_events}
-use Rattle.pd_misfits.specs.Sentences.{quoted}
+use Rattle.pd_misfits.specs.Values.{quoted}
 use Rattle.pd_misfits.specs.Lines.{table_front}
 use Rattle.pd_places.specs.Numbered.{numbered}
 use Rattle.pd_places.specs.Same.{same_sentence, same_part, same_names_text, same_ids_text, names_of, ids_of, same_text}

@@ -10,7 +10,7 @@ use Rattle.pd_scenario_tables.specs.declared.schema.Key.TheVariants as key
 use Rattle.pd_scenario_tables.specs.Schema.{text_of, top_rules, port_rules, event_rules}
 use Rattle.pd_scenario_tables.specs.Tables.{number_at, event_at}
 use Rattle.pd_scenario_text.specs.FileTables.{Tables}
-use Rattle.pd_misfits.specs.Sentences.{quoted}
+use Rattle.pd_misfits.specs.Values.{quoted}
 use Rattle.pd_misfits.specs.Lines.{line, event_front}
 use Rattle.pd_places.specs.Numbered.{numbered}
 

@@ -13,7 +13,7 @@ use Rattle.pd_scenario_tables.specs.declared.schema.Key.TheVariants as key
 use Rattle.pd_scenario_tables.specs.Schema.{text_of}
 use Rattle.pd_scenario_tables.specs.Tables.{word_at, event_at}
 use Rattle.pd_scenario_text.specs.FileTables.{Tables}
-use Rattle.pd_misfits.specs.Sentences.{quoted}
+use Rattle.pd_misfits.specs.Values.{quoted}
 use Rattle.pd_misfits.specs.Lines.{line, event_front}
 use Rattle.pd_places.specs.Numbered.{numbered}
 use Rattle.pd_places.specs.Same.{names_of}

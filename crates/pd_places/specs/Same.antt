@@ -8,7 +8,7 @@ use Rattle.pd_scenario_tables.specs.declared.schema.Key.TheVariants as key
 use Rattle.pd_scenario_tables.specs.Schema.{text_of, any_event}
 use Rattle.pd_scenario_tables.specs.Tables.{number_at, word_at}
 use Rattle.pd_scenario_text.specs.FileTables.{Tables}
-use Rattle.pd_misfits.specs.Sentences.{quoted}
+use Rattle.pd_misfits.specs.Values.{quoted}
 use Rattle.pd_misfits.specs.Lines.{line, table_front}
 use Rattle.pd_places.specs.Numbered.{numbered}
 

@@ -1,5 +1,5 @@
 use Rattle.std.proofs.Common.{◌≡◌, ◌++◌, map, take}
-use Rattle.pd_misfits.specs.Sentences.{printable}
+use Rattle.pd_misfits.specs.Values.{printable}
 use Rattle.pd_misfits.proofs.values.push_printable.Given as goal
 
 abbrev pub invariant-loop-byte : goal.invariant-loop-byte

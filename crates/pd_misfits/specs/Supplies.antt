@@ -1,0 +1,58 @@
+-- Which supply of a list is told: the first at which it isn't what the rule of a refusal wants.
+use Rattle.std.specs.Prelude.{ℕ, ◌+◌, ℤ, Bool, true, false, ◌&&◌, ◌||◌, ◌==◌, not, nat_lt, List, [], ◌∷◌, ◌++◌, codes, decimal}
+use Rattle.std.specs.Prelude.{Option, Some, None, if◌then◌else◌}
+use Rattle.std.specs.Fmt.{signed_decimal}
+use Rattle.toml.specs.Data.{Data, array, integer, no_items, item}
+use Rattle.pd_scenario.specs.Limits.{most_supplies, first_mv}
+use Rattle.pd_scenario.specs.declared.limits.Quantity.TheVariants.{Voltage, Current}
+use Rattle.pd_scenario_tables.specs.declared.fault.ScenarioFault.{ScenarioFault}
+use Rattle.pd_scenario_tables.specs.declared.fault.ScenarioFault.TheVariants as fault
+use Rattle.pd_scenario_tables.specs.Values.{is_within, natural}
+use Rattle.pd_misfits.specs.Values.{value_text}
+
+-- a pair of whole numbers: a voltage and a current
+abbrev pub both : Data → Data → Option (ℤ × ℤ)
+both (integer mv) (integer ma) = Some (mv, ma)
+both _ _ = None
+
+abbrev pub pair : Data → Option (ℤ × ℤ)
+pair (array (item a (item b no_items))) = both a b
+pair _ = None
+
+-- the first voltage is 5 V, each other above the one before
+abbrev pub is_next : ℕ → ℕ → ℕ → Bool
+is_next number before mv = if number == 1 then mv == first_mv else nat_lt before mv
+
+abbrev pub pair_fits : ScenarioFault → ℕ → ℕ → ℤ × ℤ → Bool
+pair_fits fault.Range number before p = is_within Voltage p.0 && is_within Current p.1
+pair_fits fault.Supplies number before p = not (nat_lt most_supplies number) && is_next number before (natural p.0)
+pair_fits _ number before p = true
+
+-- a supply at its place, from 1, behind one of such a voltage
+abbrev pub fits : ScenarioFault → ℕ → ℕ → Option (ℤ × ℤ) → Bool
+fits refusal number before None = false
+fits refusal number before (Some p) = pair_fits refusal number before p
+
+abbrev pub voltage : Option (ℤ × ℤ) → ℕ
+voltage None = 0
+voltage (Some p) = natural p.0
+
+-- a supply as it is shown: both numbers of a pair
+unfoldable pub two_text : ℤ × ℤ → List ℕ
+two_text p = codes "[" ++ (signed_decimal p.0 ++ (codes ", " ++ (signed_decimal p.1 ++ codes "]")))
+
+abbrev pub pair_text : Option (ℤ × ℤ) → Data → List ℕ
+pair_text None d = value_text d
+pair_text (Some p) d = two_text p
+
+unfoldable pub place_text : ℕ → Data → List ℕ
+place_text number d = codes " whose supply " ++ (decimal number ++ (codes " is " ++ pair_text (pair d) d))
+
+-- the first that doesn't fit, of those from a place on
+unfoldable pub misfit_text : ScenarioFault → ℕ → ℕ → List Data → List ℕ
+misfit_text refusal number before [] = []
+misfit_text refusal number before (d ∷ ds) =
+    if fits refusal number before (pair d) then misfit_text refusal (number + 1) (voltage (pair d)) ds else place_text number d
+
+unfoldable pub supplies_text : ScenarioFault → List Data → List ℕ
+supplies_text refusal ds = codes "a list" ++ misfit_text refusal 1 0 ds

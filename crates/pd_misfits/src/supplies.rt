@@ -1,0 +1,161 @@
+//! Which supply of a list is told: the first at which it isn't what the rule of a refusal wants.
+
+ghost use Rattle.std.specs.Prelude.{◌≡◌, ◌++◌, OnOk, map};
+ghost use Rattle.toml.specs.View.{view};
+ghost use Rattle.pd_scenario_tables.specs.Values.{is_within, natural};
+ghost use Rattle.pd_misfits.specs.Supplies.{both, fits, is_next, misfit_text, pair, pair_fits, pair_text, place_text};
+ghost use Rattle.pd_misfits.specs.Supplies.{supplies_text, two_text, voltage};
+
+use crate::values::{push_number, push_signed, push_value};
+use pd_scenario::Quantity;
+use pd_scenario_tables::ScenarioFault;
+use std::alloc::AllocError;
+use toml::Value;
+
+/// So many supplies a port may have.
+const MOST_SUPPLIES: u64 = 7;
+
+/// The voltage of the first supply, in mV.
+const FIRST_MV: u64 = 5_000;
+
+/// A voltage and a current, where both are whole numbers.
+fn both(first: &Value, second: &Value) -> Option<(i64, i64)>
+    ensures { result ≡ both (view first.now) (view second.now) }
+{
+    match (first, second) {
+        (Value::Integer(mv), Value::Integer(ma)) => Some((*mv, *ma)),
+        _ => None,
+    }
+}
+
+/// The voltage and the current of a pair.
+fn pair_of(value: &Value) -> Option<(i64, i64)>
+    ensures { result ≡ pair (view value.now) }
+{
+    match value {
+        Value::Array(items) => match items.as_slice() {
+            [first, second] => both(first, second),
+            _ => None,
+        },
+        _ => None,
+    }
+}
+
+/// The number, or 0 where it is negative.
+fn natural(number: i64) -> u64
+    ensures { result ≡ natural number }
+{
+    if number < 0 { 0 } else { number as u64 }
+}
+
+fn is_within(quantity: Quantity, number: i64) -> bool
+    ensures { result ≡ is_within quantity number }
+{
+    let size = natural(number);
+    number >= 0 && quantity.allows(size)
+}
+
+/// Whether a voltage may stand at its place: the first is 5 V, each other above the one before.
+fn is_next(number: u64, before: u64, mv: u64) -> bool
+    ensures { result ≡ is_next number before mv }
+{
+    if number == 1 {
+        mv == FIRST_MV
+    } else {
+        before < mv
+    }
+}
+
+fn pair_fits(fault: ScenarioFault, number: u64, before: u64, pair: (i64, i64)) -> bool
+    ensures { result ≡ pair_fits fault number before pair }
+{
+    match fault {
+        ScenarioFault::Range => {
+            is_within(Quantity::Voltage, pair.0) && is_within(Quantity::Current, pair.1)
+        }
+        ScenarioFault::Supplies => {
+            number <= MOST_SUPPLIES && is_next(number, before, natural(pair.0))
+        }
+        _ => true,
+    }
+}
+
+/// Whether a supply at its place, from 1, behind one of such a voltage is what the rule of a refusal wants.
+fn fits(fault: ScenarioFault, number: u64, before: u64, pair: Option<(i64, i64)>) -> bool
+    ensures { result ≡ fits fault number before pair }
+{
+    match pair {
+        None => false,
+        Some(pair) => pair_fits(fault, number, before, pair),
+    }
+}
+
+fn voltage(pair: Option<(i64, i64)>) -> u64
+    ensures { result ≡ voltage pair }
+{
+    match pair {
+        None => 0,
+        Some((mv, _)) => natural(mv),
+    }
+}
+
+#[tactic(auto, unfolding(crate::specs::Supplies::two_text))]
+fn push_two(text: &mut Vec<u8>, pair: (i64, i64)) -> Result<(), AllocError>
+    ensures { OnOk result (text.new.items ≡ text.old.items ++ two_text pair) }
+{
+    text.extend_from_slice(b"[")?;
+    push_signed(text, pair.0)?;
+    text.extend_from_slice(b", ")?;
+    push_signed(text, pair.1)?;
+    text.extend_from_slice(b"]")
+}
+
+/// Writes a supply: both numbers of a pair.
+fn push_supply(text: &mut Vec<u8>, value: &Value) -> Result<(), AllocError>
+    ensures { OnOk result (text.new.items ≡ text.old.items ++ pair_text (pair (view value.now)) (view value.now)) }
+{
+    match pair_of(value) {
+        Some(pair) => push_two(text, pair),
+        None => push_value(text, value),
+    }
+}
+
+#[tactic(auto, unfolding(crate::specs::Supplies::place_text))]
+fn push_place(text: &mut Vec<u8>, number: u64, value: &Value) -> Result<(), AllocError>
+    ensures { OnOk result (text.new.items ≡ text.old.items ++ place_text number (view value.now)) }
+{
+    text.extend_from_slice(b" whose supply ")?;
+    push_number(text, number)?;
+    text.extend_from_slice(b" is ")?;
+    push_supply(text, value)
+}
+
+/// Writes the first of some supplies that isn't what the rule of a refusal wants, by its place, where there is one.
+fn push_misfit(text: &mut Vec<u8>, fault: ScenarioFault, items: &[Value]) -> Result<(), AllocError>
+    ensures { OnOk result (text.new.items ≡ text.old.items ++ misfit_text fault 1 0 (map (λ v. view v) items.now)) }
+{
+    let mut number = 1;
+    let mut before = 0;
+    for item in items {
+        let pair = pair_of(item);
+        if !fits(fault, number, before, pair) {
+            return push_place(text, number, item);
+        }
+        before = voltage(pair);
+        number += 1;
+    }
+    Ok(())
+}
+
+/// Writes that a value is a list, and the first of its supplies that isn't what the rule of a refusal wants.
+#[tactic(auto, unfolding(crate::specs::Supplies::supplies_text))]
+pub fn push_supplies(
+    text: &mut Vec<u8>,
+    fault: ScenarioFault,
+    items: &[Value],
+) -> Result<(), AllocError>
+    ensures { OnOk result (text.new.items ≡ text.old.items ++ supplies_text fault (map (λ v. view v) items.now)) }
+{
+    text.extend_from_slice(b"a list")?;
+    push_misfit(text, fault, items)
+}
