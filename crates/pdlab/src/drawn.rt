@@ -2,12 +2,11 @@
 
 use crate::Ending;
 use crate::fault::{output, tell, tell_no_port, tell_refused, tell_unread};
-use crate::script_file::read_script;
+use crate::script_file::{read_input, read_script};
 use crate::shown::tell_lines;
 use clap::ArgMatches;
 use pd_device::{BenchFault, write_all};
 use pd_draw_text::{DrawFault, Look, draw_text};
-use pd_run_text::read_whole;
 use std::alloc::Global;
 use std::num::ParseIntError;
 use std::rt::Files;
@@ -36,7 +35,7 @@ pub fn drawn<R: Files + Input + Print + Alloc<A = Global>, E: Print>(
     edits: Option<&str>,
     look: Look,
 ) -> Ending {
-    let Ok(text) = read_whole(rt, scenario) else {
+    let Ok(text) = read_input(rt, scenario) else {
         return tell_unread(errors, scenario);
     };
     let (text, name) = (text.as_slice(), edits.unwrap_or("-"));

@@ -2,12 +2,11 @@
 
 use crate::Ending;
 use crate::fault::{output, tell, tell_unread};
-use crate::script_file::read_script;
+use crate::script_file::{read_input, read_script};
 use pd_desk::tell_reason;
 use pd_device::{BenchFault, write_all};
 use pd_explain_text::{ExplainFault, explain_text, push_objects};
 use pd_places::explain_places;
-use pd_run_text::read_whole;
 use pd_scenario_text::ScenarioFault;
 use pd_warn_text::{WarnFault, warn_text};
 use std::alloc::Global;
@@ -142,7 +141,7 @@ pub fn explained<R: Files + Input + Print + Alloc<A = Global>, E: Print>(
     edits: Option<&str>,
     json: bool,
 ) -> Ending {
-    let Ok(text) = read_whole(rt, scenario) else {
+    let Ok(text) = read_input(rt, scenario) else {
         return tell_unread(errors, scenario);
     };
     let name = edits.unwrap_or("-");

@@ -1,6 +1,7 @@
 //! Refusals and faults, as the program tells them on standard error.
 
 use crate::Ending;
+use crate::words::USAGE;
 use pd_desk::tell_reason;
 use pd_device::{BenchFault, Output};
 use pd_scenario_text::ScenarioFault;
@@ -35,6 +36,13 @@ pub fn tell_no_port<E: Print>(errors: &E) -> Ending {
     let _ = errors.println("port refused 23");
     let _ = tell_reason(&mut output(errors), 23);
     Ending::Refused
+}
+
+/// Tells that standard input is named for two things.
+pub fn tell_twice<E: Print>(errors: &E) -> Ending {
+    let _ = errors.println("`-` stands for two things: standard input can be read as one alone");
+    let _ = errors.println(USAGE);
+    Ending::Usage
 }
 
 /// Tells that a file can't be read.

@@ -20,7 +20,7 @@ use clap::ArgMatches;
 use clap::error::ErrorKind;
 use drawn::{drawn, look_of};
 use explained::explained;
-use fault::tell;
+use fault::{tell, tell_twice};
 use log::decode;
 use pd_device::BenchFault;
 use shown::{choice_of, shown};
@@ -78,6 +78,11 @@ fn answer_words<R: Print, E: Print>(
     }
 }
 
+/// Whether standard input is named for two things: `live` reads its lines from there.
+fn is_input_twice(name: &str, scenario: &str, edits: Option<&str>) -> bool {
+    scenario == "-" && (name == "live" || edits == Some("-"))
+}
+
 /// Does what the words of the command line say.
 fn obey<R: Files + Input + Print + Clock + Alloc<A = Global>, E: Print + IsTerminal>(
     rt: &R,
@@ -107,6 +112,9 @@ where
     let Some(scenario) = matches.get_str("SCENARIO") else {
         return answer_words(rt, errors, words, ErrorKind::MissingRequiredArgument);
     };
+    if is_input_twice(name, scenario, matches.get_str("EDITS")) {
+        return tell_twice(errors);
+    }
     match name {
         "show" => show(rt, errors, scenario, matches),
         "why" => why(rt, errors, scenario, matches),

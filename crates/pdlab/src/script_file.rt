@@ -1,4 +1,4 @@
-//! Edit scripts, of files and of standard input.
+//! Files by their names, and standard input, whose name is `-`.
 
 use pd_run_text::read_whole;
 use std::alloc::Global;
@@ -6,27 +6,35 @@ use std::io;
 use std::io::Read;
 use std::rt::Files;
 
-/// The most bytes of an edit script.
+/// The most bytes of a scenario or a script.
 const LIMIT: usize = 1_048_576;
 
-/// The bytes of an edit script: of a file, of standard input where its name is `-`, and none where none is named.
+/// The bytes of a file, or of standard input where the name is `-`.
 ///
 /// # Errors
-/// It can't be read, for want of memory too, or has more bytes.
-pub fn read_script<R: Files + Input + Alloc<A = Global>>(
-    rt: &R,
-    edits: Option<&str>,
-) -> io::Result<Vec<u8>> {
-    let mut bytes = Vec::new(rt.alloc());
-    match edits {
-        None => {}
-        Some("-") => {
-            rt.reader().take(LIMIT as u64 + 1).read_to_end(&mut bytes)?;
-        }
-        Some(file) => return read_whole(rt, file),
+/// They can't be read, for want of memory too, or are more than 1,048,576.
+pub fn read_input<R: Files + Input + Alloc<A = Global>>(rt: &R, name: &str) -> io::Result<Vec<u8>> {
+    if name != "-" {
+        return read_whole(rt, name);
     }
+    let mut bytes = Vec::new(rt.alloc());
+    rt.reader().take(LIMIT as u64 + 1).read_to_end(&mut bytes)?;
     if bytes.len() > LIMIT {
         return Err(io::Error::from(io::ErrorKind::FileTooLarge));
     }
     Ok(bytes)
+}
+
+/// The bytes of an edit script: of a file or of standard input, and none where none is named.
+///
+/// # Errors
+/// Those of `read_input`.
+pub fn read_script<R: Files + Input + Alloc<A = Global>>(
+    rt: &R,
+    edits: Option<&str>,
+) -> io::Result<Vec<u8>> {
+    match edits {
+        None => Ok(Vec::new(rt.alloc())),
+        Some(name) => read_input(rt, name),
+    }
 }

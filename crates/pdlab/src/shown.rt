@@ -2,11 +2,10 @@
 
 use crate::Ending;
 use crate::fault::{output, tell, tell_no_port, tell_refused, tell_unread};
-use crate::script_file::read_script;
+use crate::script_file::{read_input, read_script};
 use clap::ArgMatches;
 use pd_device::{BenchFault, write_all};
 use pd_explain_text::{ExplainFault, explain_text};
-use pd_run_text::read_whole;
 use pd_show_text::{Choice, Form, ShowFault, show_text};
 use std::alloc::Global;
 use std::num::ParseIntError;
@@ -69,7 +68,7 @@ pub fn shown<R: Files + Input + Print + Alloc<A = Global>, E: Print>(
     edits: Option<&str>,
     choice: &Choice,
 ) -> Ending {
-    let Ok(text) = read_whole(rt, scenario) else {
+    let Ok(text) = read_input(rt, scenario) else {
         return tell_unread(errors, scenario);
     };
     let (text, name) = (text.as_slice(), edits.unwrap_or("-"));

@@ -3,11 +3,10 @@
 use crate::Ending;
 use crate::fault::{output, tell, tell_no_port, tell_refused, tell_unread};
 use crate::progress::{Packets, Watched};
-use crate::script_file::read_script;
+use crate::script_file::{read_input, read_script};
 use crate::shown::tell_lines;
 use clap::ArgMatches;
 use pd_header::{Kind, kind_of};
-use pd_run_text::read_whole;
 use pd_sweep_text::{Campaign, Choice, Form, Loss, SweepFault, Tally, packet_count, sweep_text};
 use std::alloc::Global;
 use std::io::IsTerminal;
@@ -157,7 +156,7 @@ pub fn swept<R: Files + Input + Print + Clock + Alloc<A = Global>, E: Print + Is
     campaign: &Campaign,
     form: Form,
 ) -> Ending {
-    let Ok(text) = read_whole(rt, scenario) else {
+    let Ok(text) = read_input(rt, scenario) else {
         return tell_unread(errors, scenario);
     };
     let (text, name) = (text.as_slice(), edits.unwrap_or("-"));

@@ -1,7 +1,8 @@
 //! `pdlab test [--json] SCRIPT..`.
 
 use crate::Ending;
-use crate::fault::{output, tell, tell_refused, tell_unread};
+use crate::fault::{output, tell, tell_refused, tell_twice, tell_unread};
+use crate::script_file::read_input;
 use clap::ArgMatches;
 use pd_device::{BenchFault, write_all};
 use pd_expect::{TestFault, TestReport, TestTally, scenario_name, test_text};
@@ -32,13 +33,13 @@ fn named(script: &str, json: bool) -> &[u8] {
 }
 
 /// Goes through a script, and writes what is said of its lines.
-fn report_of<R: Files + Print + Alloc<A = Global>, E: Print>(
+fn report_of<R: Files + Input + Print + Alloc<A = Global>, E: Print>(
     rt: &R,
     errors: &E,
     script: &str,
     json: bool,
 ) -> Result<TestTally, Ending> {
-    let Ok(lines) = read_whole(rt, script) else {
+    let Ok(lines) = read_input(rt, script) else {
         return Err(tell_unread(errors, script));
     };
     let scenario = match scenario_of(rt.alloc(), script, lines.as_slice()) {
@@ -127,9 +128,23 @@ fn close<R: Print + Alloc<A = Global>, E: Print>(
     }
 }
 
+/// Whether standard input is named more than once.
+fn is_input_twice(scripts: &[&str]) -> bool {
+    let mut is_named = false;
+    for script in scripts {
+        if *script == "-" {
+            if is_named {
+                return true;
+            }
+            is_named = true;
+        }
+    }
+    false
+}
+
 /// Goes through the scripts that the words of the command line name, and tells of each line that fails or is refused. The first
 /// script that can't be gone through ends it.
-pub fn tested<R: Files + Print + Alloc<A = Global>, E: Print>(
+pub fn tested<R: Files + Input + Print + Alloc<A = Global>, E: Print>(
     rt: &R,
     errors: &E,
     matches: &ArgMatches<'_>,
@@ -139,6 +154,9 @@ pub fn tested<R: Files + Print + Alloc<A = Global>, E: Print>(
     let Some(scripts) = matches.get_strs("SCRIPT") else {
         return close(rt, errors, tally, json);
     };
+    if is_input_twice(scripts) {
+        return tell_twice(errors);
+    }
     for script in scripts {
         match report_of(rt, errors, script, json) {
             Ok(more) => tally = both(tally, more),
