@@ -58,7 +58,7 @@ pub fn bounds<R: Files + Input + Print + Alloc<A = Global>, E: Print>(
             Err(fault) => tell(errors, fault),
         },
         Err(WhyFault::Scenario(fault)) => tell_refused(errors, scenario, fault),
-        Err(WhyFault::NoSuchPort) => tell_no_port(errors),
+        Err(WhyFault::NoSuchPort) => tell_no_port(rt, errors, scenario, text, Some(question.port)),
         Err(WhyFault::Memory) => tell(errors, BenchFault::Memory),
     }
 }

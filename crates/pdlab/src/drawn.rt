@@ -52,7 +52,7 @@ pub fn drawn<R: Files + Input + Print + Alloc<A = Global>, E: Print>(
             Err(fault) => tell(errors, fault),
         },
         Err(DrawFault::Scenario(fault)) => tell_refused(errors, scenario, fault),
-        Err(DrawFault::NoSuchPort) => tell_no_port(errors),
+        Err(DrawFault::NoSuchPort) => tell_no_port(rt, errors, scenario, text, look.port),
         Err(DrawFault::Memory) => tell(errors, BenchFault::Memory),
     }
 }

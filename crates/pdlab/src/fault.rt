@@ -4,7 +4,8 @@ use crate::Ending;
 use crate::words::USAGE;
 use pd_desk::tell_reason;
 use pd_device::{BenchFault, Output};
-use pd_scenario_text::ScenarioFault;
+use pd_scenario_text::{ScenarioFault, port_count};
+use std::alloc::Global;
 use std::io;
 use std::io::Printer;
 
@@ -31,10 +32,20 @@ pub fn tell_refused<E: Print>(errors: &E, file: &str, fault: ScenarioFault) -> E
     Ending::Refused
 }
 
-/// Tells that a port that was to be shown isn't there.
-pub fn tell_no_port<E: Print>(errors: &E) -> Ending {
+/// Tells that the scenario of a file, by its text, doesn't have the port that was asked for.
+pub fn tell_no_port<R: Alloc<A = Global>, E: Print>(
+    rt: &R,
+    errors: &E,
+    file: &str,
+    text: &[u8],
+    port: Option<usize>,
+) -> Ending {
+    let port = port.unwrap_or(0);
     let _ = errors.println("port refused 23");
-    let _ = tell_reason(&mut output(errors), 23);
+    let _ = match port_count(rt.alloc(), text) {
+        Ok(last) => println!(errors; "{file}: no port is {port}; the last is {last}"),
+        Err(_) => println!(errors; "{file}: no port is {port}"),
+    };
     Ending::Refused
 }
 

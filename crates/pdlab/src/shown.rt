@@ -82,7 +82,7 @@ pub fn shown<R: Files + Input + Print + Alloc<A = Global>, E: Print>(
     match show_text(rt.alloc(), text, script, choice, &mut output(rt)) {
         Ok(()) => Ending::Done,
         Err(ShowFault::Scenario(fault)) => tell_refused(errors, scenario, fault),
-        Err(ShowFault::NoSuchPort) => tell_no_port(errors),
+        Err(ShowFault::NoSuchPort) => tell_no_port(rt, errors, scenario, text, choice.port),
         Err(ShowFault::Run(fault)) => tell(errors, fault),
     }
 }
