@@ -2,23 +2,23 @@
 
 use crate::Ending;
 use crate::fault::{output, tell, tell_no_port, tell_refused, tell_unread};
+use crate::numbers::{AT, PORT_WORD, WrongNumber, number_of};
 use crate::script_file::{read_input, read_script};
 use crate::shown::tell_lines;
 use clap::ArgMatches;
 use pd_device::{BenchFault, write_all};
 use pd_why_text::{Form, Question, WhyFault, why_text};
 use std::alloc::Global;
-use std::num::ParseIntError;
 use std::rt::Files;
 
 /// What the words of the command line ask. A port that isn't named is none.
 ///
 /// # Errors
 /// One of the numbers is none.
-pub fn question_of(matches: &ArgMatches<'_>) -> Result<Question, ParseIntError> {
+pub fn question_of<'a>(matches: &ArgMatches<'a>) -> Result<Question, WrongNumber<'a>> {
     Ok(Question {
-        port: matches.try_get_one("PORT")?.unwrap_or(0),
-        to: matches.try_get_one("AT")?,
+        port: number_of(matches, PORT_WORD)?.unwrap_or(0),
+        to: number_of(matches, AT)?,
     })
 }
 

@@ -2,28 +2,31 @@
 
 use crate::Ending;
 use crate::fault::{output, tell, tell_no_port, tell_refused, tell_unread};
+use crate::numbers;
+use crate::numbers::{FROM, PORT, TO, WrongNumber, number_of};
 use crate::script_file::{read_input, read_script};
 use crate::shown::tell_lines;
 use clap::ArgMatches;
 use pd_device::{BenchFault, write_all};
 use pd_draw_text::{DrawFault, Look, draw_text};
 use std::alloc::Global;
-use std::num::ParseIntError;
 use std::rt::Files;
 
 /// The width of a picture, in pixels, where none is asked for.
-const WIDTH: u32 = 1_200;
+const WIDTH: u64 = 1_200;
 
 /// What the words of the command line choose of a picture.
 ///
 /// # Errors
 /// One of the numbers is none.
-pub fn look_of(matches: &ArgMatches<'_>) -> Result<Look, ParseIntError> {
+pub fn look_of<'a>(matches: &ArgMatches<'a>) -> Result<Look, WrongNumber<'a>> {
+    // A width that a picture can't have counts as the nearest that it can, however great it is.
+    let width: u64 = number_of(matches, numbers::WIDTH)?.unwrap_or(WIDTH);
     Ok(Look {
-        from: matches.try_get_one("from")?.unwrap_or(0),
-        to: matches.try_get_one("to")?.unwrap_or(u64::MAX),
-        width: matches.try_get_one("width")?.unwrap_or(WIDTH),
-        port: matches.try_get_one("port")?,
+        from: number_of(matches, FROM)?.unwrap_or(0),
+        to: number_of(matches, TO)?.unwrap_or(u64::MAX),
+        width: u32::try_from(width).unwrap_or(u32::MAX),
+        port: number_of(matches, PORT)?,
     })
 }
 

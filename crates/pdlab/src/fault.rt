@@ -1,6 +1,7 @@
 //! Refusals and faults, as the program tells them on standard error.
 
 use crate::Ending;
+use crate::numbers::WrongNumber;
 use crate::words::USAGE;
 use pd_desk::tell_reason;
 use pd_device::{BenchFault, Output};
@@ -47,6 +48,14 @@ pub fn tell_no_port<R: Alloc<A = Global>, E: Print>(
         Err(_) => println!(errors; "{file}: no port is {port}"),
     };
     Ending::Refused
+}
+
+/// Tells which word isn't the number that was wanted there, and what that may be.
+pub fn tell_wrong_number<E: Print>(errors: &E, wrong: WrongNumber<'_>) -> Ending {
+    let WrongNumber { wanted, word } = wrong;
+    let _ = println!(errors; "`{}` is `{word}`, not {}", wanted.name, wanted.range);
+    let _ = errors.println(USAGE);
+    Ending::Usage
 }
 
 /// Tells that standard input is named for two things.

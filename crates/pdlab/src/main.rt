@@ -7,6 +7,7 @@ mod drawn;
 mod explained;
 mod fault;
 mod log;
+mod numbers;
 mod progress;
 mod script_file;
 mod shown;
@@ -16,11 +17,11 @@ mod words;
 
 use at_keyboard::live;
 use bounds::{bounds, form_of, question_of};
-use clap::ArgMatches;
 use clap::error::ErrorKind;
+use clap::{ArgMatches, Error};
 use drawn::{drawn, look_of};
 use explained::explained;
-use fault::{tell, tell_twice};
+use fault::{tell, tell_twice, tell_wrong_number};
 use log::decode;
 use pd_device::BenchFault;
 use shown::{choice_of, shown};
@@ -57,6 +58,15 @@ impl Ending {
     }
 }
 
+/// The word of which the program is asked how it is used: its first, and behind `help` the second.
+fn asked_of(words: &[String]) -> &str {
+    let first = words.get(1).map_or("", |word| word.as_str());
+    if first != "help" {
+        return first;
+    }
+    words.get(2).map_or("", |word| word.as_str())
+}
+
 /// Tells how the program or one of its commands is used, or that there was no memory to read its words.
 fn answer_words<R: Print, E: Print>(
     rt: &R,
@@ -64,10 +74,9 @@ fn answer_words<R: Print, E: Print>(
     words: &[String],
     kind: ErrorKind,
 ) -> Ending {
-    let first = words.get(1).map_or("", |word| word.as_str());
     match kind {
         ErrorKind::OutOfMemory => tell(errors, BenchFault::Memory),
-        ErrorKind::DisplayHelp => match rt.print(help_of(first)) {
+        ErrorKind::DisplayHelp => match rt.print(help_of(asked_of(words))) {
             Ok(()) => Ending::Done,
             Err(_) => tell(errors, BenchFault::WriteFailed),
         },
@@ -75,6 +84,19 @@ fn answer_words<R: Print, E: Print>(
             let _ = errors.println(USAGE);
             Ending::Usage
         }
+    }
+}
+
+/// Tells which word is wrong, and leaves out the usage that stands below it.
+fn tell_wrong_word<R: Alloc<A = Global>, E: Print>(rt: &R, errors: &E, error: &Error) {
+    if error.kind() == ErrorKind::OutOfMemory || !error.use_stderr() {
+        return;
+    }
+    let Ok(text) = format!(in rt.alloc(); "{error}") else {
+        return;
+    };
+    if let Some((wrong, _)) = text.as_str().split_once("\n\n") {
+        let _ = errors.println(wrong);
     }
 }
 
@@ -97,11 +119,28 @@ where
     };
     let matches = match command.try_get_matches_from(words) {
         Ok(matches) => matches,
-        Err(error) => return answer_words(rt, errors, words, error.kind()),
+        Err(error) => {
+            tell_wrong_word(rt, errors, &error);
+            return answer_words(rt, errors, words, error.kind());
+        }
     };
     let Some((name, matches)) = matches.subcommand() else {
         return answer_words(rt, errors, words, ErrorKind::MissingSubcommand);
     };
+    obey_command(rt, errors, words, name, matches)
+}
+
+/// Does what the words behind a command say.
+fn obey_command<R: Files + Input + Print + Clock + Alloc<A = Global>, E: Print + IsTerminal>(
+    rt: &R,
+    errors: &E,
+    words: &[String],
+    name: &str,
+    matches: &ArgMatches<'_>,
+) -> Ending
+where
+    R::Reader: IsTerminal,
+{
     if name == "decode" {
         let file = matches.get_str("FILE").unwrap_or("-");
         return decode(rt, errors, file, matches.get_flag("json"));
@@ -137,7 +176,7 @@ fn show<R: Files + Input + Print + Alloc<A = Global>, E: Print>(
 ) -> Ending {
     match choice_of(matches) {
         Ok(choice) => shown(rt, errors, scenario, matches.get_str("EDITS"), &choice),
-        Err(_) => answer_words(rt, errors, &[], ErrorKind::InvalidValue),
+        Err(wrong) => tell_wrong_number(errors, wrong),
     }
 }
 
@@ -153,7 +192,7 @@ fn why<R: Files + Input + Print + Alloc<A = Global>, E: Print>(
             let edits = matches.get_str("EDITS");
             bounds(rt, errors, scenario, edits, &question, form_of(matches))
         }
-        Err(_) => answer_words(rt, errors, &[], ErrorKind::InvalidValue),
+        Err(wrong) => tell_wrong_number(errors, wrong),
     }
 }
 
@@ -169,7 +208,7 @@ fn sweep<R: Files + Input + Print + Clock + Alloc<A = Global>, E: Print + IsTerm
             let (edits, form) = (matches.get_str("EDITS"), sweep_form(matches));
             swept(rt, errors, scenario, edits, &order, form)
         }
-        Err(OrderFault::Number) => answer_words(rt, errors, &[], ErrorKind::InvalidValue),
+        Err(OrderFault::Number(wrong)) => tell_wrong_number(errors, wrong),
         Err(OrderFault::Name) => tell_no_kind(errors),
     }
 }
@@ -183,7 +222,7 @@ fn draw<R: Files + Input + Print + Alloc<A = Global>, E: Print>(
 ) -> Ending {
     match look_of(matches) {
         Ok(look) => drawn(rt, errors, scenario, matches.get_str("EDITS"), look),
-        Err(_) => answer_words(rt, errors, &[], ErrorKind::InvalidValue),
+        Err(wrong) => tell_wrong_number(errors, wrong),
     }
 }
 

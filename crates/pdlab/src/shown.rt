@@ -2,13 +2,13 @@
 
 use crate::Ending;
 use crate::fault::{output, tell, tell_no_port, tell_refused, tell_unread};
+use crate::numbers::{FROM, PORT, TO, WrongNumber, number_of};
 use crate::script_file::{read_input, read_script};
 use clap::ArgMatches;
 use pd_device::{BenchFault, write_all};
 use pd_explain_text::{ExplainFault, explain_text};
 use pd_show_text::{Choice, Form, ShowFault, show_text};
 use std::alloc::Global;
-use std::num::ParseIntError;
 use std::rt::Files;
 
 /// The form of a run, by the words of the command line.
@@ -26,11 +26,11 @@ fn form_of(matches: &ArgMatches<'_>) -> Form {
 ///
 /// # Errors
 /// One of the numbers is none.
-pub fn choice_of(matches: &ArgMatches<'_>) -> Result<Choice, ParseIntError> {
+pub fn choice_of<'a>(matches: &ArgMatches<'a>) -> Result<Choice, WrongNumber<'a>> {
     Ok(Choice {
-        port: matches.try_get_one("port")?,
-        from: matches.try_get_one("from")?.unwrap_or(0),
-        to: matches.try_get_one("to")?.unwrap_or(u64::MAX),
+        port: number_of(matches, PORT)?,
+        from: number_of(matches, FROM)?.unwrap_or(0),
+        to: number_of(matches, TO)?.unwrap_or(u64::MAX),
         good_crc: !matches.get_flag("no-goodcrc"),
         codes: matches.get_flag("codes"),
         form: form_of(matches),

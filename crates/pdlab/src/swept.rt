@@ -2,6 +2,7 @@
 
 use crate::Ending;
 use crate::fault::{output, tell, tell_no_port, tell_refused, tell_unread};
+use crate::numbers::{FROM, IN_A_ROW, PORT, RESERVE, TO, WrongNumber, number_of};
 use crate::progress::{Packets, Watched};
 use crate::script_file::{read_input, read_script};
 use crate::shown::tell_lines;
@@ -10,15 +11,14 @@ use pd_header::{Kind, kind_of};
 use pd_sweep_text::{Campaign, Choice, Form, Loss, SweepFault, Tally, packet_count, sweep_text};
 use std::alloc::Global;
 use std::io::IsTerminal;
-use std::num::ParseIntError;
 use std::rt::{Clock, Files};
 use std::time::Instant;
 
 /// Why the words choose nothing.
-#[derive(Clone, Copy, Debug, PartialEq, Eq)]
-pub enum OrderFault {
-    /// One of the numbers is none.
-    Number,
+#[derive(Clone, Copy, Debug)]
+pub enum OrderFault<'a> {
+    /// One of the numbers is none, or out of its range.
+    Number(WrongNumber<'a>),
     /// No message has the name.
     Name,
 }
@@ -59,13 +59,9 @@ fn heads(form: Form) -> u64 {
 ///
 /// # Errors
 /// One of the numbers is none or out of its range, or no message has the name.
-pub fn order_of(matches: &ArgMatches<'_>) -> Result<Campaign, OrderFault> {
-    let Ok(choice) = choice_of(matches) else {
-        return Err(OrderFault::Number);
-    };
-    let Ok(reserve) = matches.try_get_one("reserve") else {
-        return Err(OrderFault::Number);
-    };
+pub fn order_of<'a>(matches: &ArgMatches<'a>) -> Result<Campaign, OrderFault<'a>> {
+    let choice = choice_of(matches).map_err(OrderFault::Number)?;
+    let reserve = number_of(matches, RESERVE).map_err(OrderFault::Number)?;
     let kind = match matches.get_str("kind") {
         None => None,
         Some(name) => Some(kind_named(name).ok_or(OrderFault::Name)?),
@@ -78,26 +74,26 @@ pub fn order_of(matches: &ArgMatches<'_>) -> Result<Campaign, OrderFault> {
     Ok(Campaign {
         choice: Choice { kind, ..choice },
         loss,
-        behind: behind_of(matches)?,
+        behind: behind_of(matches).map_err(OrderFault::Number)?,
         reserve,
     })
 }
 
 /// How many packets behind each are harmed too: the words say how many in a row.
-fn behind_of(matches: &ArgMatches<'_>) -> Result<u64, OrderFault> {
-    match matches.try_get_one("in-a-row") {
-        Ok(None) => Ok(0),
-        Ok(Some(count)) if 1u64 <= count && count <= 8 => Ok(count - 1),
-        _ => Err(OrderFault::Number),
+fn behind_of<'a>(matches: &ArgMatches<'a>) -> Result<u64, WrongNumber<'a>> {
+    match number_of(matches, IN_A_ROW)? {
+        None => Ok(0),
+        Some(count) if 1u64 <= count && count <= 8 => Ok(count - 1),
+        Some(_) => Err(WrongNumber::of(matches, IN_A_ROW)),
     }
 }
 
 /// The packets that the numbers among the words choose.
-fn choice_of(matches: &ArgMatches<'_>) -> Result<Choice, ParseIntError> {
+fn choice_of<'a>(matches: &ArgMatches<'a>) -> Result<Choice, WrongNumber<'a>> {
     Ok(Choice {
-        port: matches.try_get_one("port")?,
-        from: matches.try_get_one("from")?.unwrap_or(0),
-        to: matches.try_get_one("to")?.unwrap_or(u64::MAX),
+        port: number_of(matches, PORT)?,
+        from: number_of(matches, FROM)?.unwrap_or(0),
+        to: number_of(matches, TO)?.unwrap_or(u64::MAX),
         kind: None,
     })
 }

@@ -297,6 +297,11 @@ fn option<'a>(alloc: Global, name: &'a str, action: ArgAction) -> Arg<'a> {
     Arg::new(alloc, name).long(name).action(action)
 }
 
+/// An option whose word is a number. One below 0 is told as what it is.
+fn number<'a>(alloc: Global, name: &'a str) -> Arg<'a> {
+    option(alloc, name, ArgAction::Set).allow_negative_numbers(true)
+}
+
 /// `EDITS`, a word that may stand behind a scenario.
 fn edits<'a>(alloc: Global) -> Arg<'a> {
     Arg::new(alloc, "EDITS").action(ArgAction::Set)
@@ -307,9 +312,9 @@ fn show<'a>(alloc: Global) -> Result<Command<'a>, AllocError> {
     Command::new(alloc, "show")
         .arg(scenario(alloc))?
         .arg(edits(alloc))?
-        .arg(option(alloc, "port", ArgAction::Set))?
-        .arg(option(alloc, "from", ArgAction::Set))?
-        .arg(option(alloc, "to", ArgAction::Set))?
+        .arg(number(alloc, "port"))?
+        .arg(number(alloc, "from"))?
+        .arg(number(alloc, "to"))?
         .arg(option(alloc, "no-goodcrc", ArgAction::SetTrue))?
         .arg(option(alloc, "codes", ArgAction::SetTrue))?
         .arg(option(alloc, "json", ArgAction::SetTrue))?
@@ -338,13 +343,13 @@ fn sweep<'a>(alloc: Global) -> Result<Command<'a>, AllocError> {
     Command::new(alloc, "sweep")
         .arg(scenario(alloc))?
         .arg(edits(alloc))?
-        .arg(option(alloc, "port", ArgAction::Set))?
-        .arg(option(alloc, "from", ArgAction::Set))?
-        .arg(option(alloc, "to", ArgAction::Set))?
+        .arg(number(alloc, "port"))?
+        .arg(number(alloc, "from"))?
+        .arg(number(alloc, "to"))?
         .arg(option(alloc, "kind", ArgAction::Set))?
         .arg(option(alloc, "damage", ArgAction::SetTrue))?
-        .arg(option(alloc, "in-a-row", ArgAction::Set))?
-        .arg(option(alloc, "reserve", ArgAction::Set))?
+        .arg(number(alloc, "in-a-row"))?
+        .arg(number(alloc, "reserve"))?
         .arg(option(alloc, "json", ArgAction::SetTrue))?
         .arg(option(alloc, "csv", ArgAction::SetTrue).conflicts_with("json")?)
 }
@@ -354,10 +359,10 @@ fn draw<'a>(alloc: Global) -> Result<Command<'a>, AllocError> {
     Command::new(alloc, "draw")
         .arg(scenario(alloc))?
         .arg(edits(alloc))?
-        .arg(option(alloc, "port", ArgAction::Set))?
-        .arg(option(alloc, "from", ArgAction::Set))?
-        .arg(option(alloc, "to", ArgAction::Set))?
-        .arg(option(alloc, "width", ArgAction::Set))
+        .arg(number(alloc, "port"))?
+        .arg(number(alloc, "from"))?
+        .arg(number(alloc, "to"))?
+        .arg(number(alloc, "width"))
 }
 
 /// `pdlab test [--json] SCRIPT..`.
