@@ -15,17 +15,23 @@ pub const HELP: &str = "pdlab: the engineer's desk
 usage: pdlab COMMAND ..
 
   live SCENARIO             a session at the keyboard
-  show SCENARIO [EDITS]     a run as an engineer reads it, all ports in one list
-  why SCENARIO EDITS PORT [AT]
+  show SCENARIO [EDITS] [OPTIONS]
+                            a run as an engineer reads it, all ports in one list
+  why [--json] SCENARIO EDITS PORT [AT]
                             what bounds a port's offers, and what came of them
-  sweep SCENARIO [EDITS]    each packet lost in turn, and what that leads to
-  test SCRIPT..             whether runs are as scripts expect them
-  draw SCENARIO [EDITS]     a picture of a run, as SVG for a browser
-  explain SCENARIO [EDITS]  why a scenario, or lines of an edit script, are refused,
+  sweep SCENARIO [EDITS] [OPTIONS]
+                            each packet lost in turn, and what that leads to
+  test [--json] SCRIPT..    whether runs are as scripts expect them
+  draw SCENARIO [EDITS] [OPTIONS]
+                            a picture of a run, as SVG for a browser
+  explain [--json] SCENARIO [EDITS]
+                            why a scenario, or lines of an edit script, are refused,
                             and what is surely not meant
   decode [--json] [FILE]    what the lines of a log say
-  COMMAND --help            tells more of a command, with an example
+  COMMAND --help            tells more of a command, with an example; help COMMAND too
   -h, --help                prints this
+
+One of the files that are read may be -, standard input; not the scenario of live.
 
 status: 0 all is well, 1 the input is refused, 2 the words are others,
         3 a file can't be read, or a fault
@@ -62,7 +68,7 @@ example: pdlab live examples/derating.toml
   :undo
 
 status: 0 the lines were answered to their end, 1 the scenario is refused,
-        3 a file can't be read, or a fault
+        2 the words are others, 3 a file can't be read, or a fault
 ";
 
 /// What `show --help` prints.
@@ -71,11 +77,11 @@ pub const SHOW_HELP: &str = "pdlab show: a run as an engineer reads it
 usage: pdlab show SCENARIO [EDITS] [OPTIONS]
 
 Shows the run of the charger of the file SCENARIO, as the edit script EDITS leaves
-it (- is standard input): why lines of EDITS are refused is told on standard error,
-and they change nothing. A line is shown for each thing that is told, in the order
-of time: events, faults, what is asked of the shared budget and answered, contracts,
-holds, packets with their content, and the states of source and sink. Each line
-begins with its time and the time since the line before, in microseconds.
+it (one of them may be -, standard input): why lines of EDITS are refused is told on
+standard error, and they change nothing. A line is shown for each thing that is told,
+in the order of time: events, faults, what is asked of the shared budget and answered,
+contracts, holds, packets with their content, and the states of source and sink. Each
+line begins with its time and the time since the line before, in microseconds.
 
   --port P       of this port alone; ports are numbered from 1
   --from T       from this time on, in microseconds
@@ -99,8 +105,8 @@ pub const WHY_HELP: &str = "pdlab why: what bounds a port
 
 usage: pdlab why [--json] SCENARIO EDITS PORT [AT]
 
-Runs the charger of the file SCENARIO, as the edit script EDITS leaves it (- is
-standard input; /dev/null has no edits), and tells of the last offer of port PORT:
+Runs the charger of the file SCENARIO, as the edit script EDITS leaves it (one of
+them may be -, standard input; /dev/null has no edits), and tells of the last offer of port PORT:
 the budget, what each other port holds of it and why, and what is free; what the
 cable carries and how that is known; of each supply what is configured, what the
 cable and what is free allow, and which of them set the current that is offered,
@@ -126,8 +132,8 @@ pub const SWEEP_HELP: &str = "pdlab sweep: each packet lost in turn
 
 usage: pdlab sweep SCENARIO [EDITS] [OPTIONS]
 
-Runs the charger of the file SCENARIO, as the edit script EDITS leaves it (- is
-standard input), and then once more for each packet that starts in that run, with
+Runs the charger of the file SCENARIO, as the edit script EDITS leaves it (one of
+them may be -, standard input), and then once more for each packet that starts in that run, with
 that packet lost. Tells of each, in the order of time: the packet, whether the
 contracts at the end are the same, how much later the last change of a contract
 comes, how many faults and Hard Resets there are more, and the least that the
@@ -163,8 +169,8 @@ pub const DRAW_HELP: &str = "pdlab draw: a picture of a run
 
 usage: pdlab draw SCENARIO [EDITS] [OPTIONS]
 
-Runs the charger of the file SCENARIO, as the edit script EDITS leaves it (- is
-standard input), and writes a picture of the run, an SVG that any browser shows:
+Runs the charger of the file SCENARIO, as the edit script EDITS leaves it (one of
+them may be -, standard input), and writes a picture of the run, an SVG that any browser shows:
 the shared budget as a line over time, the contracts of the ports stacked below it,
 and the least margin with its value and its time; and below that a lane for each
 port, with the phases of its source, events, contracts, faults and packets. A
@@ -174,7 +180,8 @@ refused is told on standard error, and they change nothing.
   --port P       the lane of this port alone; ports are numbered from 1
   --from T       from this time on, in microseconds
   --to T         up to this time
-  --width PX     the width of the picture, 1000 to 10000 pixels; 1200 if left out
+  --width PX     the width of the picture, 1000 to 10000 pixels: another counts as
+                 the nearest of these; 1200 if left out
 
 example: pdlab draw examples/derating.toml > derating.svg
 
@@ -188,7 +195,7 @@ pub const TEST_HELP: &str = "pdlab test: whether runs are as scripts expect them
 usage: pdlab test [--json] SCRIPT..
 
 Goes through the file SCRIPT, whose line `# scenario FILE` names the scenario, a file
-beside it. Its other lines are those of an edit script, and beside them
+beside it; one SCRIPT may be -, standard input, with the file in this folder. Its other lines are those of an edit script, and beside them
 
   expect contract PORT at TIME [voltage RANGE] [current RANGE]
   expect no contract PORT at TIME
@@ -224,10 +231,10 @@ pub const EXPLAIN_HELP: &str =
 
 usage: pdlab explain [--json] SCENARIO [EDITS]
 
-Goes through the edit script EDITS, or standard input where it is -, against the
-charger of the file SCENARIO, and tells of each line that pdbench would refuse
-where it breaks the rule and what would be right there: a line for each place,
-behind the script's name and the number of its line. A line is held against the
+Goes through the edit script EDITS against the charger of the file SCENARIO (each of
+at most 1 MiB; one of them may be -, standard input), and tells of each line that
+pdbench would refuse where it breaks the rule and what would be right there: a line
+for each place, behind the script's name and the number of its line. A line is held against the
 scenario as the lines before it left it. Where SCENARIO is refused, with EDITS or
 without, tells each place at which it breaks a rule, those of the least refusal
 first: 20 of them at most, and how many more there are.
@@ -254,7 +261,7 @@ example: pdlab explain mine.toml mine.edits
   mine.edits:9: warning: event 12 at 3000000 is after the end, 2000000: it never happens
 
 status: 0 no line is refused, 1 a line or the scenario is refused,
-        3 a file can't be read, or a fault
+        2 the words are others, 3 a file can't be read, or a fault
 ";
 
 /// What `decode --help` prints.
@@ -262,8 +269,8 @@ pub const DECODE_HELP: &str = "pdlab decode: what the lines of a log say
 
 usage: pdlab decode [--json] [FILE]
 
-Reads the file FILE, or standard input where it is - or left out, and tells of
-each line, behind its number, the packet that it holds, field by field.
+Reads the file FILE, of any length, or standard input where it is - or left out,
+and tells of each line, behind its number, the packet that it holds, field by field.
 --json writes a JSON object for each line instead, with units in its keys (_mv,
 _ma, _mw).
 
@@ -282,7 +289,7 @@ example: pdlab decode --json capture.txt
   grep RECV controller.log | pdlab decode
 
 status: 0 each line was read, 1 a line has a fault or is of unknown form,
-        3 the file can't be read, or a fault
+        2 the words are others, 3 the file can't be read, or a fault
 ";
 
 /// `SCENARIO`, a word that stands behind a command.
