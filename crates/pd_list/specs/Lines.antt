@@ -1,5 +1,5 @@
 -- A scenario as the lines of an edit script that would make it so: docs/FORMATS.md, "Edit script".
-use Rattle.std.specs.Prelude.{◌≡◌, ℕ, ◌+◌, ◌<◌, ◌≤◌, ◌⊎◌, List, [], ◌∷◌, ◌++◌, codes}
+use Rattle.std.specs.Prelude.{◌≡◌, ℕ, ◌+◌, ◌<◌, ◌≤◌, ◌⊎◌, Bool, true, false, List, [], ◌∷◌, ◌++◌, codes}
 use Rattle.std.specs.List.{flat_map}
 use Rattle.std.specs.List.Sorted.{IsPermutation}
 use Rattle.pd_setup.specs.Settings.{SettingsData}
@@ -20,10 +20,23 @@ port_lines port p =
     codes "floor" ++ (next_number port ++ (next_number p.floor_mw ++ (codes "\ncaps" ++ (next_number port
     ++ (flat_map supply_words p.supplies ++ codes "\n")))))
 
+-- the end of the line, with a word before it where the port's power is unconstrained
+abbrev pub power_end : Bool → List ℕ
+power_end true = codes " unconstrained\n"
+power_end false = codes "\n"
+
+-- identity_tries TRIES, and that end
+unfoldable pub fixed_words : SettingsData → List ℕ
+fixed_words p = codes " identity_tries" ++ (next_number p.identity_tries ++ power_end p.unconstrained)
+
+-- # port PORT identity_tries TRIES, and unconstrained behind it: a comment, since no line of an edit script sets these
+unfoldable pub port_comment : ℕ → SettingsData → List ℕ
+port_comment port p = codes "# port" ++ (next_number port ++ fixed_words p)
+
 -- the ports, the first of which has this number
 abbrev pub ports_text : ℕ → List SettingsData → List ℕ
 ports_text first [] = []
-ports_text first (p ∷ ports) = port_lines first p ++ ports_text (first + 1) ports
+ports_text first (p ∷ ports) = port_lines first p ++ (port_comment first p ++ ports_text (first + 1) ports)
 
 -- cable NAME PLUG RATING
 unfoldable pub cable_line : NamedCable → List ℕ

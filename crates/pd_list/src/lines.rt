@@ -2,7 +2,8 @@
 
 ghost use Rattle.std.specs.Prelude.{◌≡◌, ◌++◌, ◌+◌, ◌<◌, ◌^◌, OnOk, length};
 ghost use Rattle.std.specs.List.{flat_map};
-ghost use Rattle.pd_list.specs.Lines.{top_lines, port_lines, ports_text, cable_line, sink_line, event_line};
+ghost use Rattle.pd_list.specs.Lines.{top_lines, port_lines, power_end, fixed_words, port_comment};
+ghost use Rattle.pd_list.specs.Lines.{ports_text, cable_line, sink_line, event_line};
 
 use crate::words::{push_happening, push_number, push_revision, push_supplies, push_word};
 use pd_save::{mode_word, plug_word, rating_number};
@@ -38,6 +39,34 @@ fn push_port(text: &mut Vec<u8>, number: u64, port: &Settings) -> Result<(), All
     text.extend_from_slice(b"\n")
 }
 
+fn push_power_end(text: &mut Vec<u8>, unconstrained: bool) -> Result<(), AllocError>
+    ensures { OnOk result (text.new.items ≡ text.old.items ++ power_end unconstrained) }
+{
+    if unconstrained {
+        return text.extend_from_slice(b" unconstrained\n");
+    }
+    text.extend_from_slice(b"\n")
+}
+
+#[tactic(auto, unfolding(crate::specs::Lines::fixed_words))]
+fn push_fixed_words(text: &mut Vec<u8>, port: &Settings) -> Result<(), AllocError>
+    ensures { OnOk result (text.new.items ≡ text.old.items ++ fixed_words port.now) }
+{
+    text.extend_from_slice(b" identity_tries")?;
+    push_number(text, u64::from(port.identity_tries()))?;
+    push_power_end(text, port.unconstrained())
+}
+
+/// Writes what no line of an edit script sets, as a comment.
+#[tactic(auto, unfolding(crate::specs::Lines::port_comment))]
+fn push_port_comment(text: &mut Vec<u8>, number: u64, port: &Settings) -> Result<(), AllocError>
+    ensures { OnOk result (text.new.items ≡ text.old.items ++ port_comment number port.now) }
+{
+    text.extend_from_slice(b"# port")?;
+    push_number(text, number)?;
+    push_fixed_words(text, port)
+}
+
 /// Writes ports, the first of which has this number.
 pub(crate) fn push_ports(
     text: &mut Vec<u8>,
@@ -51,6 +80,7 @@ pub(crate) fn push_ports(
         return Ok(());
     };
     push_port(text, first, port)?;
+    push_port_comment(text, first, port)?;
     push_ports(text, first + 1, others)
 }
 

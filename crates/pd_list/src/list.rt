@@ -29,7 +29,8 @@ fn in_order(alloc: Global, events: &[ScenarioEvent]) -> Result<Vec<ScenarioEvent
 }
 
 /// A scenario as the lines of an edit script: its end, its budget, floors and supplies by port, cables, sinks, and the
-/// events in the order of time. How often a cable is asked and whether a port's power is unconstrained have no line.
+/// events in the order of time. How often a cable is asked and whether a port's power is unconstrained, which no line sets,
+/// are told in comments.
 ///
 /// # Errors
 /// There is no memory.

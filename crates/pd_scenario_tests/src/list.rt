@@ -11,9 +11,11 @@ budget = 60000
 [[port]]
 floor = 2500
 supplies = [[5000, 3000], [9000, 2500]]
+unconstrained = true
 [[port]]
 floor = 500
 supplies = [[5000, 10]]
+identity_tries = 0
 [[cable]]
 name = \"thin\"
 plug = \"none\"
@@ -68,8 +70,10 @@ const LISTED: &[u8] = b"end 2000000
 budget 60000
 floor 1 2500
 caps 1 5000 3000 9000 2500
+# port 1 identity_tries 3 unconstrained
 floor 2 500
 caps 2 5000 10
+# port 2 identity_tries 0
 cable thin none 3000
 cable c5 ack 5000
 sink phone 5000 15000 pd
