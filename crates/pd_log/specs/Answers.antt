@@ -10,7 +10,7 @@ use Rattle.pd_log.specs.declared.mark.Mark.TheVariants.{Whole}
 use Rattle.pd_log.specs.declared.answer.Answer.{Answer}
 use Rattle.pd_log.specs.declared.answer.Answer.TheVariants.{Nothing, Packet, Fault, HardReset, Header, Miscounted, Unknown}
 use Rattle.pd_log.specs.Parts.{parts}
-use Rattle.pd_log.specs.Forms.{given_codes, is_heading}
+use Rattle.pd_log.specs.Forms.{given_codes, tells_nothing}
 use Rattle.pd_log.specs.Places.{place_of}
 use Rattle.pd_log.specs.Words.{given_words}
 
@@ -35,7 +35,7 @@ words_answer header objects =
     else if length objects == 0 then Header header
     else Miscounted header (length objects)
 
--- A line that is a heading tells nothing. Codes are read before words, and a line with neither is unknown.
+-- A heading and the reply of a session tell nothing. Codes are read before words, and a line with neither is unknown.
 abbrev pub Comes : Bool → Option (List ℕ × Mark) → Option (ℕ × List ℕ) → Answer → Type 0
 Comes true given words answer = answer ≡ Nothing
 Comes false (Some given) words answer = Tells given.0 given.1 answer
@@ -44,4 +44,4 @@ Comes false None None answer = answer ≡ Unknown
 
 -- what a line says
 abbrev pub Says : List ℕ → Answer → Type 0
-Says line answer = Comes (is_heading (parts line)) (given_codes (parts line)) (given_words (parts line)) answer
+Says line answer = Comes (tells_nothing (parts line)) (given_codes (parts line)) (given_words (parts line)) answer

@@ -1,5 +1,6 @@
 -- What the parts of a line give: the codes of a packet, as a transcript of this bench or a decoder lists them.
-use Rattle.std.specs.Prelude.{ℕ, ◌==◌, ◌||◌, ◌&&◌, Bool, true, List, [], ◌∷◌, ◌++◌, Option, Some, None, codes, bytes_eq, if◌then◌else◌}
+use Rattle.std.specs.Prelude.{ℕ, ◌==◌, ◌||◌, ◌&&◌, Bool, true, false, List, [], ◌∷◌, ◌++◌, codes, bytes_eq, if◌then◌else◌}
+use Rattle.std.specs.Prelude.{Option, Some, None}
 use Rattle.std.specs.List.{list_all}
 use Rattle.std.specs.Char.{is_ascii_digit}
 use Rattle.pd_log.specs.declared.mark.Mark.{Mark}
@@ -7,11 +8,60 @@ use Rattle.pd_log.specs.declared.mark.Mark.TheVariants.{Whole, Lost, Damaged}
 use Rattle.pd_log.specs.Codes.{code_of}
 use Rattle.pd_log.specs.Parts.{Parts, ◌>>=◌, next}
 
--- a line without parts, a comment, and the heading of a show tell nothing
+-- a line without parts, a comment, and the heading of a show
 abbrev pub is_heading : Parts → Bool
 is_heading [] = true
 is_heading ([] ∷ ps) = true
 is_heading ((c ∷ cs) ∷ ps) = c == 35 || c == 61
+
+-- a word, and what stands behind it
+abbrev pub behind_the : List ℕ → Parts → Option Parts
+behind_the word ps = do
+  found ← next ps
+  if bytes_eq found.0 word then Some found.1 else None
+
+abbrev pub is_number : List ℕ → Bool
+is_number part = list_all is_ascii_digit part
+
+-- a number, and what stands behind it
+abbrev pub behind_number : Parts → Option Parts
+behind_number ps = do
+  found ← next ps
+  if is_number found.0 then Some found.1 else None
+
+-- a number and a word, and what stands behind them
+abbrev pub behind_count : List ℕ → Parts → Option Parts
+behind_count word ps = do
+  rest ← behind_number ps
+  behind_the word rest
+
+-- behind refused N
+abbrev pub behind_refused : Parts → Option Parts
+behind_refused ps = do
+  rest ← behind_the (codes "refused") ps
+  behind_number rest
+
+-- behind done N edits N refused N shows
+abbrev pub behind_done : Parts → Option Parts
+behind_done ps = do
+  counts ← behind_the (codes "done") ps
+  edits ← behind_count (codes "edits") counts
+  refused ← behind_count (codes "refused") edits
+  behind_count (codes "shows") refused
+
+-- the line ends there
+abbrev pub ends : Option Parts → Bool
+ends None = false
+ends (Some []) = true
+ends (Some (p ∷ ps)) = false
+
+-- what a session answers to an edit, and its last line: ok, refused N, and done N edits N refused N shows
+abbrev pub is_reply : Parts → Bool
+is_reply ps = ends (behind_the (codes "ok") ps) || (ends (behind_refused ps) || ends (behind_done ps))
+
+-- such a line tells nothing
+abbrev pub tells_nothing : Parts → Bool
+tells_nothing ps = is_heading ps || is_reply ps
 
 abbrev pub is_time : List ℕ → Bool
 is_time part = list_all is_ascii_digit part

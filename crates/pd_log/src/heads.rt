@@ -6,7 +6,7 @@ ghost use Rattle.pd_log.specs.Parts.{parts};
 
 use crate::parts::next;
 
-/// Whether a line tells nothing.
+/// Whether a line is empty, a comment or the heading of a show.
 pub(crate) fn is_heading(line: &[u8]) -> bool
     ensures { result ≡ is_heading (parts line.now) }
 {

@@ -10,6 +10,7 @@ mod numbers;
 mod parts;
 mod places;
 mod reading;
+mod replies;
 mod words;
 
 pub use answer::Answer;

@@ -5,9 +5,9 @@ ghost use Rattle.pd_log.specs.Answers.{Says, Tells, words_answer};
 
 use crate::answer::Answer;
 use crate::given::given_codes;
-use crate::heads::is_heading;
 use crate::mark::Mark;
 use crate::places::place_of;
+use crate::replies::tells_nothing;
 use crate::words::given_words;
 use pd_header::header_count;
 use pd_packet::Packet;
@@ -53,7 +53,7 @@ fn words_answer(header: u16, objects: &[u32]) -> Answer
 pub fn read(alloc: Global, line: &[u8]) -> Result<Answer, AllocError>
     ensures { IfOk result (λ answer. Says line.now answer) }
 {
-    if is_heading(line) {
+    if tells_nothing(line) {
         return Ok(Answer::Nothing);
     }
     if let Some(given) = given_codes(alloc, line)? {

@@ -125,12 +125,19 @@ fn packets(rt: HostRuntime) -> Result<(), Fail> {
 }
 
 /// What other lines say.
-const OTHERS: [(&str, Answer); 35] = [
+const OTHERS: [(&str, Answer); 42] = [
     ("", Answer::Nothing),
     (" \t,\r", Answer::Nothing),
     ("# 18 18 18", Answer::Nothing),
     ("#", Answer::Nothing),
     ("= transcript 1", Answer::Nothing),
+    ("ok", Answer::Nothing),
+    ("refused 22", Answer::Nothing),
+    ("done 1 edits 20 refused 3 shows\r", Answer::Nothing),
+    ("ok ok", Answer::Unknown),
+    ("refused x", Answer::Unknown),
+    ("refused 2 2", Answer::Unknown),
+    ("done 1 edits 20 refused 3", Answer::Unknown),
     (
         "18 18 18",
         Answer::Fault {

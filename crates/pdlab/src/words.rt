@@ -282,8 +282,9 @@ A line may hold
   words          a header and objects: 11A1 0001912C; PD RX, header: 0x161 [1];
                  RECV 11a1/1 0001912C
 Codes that spell no packet are told with the first fault and the place of the
-code. A line that begins with # or =, and an empty one, tells nothing. Any other
-line is told to be of unknown form.
+code. A line that begins with # or =, an empty one, and what pdbench answers to an
+edit, as ok, tell nothing. Any other line is told to be of unknown form, as those of
+pdlab show, which tell what packets say themselves.
 
 example: pdlab decode --json capture.txt
   grep RECV controller.log | pdlab decode
