@@ -1,11 +1,10 @@
 //! `pdlab draw SCENARIO [EDITS]`.
 
-use crate::Ending;
 use crate::fault::{output, tell, tell_no_port, tell_refused, tell_unread};
-use crate::numbers;
 use crate::numbers::{FROM, PORT, TO, WrongNumber, number_of};
 use crate::script_file::{read_input, read_script};
 use crate::shown::tell_lines;
+use crate::{Ending, numbers};
 use clap::ArgMatches;
 use pd_device::{BenchFault, write_all};
 use pd_draw_text::{DrawFault, Look, draw_text};

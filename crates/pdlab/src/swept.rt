@@ -166,7 +166,13 @@ pub fn swept<R: Files + Input + Print + Clock + Alloc<A = Global>, E: Print + Is
     match tally_of(rt, errors, text, script, campaign, form) {
         Ok(tally) => ending_of(&tally),
         Err(SweepFault::Scenario(fault)) => tell_refused(errors, scenario, fault),
-        Err(SweepFault::NoSuchPort) => tell_no_port(rt, errors, scenario, text, campaign.choice.port),
+        Err(SweepFault::NoSuchPort) => tell_no_port(
+            rt,
+            errors,
+            scenario,
+            text,
+            campaign.choice.port,
+        ),
         Err(SweepFault::Run(fault)) => tell(errors, fault),
     }
 }
