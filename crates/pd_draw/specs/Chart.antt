@@ -1,5 +1,6 @@
 -- The chart of the budget, of the contracts and of the holds.
-use Rattle.std.specs.Prelude.{ℕ, ◌+◌, ◌-◌, ◌*◌, ◌/◌, min, List, [], ◌∷◌, ◌++◌, take, drop, sum, codes, decimal}
+use Rattle.std.specs.Prelude.{ℕ, ◌+◌, ◌-◌, ◌*◌, ◌/◌, ◌==◌, ◌&&◌, nat_le, min, Bool, List, [], ◌∷◌, ◌++◌, take, drop, sum, codes, decimal}
+use Rattle.std.specs.Prelude.{if◌then◌else◌}
 use Rattle.std.specs.List.{flat_map}
 use Rattle.pd_svg.specs.Elements.{Element, element_text}
 use Rattle.pd_svg.specs.Shapes.{box_of, path_of, words_at}
@@ -72,9 +73,14 @@ time_line f bottom at = line_of (codes "grid") (x_of f at) 700 (x_of f at) botto
 unfoldable pub time_words : Frame → ℕ → Element
 time_words f at = words_at (codes "tick middle") (x_of f at) 3680 (seconds at)
 
--- such a one at so many tenths of the window
-abbrev pub time_tick : Frame → ℕ → ℕ → List Element
-time_tick f bottom k = time_line f bottom (tenth_of f k) ∷ time_words f (tenth_of f k) ∷ []
+-- in a window of less than 10 us, tenths that stand for the same time as the one before
+abbrev pub is_repeated : Frame → ℕ → Bool
+is_repeated f k = nat_le 1 k && tenth_of f (k - 1) == tenth_of f k
+
+-- such a time at so many tenths of the window, where it is another than the one before
+unfoldable pub time_tick : Frame → ℕ → ℕ → List Element
+time_tick f bottom k =
+    if is_repeated f k then [] else time_line f bottom (tenth_of f k) ∷ time_words f (tenth_of f k) ∷ []
 
 -- a power on the axis, with a line through the chart
 unfoldable pub power_line : Frame → ℕ → ℕ → Element

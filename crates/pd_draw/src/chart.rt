@@ -3,7 +3,7 @@
 ghost use Rattle.std.specs.Prelude.{◌≡◌, ◌∷◌, ◌++◌, ◌≤◌, [], OnOk, All};
 ghost use Rattle.std.specs.List.{flat_map};
 ghost use Rattle.pd_svg.specs.Elements.{element_text};
-ghost use Rattle.pd_draw.specs.Chart.{area_of, budget_of, closing, curve_text, hold_class, hold_name, key_of};
+ghost use Rattle.pd_draw.specs.Chart.{area_of, budget_of, closing, curve_text, hold_class, hold_name, is_repeated, key_of};
 ghost use Rattle.pd_draw.specs.Chart.{line_key, line_keys, line_of, line_text, margin_mark, margin_text, margin_words};
 ghost use Rattle.pd_draw.specs.Chart.{outline_of, port_class, port_name, power_line, power_tick};
 ghost use Rattle.pd_draw.specs.Chart.{power_words, step_text, time_line, time_tick, time_words};
@@ -270,7 +270,16 @@ fn push_time_words(
     )
 }
 
-/// Draws a time on the axis.
+/// Whether so many tenths of the window stand for the same time as one tenth less.
+fn is_repeated(frame: Frame, k: u32) -> bool
+    requires { k ≤ 10 }
+    ensures { result ≡ is_repeated frame k }
+{
+    1 <= k && frame.tenth(k - 1) == frame.tenth(k)
+}
+
+/// Draws a time on the axis, where it is another than the one before.
+#[tactic(auto, unfolding(crate::specs::Chart::time_tick))]
 fn push_time_tick(
     alloc: Global,
     text: &mut Vec<u8>,
@@ -281,6 +290,9 @@ fn push_time_tick(
     requires { k ≤ 10 }
     ensures { OnOk result (text.new.items ≡ text.old.items ++ flat_map element_text (time_tick frame bottom k)) }
 {
+    if is_repeated(frame, k) {
+        return Ok(());
+    }
     let at = frame.tenth(k);
     push_time_line(alloc, text, frame, bottom, at)?;
     push_time_words(alloc, text, frame, at)
