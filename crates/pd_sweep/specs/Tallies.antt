@@ -1,5 +1,5 @@
 -- What all trials come to.
-use Rattle.std.specs.Prelude.{ℕ, ◌+◌, ◌-◌, ◌*◌, nat_lt, Bool, false, if◌then◌else◌, List, [], ◌∷◌, ◌++◌, fold, codes, decimal}
+use Rattle.std.specs.Prelude.{ℕ, ◌+◌, ◌-◌, ◌*◌, ◌==◌, nat_lt, Bool, false, if◌then◌else◌, List, [], ◌∷◌, ◌++◌, fold, codes, decimal}
 use Rattle.std.specs.Prelude.{Option, Some, None}
 use Rattle.pd_report.specs.declared.least.Margin.{Margin}
 use Rattle.pd_sweep.specs.Words.{are_same, instant_words, packet_words}
@@ -76,9 +76,13 @@ worst_words unit (Some w) = 43 ∷ (decimal w.by ++ (unit ++ (codes ", " ++ (pac
 abbrev pub column_words : List ℕ → List ℕ → Option Worst → List ℕ
 column_words name unit worst = name ++ worst_words unit worst
 
+-- what stands behind the number of packets that were tried, lost or damaged
+abbrev pub tried_words : ℕ → List ℕ
+tried_words count = if count == 1 then codes " packet tried, " else codes " packets tried, "
+
 abbrev pub counts_words : Tally → List ℕ
 counts_words tally =
-    decimal tally.tried ++ (codes " packets lost, " ++ (decimal tally.changed ++ codes " with other contracts at the end\n"))
+    decimal tally.tried ++ (tried_words tally.tried ++ (decimal tally.changed ++ codes " with other contracts at the end\n"))
 
 -- the least that a loss leaves, when, and by which ports
 abbrev pub low_words : Lowest → List ℕ

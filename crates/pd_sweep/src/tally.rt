@@ -3,7 +3,7 @@
 ghost use Rattle.std.specs.Prelude.{◌≡◌, ◌+◌, ◌-◌, ◌<◌, ◌≤◌, ◌^◌, ◌++◌, OnOk, if◌then◌else◌};
 ghost use Rattle.pd_sweep.specs.Tallies.{column_words, columns_words, counts_words, is_short, least_so_far, less_words, low_words};
 ghost use Rattle.pd_sweep.specs.Tallies.{lower, lowest_line, lowest_words, no_trial, noted_trial, short_words, tally_words, worse};
-ghost use Rattle.pd_sweep.specs.Tallies.{worst_words};
+ghost use Rattle.pd_sweep.specs.Tallies.{tried_words, worst_words};
 
 use crate::Target;
 use crate::findings::Findings;
@@ -29,7 +29,7 @@ pub struct Lowest {
     pub makers: Makers,
 }
 
-/// How many packets were lost, how many of the runs end with other contracts, and the worst of each column and its packet: how many
+/// How many packets were tried, how many of the runs end with other contracts, and the worst of each column and its packet: how many
 /// microseconds later the last change of a contract comes, how many faults and how many Hard Resets there are more, and the least
 /// that is left of the budget, where it is less than without a loss; and in how many runs less is left than was to be.
 #[derive(Clone, Copy, Debug)]
@@ -178,12 +178,22 @@ fn push_column(
     push_worst(text, unit, worst)
 }
 
-/// Writes how many packets were lost, and how many of the runs end with other contracts.
+/// Writes what stands behind the number of packets that were tried, lost or damaged.
+fn push_tried(text: &mut Vec<u8>, count: u64) -> Result<(), AllocError>
+    ensures { OnOk result (text.new.items ≡ text.old.items ++ tried_words count) }
+{
+    if count == 1 {
+        return text.extend_from_slice(b" packet tried, ");
+    }
+    text.extend_from_slice(b" packets tried, ")
+}
+
+/// Writes how many packets were tried, and how many of the runs end with other contracts.
 fn push_counts(text: &mut Vec<u8>, tally: &Tally) -> Result<(), AllocError>
     ensures { OnOk result (text.new.items ≡ text.old.items ++ counts_words tally.now) }
 {
     push_number(text, tally.tried)?;
-    text.extend_from_slice(b" packets lost, ")?;
+    push_tried(text, tally.tried)?;
     push_number(text, tally.changed)?;
     text.extend_from_slice(b" with other contracts at the end\n")?;
     Ok(())

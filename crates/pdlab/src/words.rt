@@ -139,7 +139,7 @@ contracts at the end are the same, how much later the last change of a contract
 comes, how many faults and Hard Resets there are more, and the least that the
 contracts leave of the budget, in microwatts; where that is less than without the
 loss, when, and by which ports: those of which a contract is made then. At the end
-how many packets were lost, how many of the runs end with other contracts, and the
+how many packets were tried, how many of the runs end with other contracts, and the
 worst of each column. Why lines of EDITS are refused is told on standard error, and
 they change nothing. A terminal is shown there how far it is.
 
