@@ -2,7 +2,7 @@
 use Rattle.std.proofs.Common.{◌≡◌, ⊎_elim, inl, inr, ℕ, zero, suc, ◌+◌, ◌-◌, ◌<◌, ◌≤◌, List, [], ◌∷◌, ◌++◌}
 use Rattle.std.proofs.lemmas.Option.{slice_get_within, slice_get-get_or}
 use Rattle.std.proofs.lemmas.Bool.{cases_lt}
-use Rattle.std.proofs.Common.{length, map, take, get_or, All, Contains, Some, None, slice_get, refl, ap, sym, ◌∙◌, subst, arith}
+use Rattle.std.proofs.Common.{Bool, length, map, take, get_or, All, Contains, Some, None, slice_get, refl, ap, sym, ◌∙◌, subst, arith}
 use Rattle.std.proofs.lemmas.List.{same_lists, get_or_default, length-map}
 use Rattle.std.proofs.Math.ListN as list_map
 use Rattle.std.proofs.lemmas.List.Elements.{Contains-append_left, Contains-append_right}
@@ -24,8 +24,11 @@ use Rattle.pd_keep.specs.Kept.{KeptData, move_of, IsOwn}
 use Rattle.pd_keep.specs.Kept.{RunData}
 use Rattle.pd_keep.specs.Spans.{kept_of_spans, moves_of, end_of, begins_at, BeginsAfter, IsKept}
 use Rattle.pd_keep.specs.Rerun.{Stands, Costs, ComesTo, BeginsWith, IsShared, GoesOnWith}
-use Rattle.pd_keep.specs.Rerun.{AreStanding, IsOld, IsSoFar, AreOver, AreThose, IsDone}
+use Rattle.pd_keep.specs.Rerun.{AreKnown, AreStanding, BeginsWithMarked, IsOld, IsSoFar, AreOver, AreThose, IsDone}
+use Rattle.pd_keep.specs.Kept.{left_by}
+use Rattle.pd_keep.specs.Places.{StandAs}
 use Rattle.pd_keep.proofs.Parted.{in_span, moves_push}
+use Rattle.pd_keep.proofs.Places.{left_after}
 
 -- What moves cost.
 
@@ -90,11 +93,11 @@ pub comes_alike : (n : ℕ) (old : Plan) (old_spans : List RunData) (span : RunD
     (agree : Agreement) (st : Standing n) → (c : ComesTo n old old_spans span plan spans at agree st) → AreStanding n st span
     → AreAlike old (before at (moves_of old_spans)) plan (moves_of spans)
 comes_alike n old old_spans span plan spans at agree standing.Alike c h = c.stands.alike
-comes_alike n old old_spans span plan spans at agree (standing.Apart live) c h =
+comes_alike n old old_spans span plan spans at agree (standing.Apart live alike) c h =
     let w = in_span n old old_spans c.place span c.kept c.there in
     let begun : BeginsAfter n old (before at (moves_of old_spans)) span =
     subst (λ t. BeginsAfter n old (before t (moves_of old_spans)) span) (sym c.at_is) w.begun in
-    alike_from n old (before at (moves_of old_spans)) plan (moves_of spans) span live c.kept.is_plan c.far.is_plan begun h c.stands
+    alike_from n old (before at (moves_of old_spans)) plan (moves_of spans) span live c.kept.is_plan c.far.is_plan begun h c.stands.stands
 
 own_too : (a b : Plan) (k : KeptData) → a.settings ≡ b.settings → IsOwn a k → IsOwn b k
 own_too a b k set h = record {
@@ -224,6 +227,39 @@ resumes n old old_spans span plan spans at agree c =
     let both = begins_both n old (before at (moves_of old_spans)) plan (moves_of spans) span c.kept.is_plan c.stands.alike begun in
     (both.count, λ p lt. both.ports p (omega (arith, c.far.is_plan.settings_count)))
 
+-- What is known of ports that stand for themselves.
+
+-- the span of the old run begins with those that are marked
+pub known_at : (n : ℕ) (old : Plan) (old_spans : List RunData) (span : RunData) (plan : Plan) (spans : List RunData) (at : ℕ)
+    (agree : Agreement) (st : Standing n) → ComesTo n old old_spans span plan spans at agree st → AreKnown n st span
+known_at n old old_spans span plan spans at agree standing.Alike c = tt
+known_at n old old_spans span plan spans at agree (standing.Apart live alike) c = λ p lt yes.
+    let w = in_span n old old_spans c.place span c.kept c.there in
+    let begun : BeginsAfter n old (before at (moves_of old_spans)) span =
+    subst (λ t. BeginsAfter n old (before t (moves_of old_spans)) span) (sym c.at_is) w.begun in
+    let many = begun.count in
+    (omega (arith, many, lt), begun.ports p lt ∙ sym (c.stands.known p lt yes))
+
+-- it begins with all where they are taken up from it
+pub known_all : (n : ℕ) (old : Plan) (old_spans : List RunData) (span : RunData) (plan : Plan) (spans : List RunData) (at : ℕ)
+    (agree : Agreement) (live : LiveData) (alike : List Bool) → ComesTo n old old_spans span plan spans at agree standing.Alike
+    → StandsAfter plan (moves_of spans) live → BeginsWithMarked n span live alike
+known_all n old old_spans span plan spans at agree live alike c stands = λ p lt yes.
+    let r = resumes n old old_spans span plan spans at agree c in
+    let many = r.0 in
+    let known : p < count plan = omega (arith, c.far.is_plan.settings_count) in
+    (omega (arith, many, lt), r.1 p known ∙ sym (stands.ports_are p known))
+
+-- ports that stand as the span leaves them stand as the old run's at its end
+pub known_then : (n : ℕ) (old : Plan) (old_spans : List RunData) (span : RunData) (plan : Plan) (spans : List RunData) (at : ℕ)
+    (agree : Agreement) (st : Standing n) (live : LiveData) (alike : List Bool) → ComesTo n old old_spans span plan spans at agree st
+    → StandAs n alike live (left_by span.first span.moves)
+    → StandAs n alike live (port_after old (before span.to (moves_of old_spans)))
+known_then n old old_spans span plan spans at agree st live alike c h = λ p lt yes.
+    let w = in_span n old old_spans c.place span c.kept c.there in
+    let past : List Move = before (begins_at old_spans c.place) (moves_of old_spans) in
+    h p lt yes ∙ left_after n old past span p w.begun w.own lt ∙ ap (λ (l : List Move). port_after old l p) (sym w.is_next)
+
 -- Where the old run has ended.
 
 pub over_from : (n : ℕ) (old : Plan) (old_spans : List RunData) (at : ℕ) → IsOld n old old_spans → end_of 0 old_spans ≤ at
@@ -259,11 +295,11 @@ pub done_alike : (n : ℕ) (old : Plan) (old_spans : List RunData) (plan : Plan)
 done_alike n old old_spans plan moves at standing.Alike s le =
     let past = s.kept.reach.beyond in
     ⊎_elim (λ (e : old.end ≡ plan.end). omega arith) (λ (e : at ≤ old.end). absurd (omega arith)) s.ends
-done_alike n old old_spans plan moves at (standing.Apart live) s le = tt
+done_alike n old old_spans plan moves at (standing.Apart live alike) s le = tt
 
 pub done_past : (n : ℕ) (plan : Plan) (at : ℕ) (st : Standing n) → plan.end < at → IsDone n plan at st
 done_past n plan at standing.Alike past = past
-done_past n plan at (standing.Apart live) past = tt
+done_past n plan at (standing.Apart live alike) past = tt
 
 -- the cost with one more span
 pub next_costs : (old : Plan) (old_moves : List Move) (plan : Plan) (spans : List RunData) (s : RunData) (first a b : ℕ)

@@ -1,5 +1,6 @@
 -- Moves that are kept.
-use Rattle.std.specs.Prelude.{◌≡◌, ℕ, ◌-◌, ◌<◌, ◌≤◌, Bool, true, false, List, length, Option, None, Some, slice_index_or}
+use Rattle.std.specs.Prelude.{◌≡◌, ℕ, ◌-◌, ◌<◌, ◌≤◌, ◌==◌, if◌then◌else◌, Bool, true, false, List, [], ◌∷◌, length}
+use Rattle.std.specs.Prelude.{Option, None, Some, slice_index_or}
 use Rattle.pd_objects.specs.declared.query.Answer.{Answer}
 use Rattle.pd_port.specs.declared.due.Due.{Due}
 use Rattle.pd_port.specs.Port.{PortData, record_after, entry_of, hold}
@@ -7,7 +8,10 @@ use Rattle.pd_scenario.specs.Plan.{Plan, settings_of}
 use Rattle.pd_run.specs.declared.note.Marks.{Marks}
 use Rattle.pd_run.specs.Notes.{marks_of}
 use Rattle.pd_run.specs.Run.{Move}
+use Rattle.pd_run.specs.Start.{no_port}
 use Rattle.pd_port.specs.declared.entry.Entry.{Entry}
+use Rattle.pd_keep.specs.declared.kept_move.Place.{Place}
+use Rattle.pd_keep.specs.declared.kept_move.Place.TheVariants as place
 
 -- What is kept of a move: its port, numbered from 1, as it was before it; what fell due; the answer to what the port asked; the
 -- port after it; and what the move left to be read.
@@ -52,16 +56,35 @@ AreInTime old = (i j : ℕ) (e : KeptData) → i ≤ j → j < length old → (s
 abbrev pub AreBefore : List KeptData → ℕ → ℕ → Type 0
 AreBefore old n time = (k : ℕ) (e : KeptData) → k < n → (slice_index_or old k e).due.time < time
 
--- a port stands as the move at a place has left it, where such a place is known
-abbrev pub IsLeft : List KeptData → Option ℕ → PortData → Type 0
-IsLeft moves None x = Unit {0}
-IsLeft moves (Some i) x = (i < length moves) × ((k : KeptData) → (slice_index_or moves i k).after ≡ x)
+-- how a port, numbered from 0 here, stands after these moves, if it stood so before them
+abbrev pub left_from : PortData → List KeptData → ℕ → PortData
+left_from x [] p = x
+left_from x (k ∷ ks) p = left_from (if k.port - 1 == p then k.after else x) ks p
 
--- so stood the port of each move before it
-abbrev pub AreLinked : List KeptData → List (Option ℕ) → Type 0
-AreLinked moves links =
-    (length links ≡ length moves)
-    × ((i : ℕ) (k : KeptData) → i < length moves → IsLeft moves (slice_index_or links i None) (slice_index_or moves i k).before)
+-- how it stands after the moves of a span, which has the ports as they stood before them
+abbrev pub left_by : List PortData → List KeptData → ℕ → PortData
+left_by first moves p = left_from (slice_index_or first p no_port) moves p
+
+-- a port stands at this place of a span: as at its beginning, or as the move at this number has left it
+abbrev pub IsLeft : List PortData → List KeptData → ℕ → Place → PortData → Type 0
+IsLeft first moves p place.First x = slice_index_or first p no_port ≡ x
+IsLeft first moves p (place.After i) x = (i < length moves) × ((k : KeptData) → (slice_index_or moves i k).after ≡ x)
+
+-- it does, if a place is known
+abbrev pub IsKnown : List PortData → List KeptData → ℕ → Option Place → PortData → Type 0
+IsKnown first moves p None x = Unit {0}
+IsKnown first moves p (Some place) x = IsLeft first moves p place x
+
+-- at these places stood the port of each move before it
+pub record AreLinked (first : List PortData) (moves : List KeptData) (links : List Place) : Type 0 where
+  pub count : length links ≡ length moves
+  pub linked : (i : ℕ) (k : KeptData) → i < length moves
+      → IsLeft first moves ((slice_index_or moves i k).port - 1) (slice_index_or links i place.First) (slice_index_or moves i k).before
+
+-- at these places eight ports stand after all moves
+pub record AreLast (first : List PortData) (moves : List KeptData) (lasts : List Place) : Type 0 where
+  pub count : length lasts ≡ 8
+  pub last : (p : ℕ) → p < 8 → IsLeft first moves p (slice_index_or lasts p place.First) (left_by first moves p)
 
 -- what a port holds of the shared budget
 abbrev pub held_by : PortData → ℕ

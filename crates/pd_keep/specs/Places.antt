@@ -1,15 +1,15 @@
--- After which moves ports stand.
-use Rattle.std.specs.Prelude.{ℕ, ◌<◌, List, None, slice_index_or}
+-- Where ports stand beside a span of an older run.
+use Rattle.std.specs.Prelude.{◌≡◌, ℕ, ◌<◌, Bool, true, false, List, length, Option, None, slice_index_or}
+use Rattle.pd_port.specs.Port.{PortData}
 use Rattle.pd_run.specs.Live.{LiveData, port_at}
-use Rattle.pd_keep.specs.declared.one_span.Place.{Place}
-use Rattle.pd_keep.specs.Kept.{KeptData, IsLeft}
+use Rattle.pd_keep.specs.declared.kept_move.Place.{Place}
+use Rattle.pd_keep.specs.Kept.{RunData, IsKnown}
 
--- it isn't known after which
-abbrev pub nowhere : Place
-nowhere = record { old = None; new = None }
+-- n ports stand at these places of the span, where they are known; there is room for eight
+pub record ArePlaced (n : ℕ) (old : RunData) (places : List (Option Place)) (live : LiveData) : Type 0 where
+  pub count : length places ≡ 8
+  pub placed : (p : ℕ) → p < n → IsKnown old.first old.moves p (slice_index_or places p None) (port_at live p)
 
--- these are the places of n ports, among the moves of an older run and of a new one
-abbrev pub ArePlaced : ℕ → List KeptData → List KeptData → List Place → LiveData → Type 0
-ArePlaced n old new places live =
-    (p : ℕ) → p < n
-    → IsLeft old (slice_index_or places p nowhere).old (port_at live p) × IsLeft new (slice_index_or places p nowhere).new (port_at live p)
+-- of n ports those that are marked stand as these
+abbrev pub StandAs : ℕ → List Bool → LiveData → (ℕ → PortData) → Type 0
+StandAs n marks live port = (p : ℕ) → p < n → slice_index_or marks p false ≡ true → port_at live p ≡ port p

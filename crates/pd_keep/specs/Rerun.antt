@@ -1,9 +1,9 @@
 -- A run beside an older one.
 use Rattle.std.specs.Prelude.{◌≡◌, ◌⊎◌, ℕ, ◌<◌, ◌≤◌, ◌++◌, ◌↔◌, List, [], length, map, slice_get, Some, All, Contains}
-use Rattle.std.specs.Prelude.{slice_index_or}
+use Rattle.std.specs.Prelude.{Bool, true, false, slice_index_or}
 use Rattle.pd_port.specs.Meter.{raised}
 use Rattle.pd_scenario.specs.Plan.{Plan, IsPlan}
-use Rattle.pd_run.specs.Live.{LiveData, StandsAfter, port_at}
+use Rattle.pd_run.specs.Live.{LiveData, StandsAfter, port_at, port_after}
 use Rattle.pd_run.specs.Start.{no_port}
 use Rattle.pd_run.specs.declared.beside.Agreement.{Agreement}
 use Rattle.pd_run.specs.Order.{EachAfter}
@@ -14,6 +14,7 @@ use Rattle.pd_keep.specs.declared.rerun.Standing.TheVariants as standing
 use Rattle.pd_keep.specs.Fresh.{AreFresh}
 use Rattle.pd_keep.specs.Kept.{KeptData, move_of, IsOwn}
 use Rattle.pd_keep.specs.Kept.{RunData}
+use Rattle.pd_keep.specs.Places.{StandAs}
 use Rattle.pd_keep.specs.Spans.{kept_of_spans, moves_of, end_of, begins_at, BeginsAfter, AreSpans, IsKept}
 
 -- what a run is made beside: no run, or what is kept of a plan's
@@ -26,10 +27,16 @@ pub record StandsAlike (n : ℕ) (old : Plan) (old_spans : List RunData) (plan :
   pub alike : AreAlike old (before at (moves_of old_spans)) plan moves
   pub ends : (old.end ≡ plan.end) ⊎ (at ≤ old.end)
 
+-- After these moves the ports stand for themselves; those that are marked stand as the old run's do at a time all the same.
+pub record StandsApart (n : ℕ) (old : Plan) (old_spans : List RunData) (plan : Plan) (moves : List Move) (at : ℕ) (live : LiveData)
+    (alike : List Bool) : Type 0 where
+  pub stands : StandsAfter plan moves live
+  pub known : StandAs n alike live (port_after old (before at (moves_of old_spans)))
+
 -- after these moves the ports stand so at a time
 abbrev pub Stands : (n : ℕ) → Plan → List RunData → Plan → List Move → ℕ → Standing n → Type 0
 Stands n old old_spans plan moves at standing.Alike = StandsAlike n old old_spans plan moves at
-Stands n old old_spans plan moves at (standing.Apart live) = StandsAfter plan moves live
+Stands n old old_spans plan moves at (standing.Apart live alike) = StandsApart n old old_spans plan moves at live alike
 
 -- what moves cost beside old ones: a step for each that is fresh
 abbrev pub Costs : Plan → List Move → Plan → List Move → ℕ → ℕ → Type 0
@@ -85,16 +92,29 @@ AreThose all from to some = (k : KeptData) → from ≤ k.due.time → k.due.tim
 -- the run has ended, unless its ports stand for themselves
 abbrev pub IsDone : (n : ℕ) → Plan → ℕ → Standing n → Type 0
 IsDone n plan at standing.Alike = plan.end < at
-IsDone n plan at (standing.Apart live) = Unit {0}
+IsDone n plan at (standing.Apart live alike) = Unit {0}
 
--- a span begins with these ports
+-- a span begins with this one of these ports
+abbrev pub HasFirst : RunData → LiveData → ℕ → Type 0
+HasFirst span live p = (p < length span.first) × (slice_index_or span.first p no_port ≡ port_at live p)
+
+-- with each of them
 abbrev pub BeginsWith : ℕ → RunData → LiveData → Type 0
-BeginsWith n span live = (p : ℕ) → p < n → (p < length span.first) × (slice_index_or span.first p no_port ≡ port_at live p)
+BeginsWith n span live = (p : ℕ) → p < n → HasFirst span live p
+
+-- with those that are marked
+abbrev pub BeginsWithMarked : ℕ → RunData → LiveData → List Bool → Type 0
+BeginsWithMarked n span live marks = (p : ℕ) → p < n → slice_index_or marks p false ≡ true → HasFirst span live p
 
 -- they stand so already, or the span begins with them
 abbrev pub AreStanding : (n : ℕ) → Standing n → RunData → Type 0
 AreStanding n standing.Alike span = Unit {0}
-AreStanding n (standing.Apart live) span = BeginsWith n span live
+AreStanding n (standing.Apart live alike) span = BeginsWith n span live
+
+-- of ports that stand for themselves, the span begins with those that are marked
+abbrev pub AreKnown : (n : ℕ) → Standing n → RunData → Type 0
+AreKnown n standing.Alike span = Unit {0}
+AreKnown n (standing.Apart live alike) span = BeginsWithMarked n span live alike
 
 -- an old run has no move from a time on
 abbrev pub AreOver : List RunData → ℕ → Type 0

@@ -1,6 +1,6 @@
 //! Moves that are kept, which runs share.
 
-ghost use Rattle.std.specs.Prelude.{◌≡◌, ◌↔◌, ◌<◌, ◌≤◌, ◌++◌, ◌∷◌, ℕ, [], List, All, IsTrue, IfOk, OnOk, length, map};
+ghost use Rattle.std.specs.Prelude.{◌≡◌, ◌↔◌, ◌<◌, ◌≤◌, ◌-◌, ◌++◌, ◌∷◌, ℕ, [], List, All, IsTrue, IfOk, OnOk, length, map};
 ghost use Rattle.std.specs.Prelude.{false, option_map, slice_get, slice_index_or};
 ghost use Rattle.pd_run.specs.Notes.{IsNextWith};
 ghost use Rattle.pd_port.specs.Port.{PortData};
@@ -9,7 +9,7 @@ ghost use Rattle.pd_run.specs.Run.{Move, IsAnswered};
 ghost use Rattle.pd_run.specs.Start.{no_port};
 ghost use Rattle.pd_run.specs.UpTo.{AreAfter};
 ghost use Rattle.pd_keep.specs.Asked.{IsAsked};
-ghost use Rattle.pd_keep.specs.Kept.{KeptData, IsMade, IsLeft, IsQuiet, kept_of, move_of, marks_kept, shown_of};
+ghost use Rattle.pd_keep.specs.Kept.{KeptData, IsMade, IsKnown, IsQuiet, kept_of, left_by, move_of, marks_kept, shown_of};
 
 use pd_objects::Answer;
 use pd_port::{Due, Entry, Port};
@@ -102,30 +102,38 @@ impl SharedMove {
     }
 }
 
+/// Where a port stands in a span: as at its beginning, or as the move at a place has left it.
+#[derive(Clone, Copy)]
+pub enum Place {
+    First,
+    After(usize),
+}
+
 /// Moves of a run up to a time, and the ports as they are before them. Beside the moves stand the marks of their entries, so that
-/// whoever looks for a note reads these alone, and after which other move each move's port stood, where that is known, so that
-/// ports that come from one move to the next needn't be compared, and which moves asked the shared budget or changed what their port
-/// holds, so that no other is looked at where the budget alone is another.
+/// whoever looks for a note reads these alone, and where each move's port stood before it, so that ports that come from one move to
+/// the next needn't be compared, and which moves asked the shared budget or changed what their port holds, so that no other is looked
+/// at where the budget alone is another. It is also known where each port stands after the moves.
 #[derive(Drop)]
 pub struct KeptMoves {
     to: u64,
     first: Vec<SharedPort>,
     moves: Vec<SharedMove>,
     marks: Vec<Marks>,
-    links: Vec<Option<usize>>,
+    links: Vec<Place>,
     stirs: Vec<bool>,
+    lasts: [Place; 8],
 }
 
 impl Model for KeptMoves {
     ghost use Rattle.std.specs.Prelude.{◌≡◌, map};
-    ghost use Rattle.pd_keep.specs.Kept.{RunData, AreLinked, AreQuiet, marks_kept};
+    ghost use Rattle.pd_keep.specs.Kept.{RunData, AreLast, AreLinked, AreQuiet, marks_kept};
 
     ghost Value = { RunData };
 
     ghost view = { λ r. record { to = r.to; first = r.first.items; moves = r.moves.items } };
 
-    ghost invariant = { λ r. (r.marks.items ≡ map marks_kept r.moves.items) × AreLinked r.moves.items r.links.items
-        × AreQuiet r.moves.items r.stirs.items };
+    ghost invariant = { λ r. (r.marks.items ≡ map marks_kept r.moves.items) × AreLinked r.first.items r.moves.items r.links.items
+        × AreQuiet r.moves.items r.stirs.items × AreLast r.first.items r.moves.items r.lasts };
 }
 
 impl KeptMoves {
@@ -140,6 +148,7 @@ impl KeptMoves {
             marks: Vec::new(alloc),
             links: Vec::new(alloc),
             stirs: Vec::new(alloc),
+            lasts: [Place::First; 8],
         }
     }
 
@@ -161,6 +170,7 @@ impl KeptMoves {
             marks: Vec::with_capacity(alloc, room)?,
             links: Vec::with_capacity(alloc, room)?,
             stirs: Vec::with_capacity(alloc, room)?,
+            lasts: [Place::First; 8],
         })
     }
 
@@ -302,24 +312,31 @@ impl KeptMoves {
         )
     }
 
-    // Whether a move is known to be the next one of its port after another.
-    fn follows(&self, i: usize, left: Option<usize>) -> bool
-        requires { i < length self.now.moves }
-        ensures { IsTrue result → (x : PortData) (k : KeptData) → IsLeft self.now.moves left x
-            → (slice_index_or self.now.moves i k).before ≡ x }
+    /// Whether a port, numbered from 0 here, is known to stand as the moves leave it. It stands at a place, where one is given.
+    pub fn leaves(&self, port: usize, left: Option<Place>) -> bool
+        requires { port < 8 }
+        ensures { IsTrue result → (x : PortData) → IsKnown self.now.first self.now.moves port left x
+            → x ≡ left_by self.now.first self.now.moves port }
     {
-        match (self.links[i], left) {
-            (Some(link), Some(left)) => link == left,
-            _ => false,
-        }
+        is_at(left, self.lasts[port])
     }
 
-    /// Whether a move is the one of such a port for such a due, with such an answer. It was made of its own; the port stands as
-    /// the move at a place left it, where one is given.
+    // Whether a move is known to be the next one of its port, which stands at a place, where one is given.
+    fn follows(&self, i: usize, left: Option<Place>) -> bool
+        requires { i < length self.now.moves }
+        ensures { IsTrue result → (x : PortData) (k : KeptData)
+            → IsKnown self.now.first self.now.moves ((slice_index_or self.now.moves i k).port - 1) left x
+            → (slice_index_or self.now.moves i k).before ≡ x }
+    {
+        is_at(left, self.links[i])
+    }
+
+    /// Whether a move is the one of such a port for such a due, with such an answer. It was made of its own; the port stands at a
+    /// place, where one is given.
     pub fn repeats(
         &self,
         i: usize,
-        left: Option<usize>,
+        left: Option<Place>,
         port: usize,
         before: &Port,
         due: &Due,
@@ -327,7 +344,7 @@ impl KeptMoves {
     ) -> bool
         requires inside { i < length self.now.moves }
         requires made { All IsMade self.now.moves }
-        requires left { IsLeft self.now.moves left before.now }
+        requires left { IsKnown self.now.first self.now.moves (port - 1) left before.now }
         ensures { IsTrue result ↔ (slice_index_or self.now.moves i (kept_of port before.now due.now answer.now)
             ≡ kept_of port before.now due.now answer.now) }
     {
@@ -338,29 +355,40 @@ impl KeptMoves {
             && (self.follows(i, left) || same_port(kept.before.port(), before))
     }
 
-    /// Keeps one more move with its marks. Its port stood as the move at a place left it, where one is given.
+    /// Keeps one more move of a port with its marks. The moves before it left the port as it was before this one.
     ///
     /// # Errors
     /// There is no memory.
-    pub fn push(
-        &mut self,
-        kept: SharedMove,
-        marks: Marks,
-        left: Option<usize>,
-    ) -> Result<(), AllocError>
+    pub fn push(&mut self, port: usize, kept: SharedMove, marks: Marks) -> Result<(), AllocError>
+        requires first { 1 ≤ port }
+        requires last { port ≤ 8 }
+        requires port { port ≡ kept.port }
         requires marks { marks ≡ marks_kept kept }
-        requires left { IsLeft self.old.moves left kept.before }
+        requires goes { kept.before ≡ left_by self.old.first self.old.moves (port - 1) }
         ensures { OnOk result (self.new ≡ record self.old { moves = self.old.moves ++ kept ∷ [] }) }
     {
+        let place = Place::After(self.len());
         self.marks.reserve(1)?;
         self.links.reserve(1)?;
         self.stirs.reserve(1)?;
         let stirs = kept.kept().stirs();
         self.moves.push(kept)?;
         self.marks.push_reserved(marks);
-        self.links.push_reserved(left);
+        self.links.push_reserved(self.lasts[port - 1]);
         self.stirs.push_reserved(stirs);
+        self.lasts[port - 1] = place;
         Ok(())
+    }
+}
+
+// Whether a place is given, and is this one.
+fn is_at(left: Option<Place>, place: Place) -> bool
+    ensures { IsTrue result ↔ (left ≡ Some place) }
+{
+    match (left, place) {
+        (Some(Place::First), Place::First) => true,
+        (Some(Place::After(i)), Place::After(j)) => i == j,
+        _ => false,
     }
 }
 

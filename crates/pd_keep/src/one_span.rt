@@ -10,11 +10,12 @@ ghost use Rattle.pd_run.specs.Run.{Move, NoneLater};
 ghost use Rattle.pd_run.specs.Start.{no_port};
 ghost use Rattle.pd_run.specs.StepsLeft.{steps_left};
 ghost use Rattle.pd_run.specs.UpTo.{IsUpTo};
-ghost use Rattle.pd_keep.specs.Kept.{KeptData, kept_of, move_of, marks_kept, IsMade, IsOwn, IsLeft, AreInTime, AreBefore};
+ghost use Rattle.pd_keep.specs.Kept.{KeptData, kept_of, move_of, marks_kept, IsMade, IsOwn, IsKnown, AreInTime, AreBefore};
 ghost use Rattle.pd_keep.specs.Charge.{Charges};
+ghost use Rattle.pd_keep.specs.Places.{ArePlaced};
 ghost use Rattle.pd_keep.specs.Rerun.{AreThose, Costs, IsNextSpan};
 
-use crate::kept_move::{KeptMove, KeptMoves, SharedMove, copy_answer};
+use crate::kept_move::{KeptMove, KeptMoves, Place, SharedMove, copy_answer};
 use pd_objects::Answer;
 use pd_port::{Due, Meter, Port};
 use pd_run::{Live, Marks, Plan};
@@ -30,26 +31,15 @@ const ROOM: usize = 160;
 /// these.
 pub const STRIDE: u64 = 131_072;
 
-/// After which move of the older run and of the new one a port stands, where that is known.
-#[derive(Clone, Copy)]
-struct Place {
-    old: Option<usize>,
-    new: Option<usize>,
-}
-
-const NOWHERE: Place = Place {
-    old: None,
-    new: None,
-};
-
-/// The moves of a run up to a time, or to an earlier one where these are enough for a span, beside an older run's. The meter
-/// rises by those that the older one doesn't have.
+/// The moves of a run up to a time, or to an earlier one where these are enough for a span, beside an older run's, in which the
+/// ports stand at these places. The meter rises by those that the older one doesn't have.
 ///
 /// # Errors
 /// There is no memory. The ports stand anywhere.
 pub fn run_span<const N: usize>(
     alloc: Global,
     old: &KeptMoves,
+    places: &mut [Option<Place>; 8],
     plan: &Plan<N>,
     live: &mut Live<N>,
     to: u64,
@@ -57,6 +47,7 @@ pub fn run_span<const N: usize>(
 ) -> Result<KeptMoves, AllocError>
     requires made { All IsMade old.now.moves }
     requires in_time { AreInTime old.now.moves }
+    requires placed { ArePlaced N old.now places.old live.old }
     requires stands { (past : List Move) × StandsAfter plan.now past live.old }
     ensures span { IfOk result (λ span. (past : List Move) (from : ℕ) → from < to → StandsAfter plan.now past live.old
         → IsUpTo plan.now past from → IsNextSpan N plan.now past from span) }
@@ -64,6 +55,7 @@ pub fn run_span<const N: usize>(
     ensures soon { IfOk result (λ span. (span.to ≡ to) ⊎ (span.to ≤ plan.now.end)) }
     ensures stands { IfOk result (λ span. (past : List Move) → StandsAfter plan.now past live.old
         → StandsAfter plan.now (past ++ map move_of span.moves) live.new) }
+    ensures placed { OnOk result (ArePlaced N old.now places.new live.new) }
     ensures cost { IfOk result (λ span. (old_plan : PlanData) (all : List KeptData) (past : List Move) (from : ℕ)
         → All (IsOwn old_plan) all → AreThose all from to old.now.moves → StandsAfter plan.now past live.old → IsUpTo plan.now past from
         → Costs old_plan (map move_of all) plan.now (map move_of span.moves) meter.old meter.new) }
@@ -72,7 +64,6 @@ pub fn run_span<const N: usize>(
     let _end = plan.end();
     let _count = meter.count();
     let mut span = KeptMoves::with_room(alloc, live.ports(alloc)?, ROOM)?;
-    let mut places = [NOWHERE; 8];
     let mut from = 0;
     while let Some((port, due)) = next_before(live, plan, to) {
         if let Some(end) = end_before(&span, due.time) {
@@ -80,23 +71,14 @@ pub fn run_span<const N: usize>(
         }
         let answer = live.reply(plan, port, &due);
         from = skip(old, from, due.time);
-        let left = places[port - 1].old;
-        let (kept, marks, at) = make(alloc, old, from, left, plan, live, port, due, answer, meter)?;
-        span.push(kept, marks, places[port - 1].new)?;
-        places[port - 1] = place_of_last(&span, at);
+        let left = places[port - 1];
+        let (kept, marks, place) = make(
+            alloc, old, from, left, plan, live, port, due, answer, meter,
+        )?;
+        span.push(port, kept, marks)?;
+        places[port - 1] = place;
     }
     Ok(span.ended(to))
-}
-
-// The place of the port whose move is the last of a span, and is found at a place of the old one.
-fn place_of_last(span: &KeptMoves, found: Option<usize>) -> Place
-    requires { 1 ≤ length span.now.moves }
-    ensures { result ≡ record { old = found; new = Some (length span.now.moves - 1) } }
-{
-    Place {
-        old: found,
-        new: Some(span.len() - 1),
-    }
 }
 
 // Where a span ends before a time, if its moves are enough.
@@ -132,23 +114,23 @@ fn next_before<const N: usize>(live: &Live<N>, plan: &Plan<N>, to: u64) -> Optio
     }
 }
 
-// A port's move for a due, with its marks: shared where the old run has it, with its place there, else a step.
+// A port's move for a due, with its marks, and where the port stands in the old run then: shared where the old run has it, else a step.
 fn make<const N: usize>(
     alloc: Global,
     old: &KeptMoves,
     from: usize,
-    left: Option<usize>,
+    left: Option<Place>,
     plan: &Plan<N>,
     live: &mut Live<N>,
     port: usize,
     due: Due,
     answer: Option<Answer>,
     meter: &mut Meter,
-) -> Result<(SharedMove, Marks, Option<usize>), AllocError>
+) -> Result<(SharedMove, Marks, Option<Place>), AllocError>
     requires made { All IsMade old.now.moves }
     requires in_time { AreInTime old.now.moves }
     requires before { AreBefore old.now.moves from due.time }
-    requires left { IsLeft old.now.moves left (port_at live.old (port - 1)) }
+    requires left { IsKnown old.now.first old.now.moves (port - 1) left (port_at live.old (port - 1)) }
     requires plan { IsPlan N plan.now }
     requires stands { (past : List Move) × StandsAfter plan.now past live.old }
     requires next { IsNext plan.now live.old port due }
@@ -156,7 +138,7 @@ fn make<const N: usize>(
     requires answer { answer ≡ reply_at live.old (port - 1) due }
     ensures kept { IfOk result (λ r. r.0 ≡ kept_of port (port_at live.old (port - 1)) due answer) }
     ensures marks { IfOk result (λ r. r.1 ≡ marks_kept r.0) }
-    ensures found { IfOk result (λ r. IsLeft old.now.moves r.2 (moved_port live.old (port - 1) due)) }
+    ensures found { IfOk result (λ r. IsKnown old.now.first old.now.moves (port - 1) r.2 (moved_port live.old (port - 1) due)) }
     ensures ports { OnOk result (live.new.ports ≡ slice_set live.old.ports (port - 1) (moved_port live.old (port - 1) due)) }
     ensures stands { OnOk result ((past : List Move) → StandsAfter plan.now past live.old
         → StandsAfter plan.now (past ++ next_move plan.now past (port - 1) due ∷ []) live.new) }
@@ -167,7 +149,7 @@ fn make<const N: usize>(
     if let Some(i) = find(old, from, left, port, live.port(port), &due, &answer) {
         let kept = old.share(i)?;
         live.settle(plan, port, &due, kept.kept().after.share()?);
-        return Ok((kept, old.marks(i), Some(i)));
+        return Ok((kept, old.marks(i), Some(Place::After(i))));
     }
     let kept = step(alloc, plan, live, port, due, answer, meter)?;
     let marks = Marks::of(port, &kept.kept().entry);
@@ -228,7 +210,7 @@ fn skip(old: &KeptMoves, from: usize, time: u64) -> usize
 fn find(
     old: &KeptMoves,
     from: usize,
-    left: Option<usize>,
+    left: Option<Place>,
     port: usize,
     before: &Port,
     due: &Due,
@@ -237,7 +219,7 @@ fn find(
     requires made { All IsMade old.now.moves }
     requires in_time { AreInTime old.now.moves }
     requires before { AreBefore old.now.moves from due.now.time }
-    requires left { IsLeft old.now.moves left before.now }
+    requires left { IsKnown old.now.first old.now.moves (port - 1) left before.now }
     ensures found { IfSome result (λ i. i < length old.now.moves
         × slice_index_or old.now.moves i (kept_of port before.now due.now answer.now) ≡ kept_of port before.now due.now answer.now) }
     ensures none { IfNone result (Contains old.now.moves (kept_of port before.now due.now answer.now) → ⊥) }

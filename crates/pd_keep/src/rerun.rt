@@ -1,7 +1,9 @@
 //! A run beside an older one: spans that the older one has too are shared, and in the others the moves that it has.
 
 ghost use Rattle.std.specs.Prelude.{◌≡◌, ◌⊎◌, ℕ, ◌+◌, ◌*◌, ◌-◌, ◌<◌, ◌≤◌, ◌++◌, ◌∷◌};
-ghost use Rattle.std.specs.Prelude.{◌↔◌, [], List, IfOk, OnOk, IsTrue, map, length, All};
+ghost use Rattle.std.specs.Prelude.{◌↔◌, [], List, IfOk, OnOk, IsTrue, map, length, All, Some, None, false, true, cond};
+ghost use Rattle.std.specs.Prelude.{slice_index_or};
+ghost use Rattle.pd_port.specs.Port.{PortData};
 ghost use Rattle.pd_run.specs.declared.beside.Agreement.{Agreement as AgreementData};
 ghost use Rattle.pd_scenario.specs.Plan.{Plan as PlanData, IsPlan};
 ghost use Rattle.pd_run.specs.Live.{StandsAfter, port_at};
@@ -9,12 +11,14 @@ ghost use Rattle.pd_run.specs.Run.{Move};
 ghost use Rattle.pd_run.specs.Start.{no_port};
 ghost use Rattle.pd_run.specs.UpTo.{IsUpTo};
 ghost use Rattle.pd_keep.specs.Kept.{KeptData, move_of, IsMade, IsOwn, AreInTime};
-ghost use Rattle.pd_keep.specs.Kept.{RunData};
-ghost use Rattle.pd_keep.specs.Rerun.{IsOld, IsSoFar, Stands, Costs, ComesTo, AreStanding, AreThose, IsDone, IsShared, BeginsWith, AreOver};
+ghost use Rattle.pd_keep.specs.Kept.{RunData, IsKnown, left_by};
+ghost use Rattle.pd_keep.specs.Places.{ArePlaced, StandAs};
+ghost use Rattle.pd_keep.specs.Rerun.{IsOld, IsSoFar, Stands, Costs, ComesTo, AreStanding, AreThose, IsDone, IsShared, AreOver};
+ghost use Rattle.pd_keep.specs.Rerun.{AreKnown, BeginsWith, BeginsWithMarked};
 ghost use Rattle.pd_keep.specs.Spans.{IsKept, kept_of_spans, moves_of};
 
 use crate::answered::are_answered;
-use crate::kept_move::KeptMoves;
+use crate::kept_move::{KeptMoves, Place};
 use crate::one_span::{STRIDE, run_span};
 use crate::spans::Spans;
 use pd_port::Meter;
@@ -22,11 +26,12 @@ use pd_run::{Agreement, Beside, Live, Plan};
 use std::alloc::{AllocError, Global};
 use std::rc::Rc;
 
-/// Where the ports of a run stand at the beginning of a span: as those of the older run there, or for themselves.
+/// Where the ports of a run stand at the beginning of a span: as those of the older run there, or for themselves. Then those that
+/// are marked are known to stand as the older run's all the same, and needn't be compared.
 #[derive(Drop)]
 pub enum Standing<const N: usize> {
     Alike,
-    Apart(Live<N>),
+    Apart(Live<N>, [bool; 8]),
 }
 
 /// The run of a plan, beside an older one or none. The meter rises by the moves that the older run doesn't have.
@@ -49,7 +54,7 @@ pub fn rerun<const N: usize>(
     let _count = meter.count();
     let mut spans = Spans::new(alloc);
     let (at, standing) = run_beside(alloc, old, old_spans, plan, &mut spans, meter)?;
-    if let Standing::Apart(mut live) = standing {
+    if let Standing::Apart(mut live, _) = standing {
         finish(alloc, plan, at, &mut live, &mut spans, meter)?;
     }
     Ok(spans)
@@ -77,7 +82,7 @@ fn run_beside<const N: usize>(
     let _count = meter.count();
     let _places = old_spans.count();
     let mut beside = Beside::new(alloc, old, plan)?;
-    let mut standing = Standing::Apart(Live::new(alloc, plan)?);
+    let mut standing = Standing::Apart(Live::new(alloc, plan)?, [false; 8]);
     let mut at = 0;
     let mut place = 0;
     while at <= plan.end() {
@@ -122,9 +127,19 @@ fn next_spans<const N: usize>(
         spans.push(old.clone()?)?;
         return Ok(Standing::Alike);
     }
-    let mut live = standing_live(alloc, old, plan, at, standing)?;
-    run_on(alloc, old, plan, at, old.to(), &mut live, spans, meter)?;
-    Ok(Standing::Apart(live))
+    let (mut live, alike) = standing_live(alloc, old, plan, at, standing)?;
+    let alike = run_on(
+        alloc,
+        old,
+        plan,
+        at,
+        old.to(),
+        &mut live,
+        alike,
+        spans,
+        meter,
+    )?;
+    Ok(Standing::Apart(live, alike))
 }
 
 // Whether a span of the older run is one of the run too: the ports stand alike at its beginning, and both plans ask the same in it,
@@ -154,48 +169,59 @@ fn is_shared<const N: usize>(
     }
 }
 
-// The ports where they stand at the beginning of a span.
+// The ports where they stand at the beginning of a span, and which of them are known to stand as the older run's.
 fn standing_live<const N: usize>(
     alloc: Global,
     old: &KeptMoves,
     plan: &Plan<N>,
     at: u64,
     standing: Standing<N>,
-) -> Result<Live<N>, AllocError>
+) -> Result<(Live<N>, [bool; 8]), AllocError>
     requires comes { (old_plan : PlanData) × (old_spans : List RunData) × (spans : List RunData) × (agree : AgreementData)
         × ComesTo N old_plan old_spans old.now plan.now spans at agree standing }
-    ensures { IfOk result (λ live. (old_plan : PlanData) (old_spans : List RunData) (spans : List RunData) (agree : AgreementData)
-        → ComesTo N old_plan old_spans old.now plan.now spans at agree standing.entry → StandsAfter plan.now (moves_of spans) live) }
+    ensures stands { IfOk result (λ r. (old_plan : PlanData) (old_spans : List RunData) (spans : List RunData) (agree : AgreementData)
+        → ComesTo N old_plan old_spans old.now plan.now spans at agree standing.entry → StandsAfter plan.now (moves_of spans) r.0) }
+    ensures known { IfOk result (λ r. (old_plan : PlanData) (old_spans : List RunData) (spans : List RunData) (agree : AgreementData)
+        → ComesTo N old_plan old_spans old.now plan.now spans at agree standing.entry → BeginsWithMarked N old.now r.0 r.1) }
 {
     match standing {
-        Standing::Alike => Live::resume(alloc, plan, old.first_ports(alloc)?, at),
-        Standing::Apart(live) => Ok(live),
+        Standing::Alike => {
+            let ports = old.first_ports(alloc)?;
+            let live = Live::resume(alloc, plan, ports, at)?;
+            Ok((live, [true; 8]))
+        }
+        Standing::Apart(live, alike) => Ok((live, alike)),
     }
 }
 
 // Whether the ports stand as those of the older run at the beginning of its span.
 fn stands_alike<const N: usize>(standing: &Standing<N>, span: &KeptMoves) -> bool
+    requires few { N ≤ 8 }
+    requires known { AreKnown N standing.now span.now }
     ensures { IsTrue result ↔ AreStanding N standing.now span.now }
 {
     match standing {
         Standing::Alike => true,
-        Standing::Apart(live) => begins_with(span, live),
+        Standing::Apart(live, alike) => begins_with(span, live, alike),
     }
 }
 
-// Whether a span begins with these ports.
-fn begins_with<const N: usize>(span: &KeptMoves, live: &Live<N>) -> bool
+// Whether a span begins with these ports. It does with those that are marked, which aren't compared.
+fn begins_with<const N: usize>(span: &KeptMoves, live: &Live<N>, alike: &[bool; 8]) -> bool
+    requires few { N ≤ 8 }
+    requires known { BeginsWithMarked N span.now live.now alike.now }
     ensures { IsTrue result ↔ BeginsWith N span.now live.now }
 {
     for port in 0..N {
-        if !span.begins_with(port, live.port(port + 1)) {
+        if !alike[port] && !span.begins_with(port, live.port(port + 1)) {
             return false;
         }
     }
     true
 }
 
-// The spans of a run from one time to another, beside what is kept of an older one in between.
+// The spans of a run from one time to another, beside what is kept of an older one in between. Of the ports those that are marked
+// stand as the older run's. Which are known to do so afterwards.
 fn run_on<const N: usize>(
     alloc: Global,
     old: &KeptMoves,
@@ -203,17 +229,20 @@ fn run_on<const N: usize>(
     from: u64,
     to: u64,
     live: &mut Live<N>,
+    alike: [bool; 8],
     spans: &mut Spans,
     meter: &mut Meter,
-) -> Result<(), AllocError>
+) -> Result<[bool; 8], AllocError>
     requires made { All IsMade old.now.moves }
     requires in_time { AreInTime old.now.moves }
     requires rising { from < to }
     requires soon { from ≤ plan.now.end }
+    requires known { BeginsWithMarked N old.now live.old alike }
     requires so_far { IsSoFar N plan.now spans.old from }
     requires stands { StandsAfter plan.now (moves_of spans.old) live.old }
     ensures so_far { OnOk result (IsSoFar N plan.now spans.new to) }
     ensures stands { OnOk result (StandsAfter plan.now (moves_of spans.new) live.new) }
+    ensures known { IfOk result (λ alike. StandAs N alike live.new (left_by old.now.first old.now.moves)) }
     ensures cost { OnOk result ((old_plan : PlanData) (all : List KeptData) (first : ℕ) → All (IsOwn old_plan) all
         → AreThose all from to old.now.moves → Costs old_plan (map move_of all) plan.now (moves_of spans.old) first meter.old
         → Costs old_plan (map move_of all) plan.now (moves_of spans.new) first meter.new) }
@@ -221,13 +250,44 @@ fn run_on<const N: usize>(
 {
     let _end = plan.end();
     let _count = meter.count();
+    let mut places = first_places(alike);
     let mut at = from;
     while at < to {
-        let span = run_span(alloc, old, plan, live, to, meter)?;
+        let span = run_span(alloc, old, &mut places, plan, live, to, meter)?;
         at = span.to();
         spans.push(Rc::new(alloc, span)?)?;
     }
-    Ok(())
+    Ok(alike_after(old, &places))
+}
+
+// The places of the ports in a span with which those that are marked begin.
+fn first_places(alike: [bool; 8]) -> [Option<Place>; 8]
+    ensures count { length result ≡ 8 }
+    ensures are { (p : ℕ) → p < 8 → slice_index_or result p None ≡ cond (slice_index_or alike p false) (Some Place.First) None }
+{
+    let mut places = [None; 8];
+    for port in 0..8 {
+        places[port] = first_place(alike[port]);
+    }
+    places
+}
+
+fn first_place(alike: bool) -> Option<Place>
+    ensures { result ≡ cond alike (Some Place.First) None }
+{
+    if alike { Some(Place::First) } else { None }
+}
+
+// Which of the ports that stand at these places are known to stand as the moves leave them.
+fn alike_after(old: &KeptMoves, places: &[Option<Place>; 8]) -> [bool; 8]
+    ensures { (p : ℕ) → p < 8 → slice_index_or result p false ≡ true → (x : PortData)
+        → IsKnown old.now.first old.now.moves p (slice_index_or places.now p None) x → x ≡ left_by old.now.first old.now.moves p }
+{
+    let mut alike = [false; 8];
+    for port in 0..8 {
+        alike[port] = old.leaves(port, places[port]);
+    }
+    alike
 }
 
 // What is left of a run, which the older one doesn't have.
@@ -256,6 +316,8 @@ fn finish<const N: usize>(
     let nothing = KeptMoves::new(alloc, Vec::new(alloc));
     // Beyond the end, so that a later end leaves no boundary of its own.
     let to = (end / STRIDE + 1) * STRIDE;
-    run_on(alloc, &nothing, plan, from, to, live, spans, meter)?;
+    run_on(
+        alloc, &nothing, plan, from, to, live, [false; 8], spans, meter,
+    )?;
     Ok(())
 }

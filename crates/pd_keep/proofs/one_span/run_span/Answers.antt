@@ -1,5 +1,5 @@
 use Rattle.std.proofs.Common.{All, ◌≡◌, ◌<◌, ◌≤◌, ◌-◌, ◌++◌, ◌∷◌, [], List, ℕ, length, map, refl, arith, ap, sym, ◌∙◌, subst}
-use Rattle.std.proofs.Common.{slice_index_or, append_assoc}
+use Rattle.std.proofs.Common.{slice_index_or, append_assoc, None}
 use Rattle.std.proofs.lemmas.List.{append-nil, map-append, length_push, length-set, length-map}
 use Rattle.std.proofs.lemmas.List.Elements.{All-push}
 use Rattle.pd_port.specs.Port.{PortData}
@@ -8,17 +8,18 @@ use Rattle.pd_run.specs.Order.{EachAfter}
 use Rattle.pd_run.specs.Run.{Move, IsInOrder}
 use Rattle.pd_run.specs.Live.{LiveData, StandsAfter, port_at, port_after, due_at, moved_port}
 use Rattle.pd_run.specs.StepsLeft.{steps_left}
+use Rattle.pd_run.specs.Start.{no_port}
 use Rattle.pd_run.specs.UpTo.{IsUpTo}
 use Rattle.pd_run.proofs.Alike.{none_later-back}
 use Rattle.pd_run.proofs.Cut.{All-nil, All-append, EachAfter-back, IsEarlier, IsLater, next_up_to}
-use Rattle.pd_keep.specs.Kept.{KeptData, move_of, kept_of, IsOwn, IsLeft}
-use Rattle.pd_keep.specs.Places.{nowhere, ArePlaced}
+use Rattle.pd_keep.specs.Kept.{KeptData, move_of, kept_of, IsKnown, IsOwn}
+use Rattle.pd_keep.specs.Places.{ArePlaced}
 use Rattle.pd_keep.specs.Kept.{RunData}
 use Rattle.pd_keep.proofs.Fresh.{fresh_step}
 use Rattle.pd_keep.proofs.InTime.{none_later-last, before_later, times}
 use Rattle.pd_keep.proofs.Later.{due_later_yet, between_some}
 use Rattle.pd_keep.proofs.Made.{kept_is_next, kept_is_own, kept_is_moved, charges_those}
-use Rattle.pd_keep.proofs.Places.{placed_first, placed_more}
+use Rattle.pd_keep.proofs.Places.{AreLeft, left_moved, placed_at_budget, placed_more}
 use Rattle.pd_keep.proofs.Shows.{begins_with_live, begins_same}
 use Rattle.pd_keep.proofs.one_span.run_span.Goals as goal
 
@@ -64,8 +65,9 @@ make-requires g c =
     let answer = c.reply-answer.ensures.answer in
     let p = c.in-Some.port - 1 in
     let known : p < g.row.N = omega (arith, plan.settings_count, next.first.known) in
-    let left = subst (λ (l : LiveData). IsLeft c.args.old.now.moves (slice_index_or c.loop-port.places p nowhere).old (port_at l p))
-    (sym c.reply-answer.ensures.budget) (i.placed p known).0 in
+    let old : RunData = c.args.old.now in
+    let left = subst (λ (l : LiveData). IsKnown old.first old.moves p (slice_index_or c.loop-port.places p None) (port_at l p))
+    (sym c.reply-answer.ensures.budget) (i.placed.placed p known) in
     (omega arith, (omega arith, (made, (in_time, (before, (left, (plan, ((moves, stands), (next, (budget, answer))))))))))
 
 pub push-requires : goal.push-requires
@@ -76,10 +78,13 @@ push-requires g c =
     let p = c.in-Some.port - 1 in
     let before : c.in_ok-kept.kept.before ≡ port_at c.loop-port.live p =
     ap (λ (k : KeptData). k.before) c.in_ok-kept.ensures.kept ∙ ap (λ (l : LiveData). port_at l p) c.reply-answer.ensures.budget in
+    let few = c.in-Some.ensures.is_plan.few_ports in
     record {
+      first = next.from_one;
+      last = omega (arith, known, count, few);
+      port = sym (ap (λ (k : KeptData). k.port) c.in_ok-kept.ensures.kept);
       marks = c.in_ok-kept.ensures.marks;
-      left = subst (λ (x : PortData). IsLeft c.loop-port.span.moves (slice_index_or c.loop-port.places p nowhere).new x) (sym before)
-          (c.loop-port.invariant.placed p (omega (arith, known, count))).1;
+      goes = before ∙ c.loop-port.invariant.left p (omega (arith, known, count));
     }
 
 pub loop-port-init : goal.loop-port-init
@@ -93,8 +98,8 @@ loop-port-init g c =
       own = All-nil (IsOwn c.args.plan.now);
       begun = λ past s. begins_with_live g.row.N c.args.plan.now past c.args.live.now _ c.end-end.ensures.is_plan s
           (first ∙ c.in_ok-ports.ensures);
-      placed = placed_first g.row.N c.args.old.now.moves [] c.args.live.now c.end-end.ensures.is_plan.few_ports;
-      many = refl;
+      placed = c.requires.placed;
+      left = λ p lt. sym (ap (λ (l : List PortData). slice_index_or l p no_port) (first ∙ c.in_ok-ports.ensures));
       earlier = All-nil (IsEarlier c.args.to);
       later = λ past from s up. All-nil (IsLater from);
       rises = omega arith;
@@ -133,7 +138,6 @@ loop-port-preserved g c =
     let pushed : c.push.new.self.moves ≡ kept ++ k ∷ [] =
     ap (λ (r : RunData). r.moves) c.in_ok-push.ensures ∙ ap (λ (z : KeptData). kept ++ z ∷ []) c.in_ok-kept.ensures.kept in
     let first = ap (λ (r : RunData). r.first) c.in_ok-push.ensures in
-    let more = length_push kept k in
     let few = c.in-Some.ensures.is_plan.few_ports in
     let to_moves : map move_of c.push.new.self.moves ≡ moves ++ move_of k ∷ [] =
     ap (map move_of) pushed ∙ map-append move_of kept (k ∷ []) in
@@ -156,14 +160,16 @@ loop-port-preserved g c =
           (none_later-last t q moves (move_of k) h);
       own = rw pushed (All-push (IsOwn plan) kept k i.own own);
       begun = λ o s. begins_same g.row.N plan o c.loop-port.span c.push.new.self first (i.begun o s);
-      placed = rw c.place_of_last.ensures
-          (rw pushed
-          (placed_more g.row.N c.args.old.now.moves kept c.loop-port.places live new p k (moved_port live p d) c.in_ok-kept.at
-          (length (kept ++ k ∷ []) - 1) (omega (arith, i.many, few)) (stands.ports_count ∙ c.in-Some.ensures.is_plan.settings_count)
-          (omega (arith, known, c.in-Some.ensures.is_plan.settings_count)) (omega (arith, more))
-          (kept_is_moved live p port x d a refl c.reply-answer.ensures.answer) c.in_ok-kept.ensures.ports c.in_ok-kept.ensures.found
-          (subst (ArePlaced g.row.N c.args.old.now.moves kept c.loop-port.places) (sym c.reply-answer.ensures.budget) i.placed)));
-      many = length-set c.loop-port.places p _ ∙ i.many;
+      placed = placed_more g.row.N c.args.old.now c.loop-port.places live new p (moved_port live p d) c.in_ok-kept.place
+          few (stands.ports_count ∙ c.in-Some.ensures.is_plan.settings_count)
+          (omega (arith, known, c.in-Some.ensures.is_plan.settings_count)) c.in_ok-kept.ensures.ports c.in_ok-kept.ensures.found
+          (subst (ArePlaced g.row.N c.args.old.now c.loop-port.places) (sym c.reply-answer.ensures.budget)
+          (placed_at_budget g.row.N c.args.old.now c.loop-port.places stood _ i.placed));
+      left = left_moved g.row.N c.loop-port.span c.push.new.self live new p k (moved_port live p d)
+          (stands.ports_count ∙ c.in-Some.ensures.is_plan.settings_count)
+          (omega (arith, known, c.in-Some.ensures.is_plan.settings_count)) refl
+          (kept_is_moved live p port x d a refl c.reply-answer.ensures.answer) c.in_ok-kept.ensures.ports first pushed
+          (subst (AreLeft g.row.N c.loop-port.span) (sym c.reply-answer.ensures.budget) i.left);
       earlier = All-push (IsEarlier c.args.to) moves (move_of k) i.earlier soon;
       later = λ o from s up. All-push (IsLater from) moves (move_of k) (i.later o from s up) (not_before o from s up);
       rises = omega (arith, i.rises, c.make.ensures.rises);

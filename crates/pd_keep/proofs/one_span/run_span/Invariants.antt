@@ -8,6 +8,7 @@ use Rattle.pd_keep.specs.Kept.{KeptData, move_of, IsOwn, AreBefore}
 use Rattle.pd_keep.specs.Places.{ArePlaced}
 use Rattle.pd_keep.specs.Rerun.{AreThose, Costs}
 use Rattle.pd_keep.specs.Spans.{BeginsAfter}
+use Rattle.pd_keep.proofs.Places.{AreLeft}
 use Rattle.pd_keep.proofs.one_span.run_span.Given as goal
 
 abbrev pub invariant-loop-port : goal.invariant-loop-port
@@ -17,8 +18,8 @@ invariant-loop-port g l = record {
   passed : (t p : ℕ) → NoneLater t p (map move_of l.span.moves) → AreBefore l.old.moves l.from t;
   own : All (IsOwn l.plan) l.span.moves;
   begun : (past : List Move) → StandsAfter l.plan past l.fn.live → BeginsAfter g.row.N l.plan past l.span;
-  placed : ArePlaced g.row.N l.old.moves l.span.moves l.places l.live;
-  many : length l.places ≡ 8;
+  placed : ArePlaced g.row.N l.old l.places l.live;
+  left : AreLeft g.row.N l.span l.live;
   earlier : All (λ m. m.due.time < l.to) (map move_of l.span.moves);
   later : (past : List Move) (from : ℕ) → StandsAfter l.plan past l.fn.live → IsUpTo l.plan past from
       → All (λ m. from ≤ m.due.time) (map move_of l.span.moves);

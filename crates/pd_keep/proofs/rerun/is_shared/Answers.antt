@@ -8,8 +8,20 @@ use Rattle.pd_run.specs.Run.{Move, IsAnswered}
 use Rattle.pd_keep.specs.Kept.{RunData, move_of}
 use Rattle.pd_keep.specs.Rerun.{ComesTo, IsShared, GoesOnWith}
 use Rattle.pd_keep.specs.Spans.{moves_of}
-use Rattle.pd_keep.proofs.Beside.{shares_both, shares_answered, goes_on_with}
+use Rattle.pd_keep.proofs.Beside.{known_at, shares_both, shares_answered, goes_on_with}
 use Rattle.pd_keep.proofs.rerun.is_shared.Goals as goal
+
+pub stands_alike-requires : goal.stands_alike-requires
+stands_alike-requires g c =
+    let h = c.requires.comes in
+    let known = known_at g.row.N h.0 h.1 c.args.old.now c.args.plan.now h.2 h.3 c.args.agree c.args.standing.now h.4 in
+    (omega arith, (h.4.far.is_plan.few_ports, known))
+
+pub stands_alike-requires-in-Scripts : goal.stands_alike-requires-in-Scripts
+stands_alike-requires-in-Scripts g c =
+    let h = c.requires.comes in
+    let known = known_at g.row.N h.0 h.1 c.args.old.now c.args.plan.now h.2 h.3 c.args.agree c.args.standing.now h.4 in
+    (omega arith, (h.4.far.is_plan.few_ports, known))
 
 pub are_answered-requires : goal.are_answered-requires
 are_answered-requires g c =

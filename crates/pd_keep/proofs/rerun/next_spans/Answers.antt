@@ -3,9 +3,11 @@ use Rattle.pd_run.specs.Live.{StandsAfter}
 use Rattle.pd_run.specs.Run.{Move}
 use Rattle.pd_keep.specs.Kept.{KeptData, move_of}
 use Rattle.pd_keep.specs.Kept.{RunData}
-use Rattle.pd_keep.specs.Rerun.{ComesTo, IsSoFar, IsShared, StandsAlike, AreThose, Costs}
+use Rattle.pd_keep.specs.Rerun.{BeginsWithMarked, ComesTo, IsSoFar, IsShared, StandsAlike, AreThose, Costs}
 use Rattle.pd_keep.specs.Spans.{kept_of_spans, moves_of}
-use Rattle.pd_keep.proofs.Beside.{next_costs}
+use Rattle.pd_keep.specs.Kept.{left_by}
+use Rattle.pd_keep.specs.Places.{StandAs}
+use Rattle.pd_keep.proofs.Beside.{known_then, next_costs}
 use Rattle.pd_keep.proofs.Parted.{in_span, so_far_push, moves_push}
 use Rattle.pd_keep.proofs.rerun.next_spans.Goals as goal
 
@@ -72,20 +74,31 @@ run_on-requires g c =
     subst (λ (s : RunData). ComesTo g.row.N h.0 h.1 s c.args.plan.now c.args.spans.now c.args.at c.args.agree c.args.standing)
     (sym c.deref-2.ensures) h.2 in
     let stands : StandsAfter c.args.plan.now (moves_of c.args.spans.now) c.in_ok-live.live =
-    c.in_ok-live.ensures h.0 h.1 c.args.spans.now c.args.agree k in
+    c.in_ok-live.ensures.stands h.0 h.1 c.args.spans.now c.args.agree k in
+    let known : BeginsWithMarked g.row.N old c.in_ok-live.live c.in_ok-live.alike =
+    subst (λ (s : RunData). BeginsWithMarked g.row.N s c.in_ok-live.live c.in_ok-live.alike) c.deref-2.ensures
+    (c.in_ok-live.ensures.known h.0 h.1 c.args.spans.now c.args.agree k) in
     let to_is : c.to.result ≡ old.to = c.to.ensures ∙ ap (λ (r : RunData). r.to) c.deref-4.ensures in
     let rises = w.rising in
     let begins = h.2.at_is in
     let rising : c.args.at < c.to.result = omega (arith, rises, begins, to_is) in
-    rw c.deref-3.ensures (omega arith, (omega arith, (w.made, (w.in_time, (rising, (h.2.soon, (h.2.far, stands)))))))
+    rw c.deref-3.ensures (omega arith, (omega arith, (w.made, (w.in_time, (rising, (h.2.soon, (known, (h.2.far, stands))))))))
 
 pub returns-clause-so_far : goal.returns-clause-so_far
 returns-clause-so_far g c =
     let to_is : c.to.result ≡ c.args.old.now.value.to = c.to.ensures ∙ ap (λ (r : RunData). r.to) c.deref-4.ensures in
-    subst (λ t. IsSoFar g.row.N c.args.plan.now c.run_on.new.spans t) to_is c.in_ok-run_on.ensures.so_far
+    subst (λ t. IsSoFar g.row.N c.args.plan.now c.run_on.new.spans t) to_is c.in_ok-alike.ensures.so_far
 
 pub returns-clause-stands : goal.returns-clause-stands
-returns-clause-stands g c = λ old_plan old_spans k. c.in_ok-run_on.ensures.stands
+returns-clause-stands g c = λ old_plan old_spans k.
+    let old : RunData = c.args.old.now.value in
+    record {
+      stands = c.in_ok-alike.ensures.stands;
+      known = known_then g.row.N old_plan old_spans old c.args.plan.now c.args.spans.now c.args.at c.args.agree c.args.standing
+          c.run_on.new.live c.in_ok-alike.alike k
+          (subst (λ (s : RunData). StandAs g.row.N c.in_ok-alike.alike c.run_on.new.live (left_by s.first s.moves))
+          c.deref-3.ensures c.in_ok-alike.ensures.known);
+    }
 
 pub returns-clause-cost : goal.returns-clause-cost
 returns-clause-cost g c = λ old_plan old_spans first h so_far.
@@ -98,4 +111,4 @@ returns-clause-cost g c = λ old_plan old_spans first h so_far.
     let to_end : AreThose all at c.to.result old.moves = subst (λ t. AreThose all at t old.moves) (sym to_is) from_at in
     let those : AreThose all at c.to.result c.deref-3.result.now.moves =
     subst (λ (r : RunData). AreThose all at c.to.result r.moves) (sym c.deref-3.ensures) to_end in
-    c.in_ok-run_on.ensures.cost old_plan all first h.kept.own those so_far
+    c.in_ok-alike.ensures.cost old_plan all first h.kept.own those so_far

@@ -7,13 +7,17 @@ use Rattle.pd_keep.specs.Rerun.{ComesTo}
 use Rattle.pd_keep.specs.Spans.{moves_of, end_of, begins_at}
 use Rattle.pd_keep.proofs.Beside.{so_far_none, done_alike, over_from, past_all, comes_to}
 use Rattle.pd_keep.proofs.Parted.{end_next}
+use Rattle.pd_keep.proofs.Places.{unmarked}
 use Rattle.pd_keep.proofs.rerun.run_beside.Goals as goal
 
 pub loop-at-init : goal.loop-at-init
 loop-at-init g c =
     rw c.requires.none (record {
       so_far = so_far_none g.row.N c.args.plan.now c.end-end.ensures.is_plan;
-      stands = c.in_ok-new.ensures;
+      stands = record {
+        stands = c.in_ok-new.ensures;
+        known = λ p lt yes. absurd (let few = c.end-end.ensures.is_plan.few_ports in unmarked p (omega arith) yes);
+      };
       begins = refl;
       beside = c.in_ok-beside.ensures.are;
       now = c.in_ok-beside.ensures.at;

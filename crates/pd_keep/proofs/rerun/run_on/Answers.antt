@@ -7,12 +7,15 @@ use Rattle.pd_keep.specs.Rerun.{IsSoFar, IsNextSpan, Costs}
 use Rattle.pd_keep.specs.Spans.{moves_of}
 use Rattle.pd_keep.proofs.Beside.{costs-append, those_later}
 use Rattle.pd_keep.proofs.Parted.{so_far_push, moves_push}
+use Rattle.pd_keep.proofs.Places.{alike_then, placed_first}
 use Rattle.pd_keep.proofs.rerun.run_on.Goals as goal
 
 pub loop-at-init : goal.loop-at-init
 loop-at-init g c = record {
   so_far = c.requires.so_far;
   stands = c.requires.stands;
+  placed = placed_first g.row.N c.args.old.now c.args.alike c.first_places-places.result c.args.live.now
+      c.requires.so_far.is_plan.few_ports c.first_places-places.ensures.count c.first_places-places.ensures.are c.requires.known;
   later = omega arith;
   within = omega (arith, c.requires.rising);
   soon = inr c.requires.soon;
@@ -23,7 +26,7 @@ loop-at-init g c = record {
 pub run_span-requires : goal.run_span-requires
 run_span-requires g c =
     let i = c.loop-at.invariant in
-    (omega arith, (omega arith, (c.requires.made, (c.requires.in_time, (moves_of c.loop-at.spans, i.stands)))))
+    (omega arith, (omega arith, (c.requires.made, (c.requires.in_time, (i.placed, (moves_of c.loop-at.spans, i.stands))))))
 
 pub loop-at-smaller : goal.loop-at-smaller
 loop-at-smaller g c =
@@ -52,6 +55,7 @@ loop-at-preserved g c =
       so_far = so_far_push g.row.N plan spans s at i.so_far soon next;
       stands = subst (λ (l : List Move). StandsAfter plan l c.run_span.new.live) (sym (moves_push spans s))
           (c.in_ok-span.ensures.stands moves i.stands);
+      placed = c.in_ok-span.ensures.placed;
       later = omega (arith, i.later, rising);
       within = c.in_ok-span.ensures.within;
       soon = c.in_ok-span.ensures.soon;
@@ -64,6 +68,11 @@ loop-at-preserved g c =
           (costs-append old (map move_of all) plan moves (map move_of s.moves) first c.loop-at.meter c.run_span.new.meter
           (i.cost old all first own those h) more);
     }))
+
+pub returns-clause-known : goal.returns-clause-known
+returns-clause-known g c =
+    alike_then g.row.N c.args.old.now c.loop-at.places c.alike_after.result c.loop-at.live c.requires.so_far.is_plan.few_ports
+    c.loop-at.invariant.placed c.alike_after.ensures
 
 pub returns-clause-so_far : goal.returns-clause-so_far
 returns-clause-so_far g c =

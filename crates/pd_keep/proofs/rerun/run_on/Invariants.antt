@@ -2,6 +2,7 @@ use Rattle.std.proofs.Common.{◌≡◌, ◌⊎◌, ◌≤◌, ◌-◌, ℕ, Lis
 use Rattle.pd_scenario.specs.Plan.{Plan}
 use Rattle.pd_run.specs.Live.{StandsAfter}
 use Rattle.pd_keep.specs.Kept.{KeptData, move_of, IsOwn}
+use Rattle.pd_keep.specs.Places.{ArePlaced}
 use Rattle.pd_keep.specs.Rerun.{IsSoFar, Costs, AreThose}
 use Rattle.pd_keep.specs.Spans.{moves_of}
 use Rattle.pd_keep.proofs.rerun.run_on.Given as goal
@@ -10,6 +11,7 @@ abbrev pub invariant-loop-at : goal.invariant-loop-at
 invariant-loop-at g l = record {
   so_far : IsSoFar g.row.N l.plan l.spans l.at;
   stands : StandsAfter l.plan (moves_of l.spans) l.live;
+  placed : ArePlaced g.row.N l.old l.places l.live;
   later : l.from ≤ l.at;
   within : l.at ≤ l.to;
   soon : (l.at ≡ l.to) ⊎ (l.at ≤ l.plan.end);
