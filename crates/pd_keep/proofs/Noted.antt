@@ -1,12 +1,13 @@
 -- The next move that leaves a note.
-use Rattle.std.proofs.Common.{◌≡◌, ⊎_elim, ℕ, ◌+◌, ◌-◌, ◌<◌, ◌≤◌, List, [], ◌∷◌, ◌++◌}
+use Rattle.std.proofs.Common.{◌≡◌, ⊎_elim, ◌⊎◌, ◌↔◌, inl, inr, ℕ, ◌+◌, ◌-◌, ◌<◌, ◌≤◌, List, [], ◌∷◌, ◌++◌}
 use Rattle.std.proofs.Common.{length, map, All, take, drop, Option, None, Some, IfSome, slice_get, option_map}
-use Rattle.std.proofs.Common.{refl, ap, sym, ◌∙◌, subst, arith, suc}
+use Rattle.std.proofs.Common.{refl, ap, sym, ◌∙◌, subst, arith, suc, slice_index_or, false}
 use Rattle.std.specs.Prelude.{min}
 use Rattle.std.proofs.Math.Nat.{min-le_left, min-le_right, min-eq_left, min-eq_right}
 use Rattle.std.proofs.lemmas.Bool.{cases_lt, lt-ltb, ltb-true}
 use Rattle.std.proofs.lemmas.List.{length-append, length-map}
-use Rattle.std.proofs.lemmas.Option.{slice_get-map, slice_get_past, same_Some}
+use Rattle.std.proofs.lemmas.List.Elements.{All-append}
+use Rattle.std.proofs.lemmas.Option.{slice_get-map, slice_get_past, slice_get_within, slice_get-get_or, get_or_from_slice_get, same_Some}
 use Rattle.pd_port.specs.declared.entry.Entry.{Entry}
 use Rattle.pd_scenario.specs.Plan.{Plan}
 use Rattle.pd_run.specs.Notes.{Leaves, NoneLeaves, IsNextWith, Have, marks_of}
@@ -15,6 +16,8 @@ use Rattle.pd_run.specs.declared.note.Marks.{Marks}
 use Rattle.pd_run.specs.declared.note.Note.{Note}
 use Rattle.pd_run.specs.declared.note.Note.TheVariants.{Contract, Fault, Packet}
 use Rattle.pd_keep.specs.Kept.{KeptData, move_of, IsOwn}
+use Rattle.pd_keep.specs.Presence.{MayHave, AreNoted}
+use Rattle.pd_keep.specs.declared.presence.Presence.{Presence}
 use Rattle.pd_keep.specs.Kept.{RunData, shown_of, marks_kept}
 use Rattle.pd_keep.specs.Spans.{kept_of_spans}
 use Rattle.pd_keep.proofs.Entries.{get_right, get_left}
@@ -171,3 +174,49 @@ none_more note moves from at none here i ge lt =
     let same : at ≡ i = omega arith in
     subst (λ k. IfSome (slice_get moves k) (λ (move : ℕ × Entry). ¬ Leaves note move)) same here)
     (cases_lt i at)
+
+-- What is noted of a span.
+
+-- one mark more is noted
+pub noted_more : (presence next : Presence) (marks : List Marks) (m : Marks) → AreNoted presence marks
+    → (MayHave next Contract ↔ (MayHave presence Contract ⊎ Have m Contract))
+    → (MayHave next Fault ↔ (MayHave presence Fault ⊎ Have m Fault))
+    → AreNoted next (marks ++ m ∷ [])
+noted_more presence next marks m h contract fault note =
+    All-append (λ k. Have k note → MayHave next note) marks (m ∷ [])
+    (λ i d lt has. kept note (h note i d lt has)) (λ i d lt. one i d lt) where
+      kept : (note : Note) → MayHave presence note → MayHave next note
+      kept Contract may = contract.1 (inl may)
+      kept Fault may = fault.1 (inl may)
+      kept (Packet port) may = tt
+
+      own : (note : Note) → Have m note → MayHave next note
+      own Contract has = contract.1 (inr has)
+      own Fault has = fault.1 (inr has)
+      own (Packet port) has = tt
+
+      one : (i : ℕ) (d : Marks) → i < 1 → Have (slice_index_or (m ∷ []) i d) note → MayHave next note
+      one i d lt =
+          let first : 0 ≡ i = omega (arith, lt) in
+          subst (λ n. Have (slice_index_or (m ∷ []) n d) note → MayHave next note) first (own note)
+
+-- a note that isn't noted is left by none of the moves
+pub none_noted : (presence : Presence) (note : Note) (moves : List KeptData) → AreNoted presence (map marks_kept moves)
+    → (MayHave presence note → ⊥) → (from : ℕ) → NoneLeaves note (map shown_of moves) from (length (map shown_of moves))
+none_noted presence note moves h none from i ge lt = go (slice_get (map marks_kept moves) i) refl where
+  nobody : Marks
+  nobody = record { contract = false; fault = false; packet = false; port = 0 }
+
+  go : (o : Option Marks) → slice_get (map marks_kept moves) i ≡ o
+      → IfSome (slice_get (map shown_of moves) i) (λ move. ¬ Leaves note move)
+  go None e =
+      absurd
+      (let marks = length-map moves marks_kept in
+      let shows = length-map moves shown_of in
+      let some : slice_get (map marks_kept moves) i ≡ Some (slice_index_or (map marks_kept moves) i nobody) =
+      slice_get-get_or (map marks_kept moves) i nobody (omega (arith, marks, shows, lt)) in
+      let none : None ≡ Some (slice_index_or (map marks_kept moves) i nobody) = sym e ∙ some in cc)
+  go (Some m) e =
+      unmarked note moves i m e
+      (λ has. none (subst (λ (k : Marks). Have k note → MayHave presence note) (get_or_from_slice_get (map marks_kept moves) i m m e)
+      (h note i m (slice_get_within (map marks_kept moves) i m e)) has))

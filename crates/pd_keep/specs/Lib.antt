@@ -5,6 +5,7 @@ pub mod Firsts
 pub mod Fresh
 pub mod Kept
 pub mod Places
+pub mod Presence
 pub mod Rerun
 pub mod Running
 pub mod Spans

@@ -11,6 +11,7 @@ ghost use Rattle.pd_run.specs.UpTo.{AreAfter};
 ghost use Rattle.pd_keep.specs.Asked.{IsAsked};
 ghost use Rattle.pd_keep.specs.Kept.{KeptData, IsMade, IsKnown, IsQuiet, kept_of, left_by, move_of, marks_kept, shown_of};
 
+use crate::presence::Presence;
 use pd_objects::Answer;
 use pd_port::{Due, Entry, Port};
 use pd_run::{Marks, Note, Plan, SharedBudget, SharedPort};
@@ -112,7 +113,8 @@ pub enum Place {
 /// Moves of a run up to a time, and the ports as they are before them. Beside the moves stand the marks of their entries, so that
 /// whoever looks for a note reads these alone, and where each move's port stood before it, so that ports that come from one move to
 /// the next needn't be compared, and which moves asked the shared budget or changed what their port holds, so that no other is looked
-/// at where the budget alone is another. It is also known where each port stands after the moves.
+/// at where the budget alone is another. It is also known where each port stands after the moves. What none
+/// of them leaves is noted too.
 #[derive(Drop)]
 pub struct KeptMoves {
     to: u64,
@@ -122,18 +124,21 @@ pub struct KeptMoves {
     links: Vec<Place>,
     stirs: Vec<bool>,
     lasts: [Place; 8],
+    presence: Presence,
 }
 
 impl Model for KeptMoves {
     ghost use Rattle.std.specs.Prelude.{◌≡◌, map};
     ghost use Rattle.pd_keep.specs.Kept.{RunData, AreLast, AreLinked, AreQuiet, marks_kept};
+    ghost use Rattle.pd_keep.specs.Presence.{AreNoted};
 
     ghost Value = { RunData };
 
     ghost view = { λ r. record { to = r.to; first = r.first.items; moves = r.moves.items } };
 
     ghost invariant = { λ r. (r.marks.items ≡ map marks_kept r.moves.items) × AreLinked r.first.items r.moves.items r.links.items
-        × AreQuiet r.moves.items r.stirs.items × AreLast r.first.items r.moves.items r.lasts };
+        × AreQuiet r.moves.items r.stirs.items × AreLast r.first.items r.moves.items r.lasts
+        × AreNoted r.presence r.marks.items };
 }
 
 impl KeptMoves {
@@ -149,6 +154,7 @@ impl KeptMoves {
             links: Vec::new(alloc),
             stirs: Vec::new(alloc),
             lasts: [Place::First; 8],
+            presence: Presence::nothing(),
         }
     }
 
@@ -171,6 +177,7 @@ impl KeptMoves {
             links: Vec::with_capacity(alloc, room)?,
             stirs: Vec::with_capacity(alloc, room)?,
             lasts: [Place::First; 8],
+            presence: Presence::nothing(),
         })
     }
 
@@ -209,6 +216,9 @@ impl KeptMoves {
     pub fn next_with(&self, note: Note, from: usize) -> usize
         ensures { IsNextWith note (map shown_of self.now.moves) from result }
     {
+        if !self.presence.may_have(note) {
+            return self.marks.len();
+        }
         let mut at = from.min(self.marks.len());
         while let Some(marks) = self.marks.get(at) {
             if marks.have(note) {
@@ -372,11 +382,13 @@ impl KeptMoves {
         self.links.reserve(1)?;
         self.stirs.reserve(1)?;
         let stirs = kept.kept().stirs();
+        let presence = self.presence.with(marks);
         self.moves.push(kept)?;
         self.marks.push_reserved(marks);
         self.links.push_reserved(self.lasts[port - 1]);
         self.stirs.push_reserved(stirs);
         self.lasts[port - 1] = place;
+        self.presence = presence;
         Ok(())
     }
 }

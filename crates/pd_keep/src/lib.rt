@@ -6,6 +6,7 @@ mod kept;
 mod kept_move;
 pub mod laws;
 mod one_span;
+mod presence;
 mod rerun;
 mod spans;
 

@@ -5,7 +5,9 @@ use Rattle.pd_run.specs.declared.note.Marks.{Marks}
 use Rattle.pd_keep.specs.declared.kept_move.Place.{Place}
 use Rattle.pd_keep.specs.declared.kept_move.Place.TheVariants.{First}
 use Rattle.pd_keep.specs.Kept.{KeptData, RunData, IsLeft, IsQuiet, left_by, marks_kept}
+use Rattle.pd_keep.specs.Presence.{AreNoted}
 use Rattle.pd_keep.proofs.Asked.{quiet_more}
+use Rattle.pd_keep.proofs.Noted.{noted_more}
 use Rattle.pd_keep.proofs.Places.{last_more, linked_more}
 use Rattle.pd_keep.proofs.kept_move.KeptMoves.push.Goals as goal
 
@@ -32,6 +34,11 @@ invariant_of-self-2 c =
     let stirs : c.push_reserved-3.new.self.items ≡ c.self.inside.stirs.items ++ c.stirs-stirs.result ∷ [] =
     c.push_reserved-3.ensures.items ∙ ap (λ (l : List Bool). l ++ c.stirs-stirs.result ∷ []) c.in_ok-reserve-3.ensures.items in
     let quiet : c.stirs-stirs.result ≡ false → IsQuiet k = λ e. subst IsQuiet c.kept-2.ensures (c.stirs-stirs.ensures e) in
+    let noted : AreNoted c.with-presence.result c.push_reserved.new.self.items =
+    subst (λ (l : List Marks). AreNoted c.with-presence.result l)
+    (sym (c.push_reserved.ensures.items ∙ ap (λ (l : List Marks). l ++ c.args.marks ∷ []) c.in_ok-reserve.ensures.items))
+    (noted_more c.self.inside.presence c.with-presence.result c.self.inside.marks.items c.args.marks c.self.invariant.4
+    c.with-presence.ensures.contract c.with-presence.ensures.fault) in
     rw c.in_ok-push.ensures.items
     (rw links
     (rw stirs (
@@ -40,4 +47,5 @@ invariant_of-self-2 c =
       quiet_more moves c.self.inside.stirs.items k c.stirs-stirs.result c.self.invariant.2 quiet,
       last_more first moves lasts k p c.len.result c.self.invariant.3 own known
           (c.len.ensures ∙ ap (λ (r : RunData). length r.moves) (sym c.self.view_is)),
+      noted,
     )))
