@@ -51,8 +51,7 @@ pub fn run_span<const N: usize>(
     requires stands { (past : List Move) × StandsAfter plan.now past live.old }
     ensures span { IfOk result (λ span. (past : List Move) (from : ℕ) → from < to → StandsAfter plan.now past live.old
         → IsUpTo plan.now past from → IsNextSpan N plan.now past from span) }
-    ensures within { IfOk result (λ span. span.to ≤ to) }
-    ensures soon { IfOk result (λ span. (span.to ≡ to) ⊎ (span.to ≤ plan.now.end)) }
+    ensures ends { IfOk result (λ span. (span.to ≤ to) × ((span.to ≡ to) ⊎ (span.to ≤ plan.now.end))) }
     ensures stands { IfOk result (λ span. (past : List Move) → StandsAfter plan.now past live.old
         → StandsAfter plan.now (past ++ map move_of span.moves) live.new) }
     ensures placed { OnOk result (ArePlaced N old.now places.new live.new) }
@@ -61,8 +60,7 @@ pub fn run_span<const N: usize>(
         → Costs old_plan (map move_of all) plan.now (map move_of span.moves) meter.old meter.new) }
     ensures rises { meter.old ≤ meter.new }
 {
-    let _end = plan.end();
-    let _count = meter.count();
+    let (_end, _count) = (plan.end(), meter.count());
     let mut span = KeptMoves::with_room(alloc, live.ports(alloc)?, ROOM)?;
     let mut from = 0;
     while let Some((port, due)) = next_before(live, plan, to) {
@@ -72,11 +70,9 @@ pub fn run_span<const N: usize>(
         let answer = live.reply(plan, port, &due);
         from = skip(old, from, due.time);
         let left = places[port - 1];
-        let (kept, marks, place) = make(
-            alloc, old, from, left, plan, live, port, due, answer, meter,
-        )?;
+        let (kept, marks, at) = make(alloc, old, from, left, plan, live, port, due, answer, meter)?;
         span.push(port, kept, marks)?;
-        places[port - 1] = place;
+        places[port - 1] = at;
     }
     Ok(span.ended(to))
 }

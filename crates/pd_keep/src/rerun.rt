@@ -128,17 +128,8 @@ fn next_spans<const N: usize>(
         return Ok(Standing::Alike);
     }
     let (mut live, alike) = standing_live(alloc, old, plan, at, standing)?;
-    let alike = run_on(
-        alloc,
-        old,
-        plan,
-        at,
-        old.to(),
-        &mut live,
-        alike,
-        spans,
-        meter,
-    )?;
+    let to = old.to();
+    let alike = run_on(alloc, old, plan, at, to, &mut live, alike, spans, meter)?;
     Ok(Standing::Apart(live, alike))
 }
 

@@ -160,7 +160,7 @@ loop-port-preserved g c =
           (none_later-last t q moves (move_of k) h);
       own = rw pushed (All-push (IsOwn plan) kept k i.own own);
       begun = λ o s. begins_same g.row.N plan o c.loop-port.span c.push.new.self first (i.begun o s);
-      placed = placed_more g.row.N c.args.old.now c.loop-port.places live new p (moved_port live p d) c.in_ok-kept.place
+      placed = placed_more g.row.N c.args.old.now c.loop-port.places live new p (moved_port live p d) c.in_ok-kept.at
           few (stands.ports_count ∙ c.in-Some.ensures.is_plan.settings_count)
           (omega (arith, known, c.in-Some.ensures.is_plan.settings_count)) c.in_ok-kept.ensures.ports c.in_ok-kept.ensures.found
           (subst (ArePlaced g.row.N c.args.old.now c.loop-port.places) (sym c.reply-answer.ensures.budget)

@@ -17,5 +17,6 @@ loop-port-preserved c =
       count = length-set c.loop-port.alike c.loop-port.port _ ∙ count;
       known = each_more
           (λ (p : ℕ) (b : Bool). b ≡ true → (x : PortData) → IsKnown old.first old.moves p (slice_index_or c.args.places.now p None) x
-          → x ≡ left_by old.first old.moves p) c.loop-port.alike c.loop-port.port c.leaves.result false (omega arith) i.known c.leaves.ensures;
+          → x ≡ left_by old.first old.moves p)
+          c.loop-port.alike c.loop-port.port c.leaves.result false (omega arith) i.known c.leaves.ensures;
     }

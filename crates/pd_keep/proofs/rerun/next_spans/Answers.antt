@@ -78,15 +78,15 @@ run_on-requires g c =
     let known : BeginsWithMarked g.row.N old c.in_ok-live.live c.in_ok-live.alike =
     subst (λ (s : RunData). BeginsWithMarked g.row.N s c.in_ok-live.live c.in_ok-live.alike) c.deref-2.ensures
     (c.in_ok-live.ensures.known h.0 h.1 c.args.spans.now c.args.agree k) in
-    let to_is : c.to.result ≡ old.to = c.to.ensures ∙ ap (λ (r : RunData). r.to) c.deref-4.ensures in
+    let to_is : c.to-to.result ≡ old.to = c.to-to.ensures ∙ ap (λ (r : RunData). r.to) c.deref-3.ensures in
     let rises = w.rising in
     let begins = h.2.at_is in
-    let rising : c.args.at < c.to.result = omega (arith, rises, begins, to_is) in
-    rw c.deref-3.ensures (omega arith, (omega arith, (w.made, (w.in_time, (rising, (h.2.soon, (known, (h.2.far, stands))))))))
+    let rising : c.args.at < c.to-to.result = omega (arith, rises, begins, to_is) in
+    rw c.deref-4.ensures (omega arith, (omega arith, (w.made, (w.in_time, (rising, (h.2.soon, (known, (h.2.far, stands))))))))
 
 pub returns-clause-so_far : goal.returns-clause-so_far
 returns-clause-so_far g c =
-    let to_is : c.to.result ≡ c.args.old.now.value.to = c.to.ensures ∙ ap (λ (r : RunData). r.to) c.deref-4.ensures in
+    let to_is : c.to-to.result ≡ c.args.old.now.value.to = c.to-to.ensures ∙ ap (λ (r : RunData). r.to) c.deref-3.ensures in
     subst (λ t. IsSoFar g.row.N c.args.plan.now c.run_on.new.spans t) to_is c.in_ok-alike.ensures.so_far
 
 pub returns-clause-stands : goal.returns-clause-stands
@@ -97,7 +97,7 @@ returns-clause-stands g c = λ old_plan old_spans k.
       known = known_then g.row.N old_plan old_spans old c.args.plan.now c.args.spans.now c.args.at c.args.agree c.args.standing
           c.run_on.new.live c.in_ok-alike.alike k
           (subst (λ (s : RunData). StandAs g.row.N c.in_ok-alike.alike c.run_on.new.live (left_by s.first s.moves))
-          c.deref-3.ensures c.in_ok-alike.ensures.known);
+          c.deref-4.ensures c.in_ok-alike.ensures.known);
     }
 
 pub returns-clause-cost : goal.returns-clause-cost
@@ -106,9 +106,9 @@ returns-clause-cost g c = λ old_plan old_spans first h so_far.
     let old : RunData = c.args.old.now.value in
     let all : List KeptData = kept_of_spans old_spans in
     let w = in_span g.row.N old_plan old_spans h.place old h.kept h.there in
-    let to_is : c.to.result ≡ old.to = c.to.ensures ∙ ap (λ (r : RunData). r.to) c.deref-4.ensures in
+    let to_is : c.to-to.result ≡ old.to = c.to-to.ensures ∙ ap (λ (r : RunData). r.to) c.deref-3.ensures in
     let from_at : AreThose all at old.to old.moves = subst (λ t. AreThose all t old.to old.moves) (sym h.at_is) w.those in
-    let to_end : AreThose all at c.to.result old.moves = subst (λ t. AreThose all at t old.moves) (sym to_is) from_at in
-    let those : AreThose all at c.to.result c.deref-3.result.now.moves =
-    subst (λ (r : RunData). AreThose all at c.to.result r.moves) (sym c.deref-3.ensures) to_end in
+    let to_end : AreThose all at c.to-to.result old.moves = subst (λ t. AreThose all at t old.moves) (sym to_is) from_at in
+    let those : AreThose all at c.to-to.result c.deref-4.result.now.moves =
+    subst (λ (r : RunData). AreThose all at c.to-to.result r.moves) (sym c.deref-4.ensures) to_end in
     c.in_ok-alike.ensures.cost old_plan all first h.kept.own those so_far

@@ -34,7 +34,7 @@ loop-at-smaller g c =
     let next : IsNextSpan g.row.N c.args.plan.now (moves_of c.loop-at.spans) c.loop-at.at c.in_ok-span.span =
     c.in_ok-span.ensures.span (moves_of c.loop-at.spans) c.loop-at.at (omega arith) i.stands i.so_far.up in
     let rising = next.rising in
-    omega (arith, rising, c.in_ok-span.ensures.within)
+    omega (arith, rising, c.in_ok-span.ensures.ends.0)
 
 pub loop-at-preserved : goal.loop-at-preserved
 loop-at-preserved g c =
@@ -57,8 +57,8 @@ loop-at-preserved g c =
           (c.in_ok-span.ensures.stands moves i.stands);
       placed = c.in_ok-span.ensures.placed;
       later = omega (arith, i.later, rising);
-      within = c.in_ok-span.ensures.within;
-      soon = c.in_ok-span.ensures.soon;
+      within = c.in_ok-span.ensures.ends.0;
+      soon = c.in_ok-span.ensures.ends.1;
       rises = omega (arith, i.rises, c.run_span.ensures.rises);
       cost = λ old all first own those h.
           let more : Costs old (map move_of all) plan (map move_of s.moves) c.loop-at.meter c.run_span.new.meter =
