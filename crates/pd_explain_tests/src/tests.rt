@@ -301,8 +301,14 @@ fn many_places(rt: HostRuntime) -> Result<(), Fail> {
     let text = said(&rt, script.as_slice())?;
     let lines = text.iter().filter(|byte| **byte == b'\n').count();
     assert_eq!(rt; lines, 21);
-    assert!(rt; text.starts_with(b"it:22: refused 25: event 1 at 0 names it\nit:22: refused 25: event 10 at 9 names it\n"));
-    assert!(rt; text.ends_with(b"it:22: refused 25: event 28 at 9 names it\nit:22: 2 more places\n"));
+    assert!(rt;
+        text.starts_with(
+            b"it:22: refused 25: event 1 at 0 names it\nit:22: refused 25: event 10 at 9 names it\n"
+        )
+    );
+    assert!(rt;
+        text.ends_with(b"it:22: refused 25: event 28 at 9 names it\nit:22: 2 more places\n")
+    );
     Ok(())
 }
 
