@@ -14,7 +14,7 @@ use Rattle.pd_run.specs.Run.{Move, Standing, at_start, moved, standing_from}
 use Rattle.pd_run.specs.Start.{no_port}
 use Rattle.pd_keep.specs.declared.kept_move.Place.{Place}
 use Rattle.pd_keep.specs.declared.kept_move.Place.TheVariants.{First, After}
-use Rattle.pd_keep.specs.Kept.{KeptData, RunData, AreLast, AreLinked, IsKnown, IsLeft, IsOwn, kept_of, left_by, left_from, move_of}
+use Rattle.pd_keep.specs.Kept.{KeptData, RunData, AreLast, AreLinked, IsKnown, IsLeft, IsOwn, left_by, left_from, move_of}
 use Rattle.pd_keep.specs.Places.{ArePlaced, StandAs}
 use Rattle.pd_keep.specs.Rerun.{BeginsWithMarked}
 use Rattle.pd_keep.specs.Spans.{BeginsAfter}

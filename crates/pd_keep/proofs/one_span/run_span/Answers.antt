@@ -1,6 +1,6 @@
 use Rattle.std.proofs.Common.{All, ◌≡◌, ◌<◌, ◌≤◌, ◌-◌, ◌++◌, ◌∷◌, [], List, ℕ, length, map, refl, arith, ap, sym, ◌∙◌, subst}
 use Rattle.std.proofs.Common.{slice_index_or, append_assoc, None}
-use Rattle.std.proofs.lemmas.List.{append-nil, map-append, length_push, length-set, length-map}
+use Rattle.std.proofs.lemmas.List.{append-nil, map-append, length-map}
 use Rattle.std.proofs.lemmas.List.Elements.{All-push}
 use Rattle.pd_port.specs.Port.{PortData}
 use Rattle.pd_scenario.specs.Plan.{count}

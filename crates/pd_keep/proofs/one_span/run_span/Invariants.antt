@@ -1,4 +1,4 @@
-use Rattle.std.proofs.Common.{◌≡◌, ℕ, ◌++◌, List, map, length, All, ◌≤◌, ◌<◌}
+use Rattle.std.proofs.Common.{ℕ, ◌++◌, List, map, length, All, ◌≤◌, ◌<◌}
 use Rattle.pd_scenario.specs.Plan.{Plan}
 use Rattle.pd_run.specs.Run.{Move, NoneLater}
 use Rattle.pd_run.specs.Live.{StandsAfter}
