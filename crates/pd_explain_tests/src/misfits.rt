@@ -32,10 +32,14 @@ a.toml: refused 3: event 1: `kind` is 5, not a text
 ",
     ),
     (
-        b"[[port]]\nsupplies = [[5000, 3000], [9000]]\nunconstrained = 0\n",
+        b"[[port]]\nsupplies = [[5000, 3000], [9000]]\nunconstrained = 0\n[[port]]\nsupplies = [[5000, 3.5, [1]]]\n[[port]]\n\
+supplies = [[5000, 3000], [1, 2, 3, 4]]\n[[port]]\nsupplies = [[]]\n",
         ScenarioFault::WrongType,
-        b"a.toml: refused 3: port 1: `supplies` is a list whose supply 2 is a list, not a list of pairs of whole numbers
+        b"a.toml: refused 3: port 1: `supplies` is a list whose supply 2 is [9000], not a list of pairs of whole numbers
 a.toml: refused 3: port 1: `unconstrained` is 0, not true or false
+a.toml: refused 3: port 2: `supplies` is a list whose supply 1 is [5000, a fraction, a list], not a list of pairs of whole numbers
+a.toml: refused 3: port 3: `supplies` is a list whose supply 2 is a list of 4 values, not a list of pairs of whole numbers
+a.toml: refused 3: port 4: `supplies` is a list whose supply 1 is [], not a list of pairs of whole numbers
 ",
     ),
     (

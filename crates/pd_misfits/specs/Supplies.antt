@@ -1,13 +1,13 @@
 -- Which supply of a list is told: the first at which it isn't what the rule of a refusal wants.
-use Rattle.std.specs.Prelude.{ℕ, ◌+◌, ℤ, Bool, true, false, ◌&&◌, ◌||◌, ◌==◌, not, nat_lt, List, [], ◌∷◌, ◌++◌, codes, decimal}
-use Rattle.std.specs.Prelude.{Option, Some, None, if◌then◌else◌}
-use Rattle.std.specs.Fmt.{signed_decimal}
+use Rattle.std.specs.Prelude.{ℕ, ◌+◌, ℤ, Bool, true, false, ◌&&◌, ◌==◌, not, nat_le, nat_lt, List, [], ◌∷◌, ◌++◌, length}
+use Rattle.std.specs.Prelude.{codes, decimal, Option, Some, None, if◌then◌else◌}
+use Rattle.std.specs.List.{flat_map}
 use Rattle.toml.specs.Data.{Data, array, integer, no_items, item}
 use Rattle.pd_scenario.specs.Limits.{most_supplies, first_mv}
 use Rattle.pd_scenario.specs.declared.limits.Quantity.TheVariants.{Voltage, Current}
 use Rattle.pd_scenario_tables.specs.declared.fault.ScenarioFault.{ScenarioFault}
 use Rattle.pd_scenario_tables.specs.declared.fault.ScenarioFault.TheVariants as fault
-use Rattle.pd_scenario_tables.specs.Values.{is_within, natural}
+use Rattle.pd_scenario_tables.specs.Values.{elements, is_within, natural}
 use Rattle.pd_misfits.specs.Values.{value_text}
 
 -- a pair of whole numbers: a voltage and a current
@@ -37,16 +37,33 @@ abbrev pub voltage : Option (ℤ × ℤ) → ℕ
 voltage None = 0
 voltage (Some p) = natural p.0
 
--- a supply as it is shown: both numbers of a pair
-unfoldable pub two_text : ℤ × ℤ → List ℕ
-two_text p = codes "[" ++ (signed_decimal p.0 ++ (codes ", " ++ (signed_decimal p.1 ++ codes "]")))
+-- ---- a supply as it is shown
 
-abbrev pub pair_text : Option (ℤ × ℤ) → Data → List ℕ
-pair_text None d = value_text d
-pair_text (Some p) d = two_text p
+abbrev pub behind_comma : Data → List ℕ
+behind_comma d = codes ", " ++ value_text d
+
+abbrev pub joined : List Data → List ℕ
+joined [] = []
+joined (d ∷ ds) = value_text d ++ flat_map behind_comma ds
+
+unfoldable pub short_text : List Data → List ℕ
+short_text ds = codes "[" ++ (joined ds ++ codes "]")
+
+unfoldable pub long_text : ℕ → List ℕ
+long_text count = codes "a list of " ++ (decimal count ++ codes " values")
+
+-- the values of a list, where there are at most three
+abbrev pub list_text : List Data → List ℕ
+list_text ds = if nat_le (length ds) 3 then short_text ds else long_text (length ds)
+
+abbrev pub supply_text : Data → List ℕ
+supply_text (array ds) = list_text (elements ds)
+supply_text d = value_text d
+
+-- ---- the supply that is told
 
 unfoldable pub place_text : ℕ → Data → List ℕ
-place_text number d = codes " whose supply " ++ (decimal number ++ (codes " is " ++ pair_text (pair d) d))
+place_text number d = codes " whose supply " ++ (decimal number ++ (codes " is " ++ supply_text d))
 
 -- the first that doesn't fit, of those from a place on
 unfoldable pub misfit_text : ScenarioFault → ℕ → ℕ → List Data → List ℕ

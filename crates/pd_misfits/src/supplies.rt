@@ -1,12 +1,13 @@
 //! Which supply of a list is told: the first at which it isn't what the rule of a refusal wants.
 
 ghost use Rattle.std.specs.Prelude.{◌≡◌, ◌++◌, OnOk, map};
+ghost use Rattle.std.specs.List.{flat_map};
 ghost use Rattle.toml.specs.View.{view};
 ghost use Rattle.pd_scenario_tables.specs.Values.{is_within, natural};
-ghost use Rattle.pd_misfits.specs.Supplies.{both, fits, is_next, misfit_text, pair, pair_fits, pair_text, place_text};
-ghost use Rattle.pd_misfits.specs.Supplies.{supplies_text, two_text, voltage};
+ghost use Rattle.pd_misfits.specs.Supplies.{behind_comma, both, fits, is_next, joined, list_text, long_text, misfit_text, pair};
+ghost use Rattle.pd_misfits.specs.Supplies.{pair_fits, place_text, short_text, supplies_text, supply_text, voltage};
 
-use crate::values::{push_number, push_signed, push_value};
+use crate::values::{push_number, push_value};
 use pd_scenario::Quantity;
 use pd_scenario_tables::ScenarioFault;
 use std::alloc::AllocError;
@@ -17,6 +18,9 @@ const MOST_SUPPLIES: u64 = 7;
 
 /// The voltage of the first supply, in mV.
 const FIRST_MV: u64 = 5_000;
+
+/// Of a longer list the values aren't shown.
+const MOST_SHOWN: usize = 3;
 
 /// A voltage and a current, where both are whole numbers.
 fn both(first: &Value, second: &Value) -> Option<(i64, i64)>
@@ -99,24 +103,64 @@ fn voltage(pair: Option<(i64, i64)>) -> u64
     }
 }
 
-#[tactic(auto, unfolding(crate::specs::Supplies::two_text))]
-fn push_two(text: &mut Vec<u8>, pair: (i64, i64)) -> Result<(), AllocError>
-    ensures { OnOk result (text.new.items ≡ text.old.items ++ two_text pair) }
+fn push_others(text: &mut Vec<u8>, values: &[Value]) -> Result<(), AllocError>
+    ensures { OnOk result (text.new.items ≡ text.old.items ++ flat_map behind_comma (map (λ v. view v) values.now)) }
+{
+    for value in values {
+        text.extend_from_slice(b", ")?;
+        push_value(text, value)?;
+    }
+    Ok(())
+}
+
+fn push_joined(text: &mut Vec<u8>, values: &[Value]) -> Result<(), AllocError>
+    ensures { OnOk result (text.new.items ≡ text.old.items ++ joined (map (λ v. view v) values.now)) }
+{
+    match values {
+        [] => Ok(()),
+        [first, others @ ..] => {
+            push_value(text, first)?;
+            push_others(text, others)
+        }
+    }
+}
+
+#[tactic(auto, unfolding(crate::specs::Supplies::short_text))]
+fn push_short(text: &mut Vec<u8>, values: &[Value]) -> Result<(), AllocError>
+    ensures { OnOk result (text.new.items ≡ text.old.items ++ short_text (map (λ v. view v) values.now)) }
 {
     text.extend_from_slice(b"[")?;
-    push_signed(text, pair.0)?;
-    text.extend_from_slice(b", ")?;
-    push_signed(text, pair.1)?;
+    push_joined(text, values)?;
     text.extend_from_slice(b"]")
 }
 
-/// Writes a supply: both numbers of a pair.
-fn push_supply(text: &mut Vec<u8>, value: &Value) -> Result<(), AllocError>
-    ensures { OnOk result (text.new.items ≡ text.old.items ++ pair_text (pair (view value.now)) (view value.now)) }
+#[tactic(auto, unfolding(crate::specs::Supplies::long_text))]
+fn push_long(text: &mut Vec<u8>, count: u64) -> Result<(), AllocError>
+    ensures { OnOk result (text.new.items ≡ text.old.items ++ long_text count) }
 {
-    match pair_of(value) {
-        Some(pair) => push_two(text, pair),
-        None => push_value(text, value),
+    text.extend_from_slice(b"a list of ")?;
+    push_number(text, count)?;
+    text.extend_from_slice(b" values")
+}
+
+/// Writes a list: its values, where there are at most three.
+fn push_list(text: &mut Vec<u8>, values: &[Value]) -> Result<(), AllocError>
+    ensures { OnOk result (text.new.items ≡ text.old.items ++ list_text (map (λ v. view v) values.now)) }
+{
+    if values.len() <= MOST_SHOWN {
+        push_short(text, values)
+    } else {
+        push_long(text, values.len() as u64)
+    }
+}
+
+/// Writes a supply, or what stands in its place.
+fn push_supply(text: &mut Vec<u8>, value: &Value) -> Result<(), AllocError>
+    ensures { OnOk result (text.new.items ≡ text.old.items ++ supply_text (view value.now)) }
+{
+    match value {
+        Value::Array(items) => push_list(text, items),
+        _ => push_value(text, value),
     }
 }
 

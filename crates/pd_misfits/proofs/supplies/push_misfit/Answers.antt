@@ -1,6 +1,5 @@
 use Rattle.std.proofs.Common.{◌≡◌, ◌++◌, ◌∙◌, sym, subst, ap, OnOk, arith}
 use Rattle.std.proofs.lemmas.List.{append-nil}
-use Rattle.pd_misfits.specs.Supplies.{place_text}
 use Rattle.pd_misfits.proofs.Pairs.{left_text, more_fit, first_told, all_fit}
 use Rattle.pd_misfits.proofs.supplies.push_misfit.Goals as goal
 
