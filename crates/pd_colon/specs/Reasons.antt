@@ -13,18 +13,19 @@ use Rattle.pd_edit_lines.specs.declared.line.Show.TheVariants.{Transcript}
 use Rattle.pd_edit.specs.Refusals.{edited}
 use Rattle.pd_explain.specs.declared.place.Place.{Place}
 use Rattle.pd_explain.specs.declared.place.Place.TheVariants as place
-use Rattle.pd_explain.specs.Places.{causes}
+use Rattle.pd_explain.specs.declared.place.Reason.{Reason}
+use Rattle.pd_explain.specs.Places.{reasons}
 use Rattle.pd_explain.specs.Sentences.{sentence}
 use Rattle.pd_explain.specs.Stops.{syntax_text}
 
--- a line for a place that breaks the rule
+-- a line for a place at which a refusal applies
 unfoldable pub place_line : ℕ → ScenarioData → Place → List ℕ
 place_line n c place = sentence n c place ++ 10 ∷ []
 
 -- An edit that is made needs no words.
 abbrev pub edit_reasons : ℕ → ScenarioData → Edit → Result ScenarioData EditFault → List ℕ
 edit_reasons n c edit (Ok after) = []
-edit_reasons n c edit (Err fault) = flat_map (λ place. place_line n c place) (causes fault n c edit)
+edit_reasons n c edit (Err fault) = flat_map (λ (reason : Reason). place_line n c reason.place) (reasons n c edit)
 
 -- A show is refused for its port alone.
 abbrev pub show_reasons : ℕ → ScenarioData → Show → List ℕ

@@ -7,7 +7,7 @@ ghost use Rattle.pd_colon.specs.Reasons.{edit_reasons, no_line_text, place_line,
 
 use pd_edit::apply;
 use pd_edit_lines::{Edit, EditFault, Line, Show};
-use pd_explain::{Place, causes, is_port, push_sentence, push_syntax};
+use pd_explain::{Place, Reason, is_port, push_sentence, push_syntax, reasons};
 use pd_scenario::Scenario;
 use std::alloc::{AllocError, Global};
 
@@ -28,16 +28,16 @@ fn push_place<const N: usize>(
     Ok(())
 }
 
-/// Writes a line for each place.
+/// Writes a line for the place of each reason.
 fn push_places<const N: usize>(
     text: &mut Vec<u8>,
     scenario: &Scenario<N>,
-    places: &[Place],
+    reasons: &[Reason],
 ) -> Result<(), AllocError>
-    ensures { OnOk result (text.new.items ≡ text.old.items ++ flat_map (λ place. place_line N scenario.now place) places.now) }
+    ensures { OnOk result (text.new.items ≡ text.old.items ++ flat_map (λ r. place_line N scenario.now r.place) reasons.now) }
 {
-    for place in places {
-        push_place(text, scenario, place)?;
+    for reason in reasons {
+        push_place(text, scenario, &reason.place)?;
     }
     Ok(())
 }
@@ -55,9 +55,9 @@ fn push_edit<const N: usize>(
     match apply(alloc, scenario, edit) {
         Ok(_) => Ok(()),
         Err(EditFault::Memory) => Err(AllocError),
-        Err(fault) => {
-            let places = causes(alloc, fault, scenario, edit)?;
-            push_places(text, scenario, places.as_slice())
+        Err(_) => {
+            let reasons = reasons(alloc, scenario, edit)?;
+            push_places(text, scenario, reasons.as_slice())
         }
     }
 }
@@ -93,8 +93,8 @@ fn push_no_line(text: &mut Vec<u8>, line: &[u8]) -> Result<(), AllocError>
     Ok(())
 }
 
-/// Writes why a line is refused, with the scenario as it stands: a line for each place that breaks the rule. A line that
-/// isn't refused for its own sake needs no words.
+/// Writes why a line is refused, with the scenario as it stands: a line for each place at which a refusal applies, those of
+/// the least first. A line that isn't refused for its own sake needs no words.
 ///
 /// # Errors
 /// There is no memory for it; some of it may stand in the text.

@@ -8,3 +8,4 @@ mod made;
 mod refusals;
 
 pub use edits::apply;
+pub use refusals::REFUSALS;

@@ -18,7 +18,7 @@ use pd_scenario::{
 use pd_setup::{EventKind, Settings};
 
 /// What an edit may be refused for, the least number first.
-const REFUSALS: [EditFault; 9] = [
+pub const REFUSALS: [EditFault; 9] = [
     EditFault::IdTaken,
     EditFault::NoSuchId,
     EditFault::NoSuchPort,

@@ -1,3 +1,4 @@
+mod FirstReason
 mod Least
 mod WhereBroken
 mod WordCounts

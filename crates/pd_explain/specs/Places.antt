@@ -2,7 +2,7 @@
 -- a row's number; the rules are those of Refusals.antt of pd_edit.
 use Rattle.std.specs.Prelude.{ℕ, ◌+◌, Bool, true, not, ◌||◌, ◌&&◌, ◌==◌, nat_le, nat_lt, List, [], ◌∷◌, length}
 use Rattle.std.specs.Prelude.{map, filter, is_some, if◌then◌else◌}
-use Rattle.std.specs.List.{list_all}
+use Rattle.std.specs.List.{list_all, flat_map}
 use Rattle.pd_scenario.specs.declared.limits.Quantity.TheVariants as quantity
 use Rattle.pd_scenario.specs.declared.event.ScenarioEvent.{ScenarioEvent}
 use Rattle.pd_setup.specs.declared.event.EventKind.TheVariants.{Attach, Demand, Damage}
@@ -20,12 +20,13 @@ use Rattle.pd_edit_lines.specs.declared.edit.Edit.{Edit}
 use Rattle.pd_edit_lines.specs.declared.edit.Edit.TheVariants.{Insert, Remove, Move, Change, Cable, DropCable, Sink, DropSink, Caps, Floor}
 use Rattle.pd_edit_lines.specs.declared.edit.Edit.TheVariants.{Budget, End}
 use Rattle.pd_edit.specs.Edits.{has_cable, has_sink, outcome}
-use Rattle.pd_edit.specs.Refusals.{is_on_port, names_cable, names_sink}
+use Rattle.pd_edit.specs.Refusals.{is_on_port, names_cable, names_sink, refusals}
 use Rattle.pd_explain.specs.declared.place.NumberWord.TheVariants as word
 use Rattle.pd_explain.specs.declared.place.Counted.{Counted}
 use Rattle.pd_explain.specs.declared.place.Counted.TheVariants as counted
 use Rattle.pd_explain.specs.declared.place.Place.{Place}
 use Rattle.pd_explain.specs.declared.place.Place.TheVariants as place
+use Rattle.pd_explain.specs.declared.place.Reason.{Reason}
 
 -- ---- 21: the id of a new event
 
@@ -195,3 +196,11 @@ is_broken n c (place.Room counted count) = not (nat_lt count (most_of counted))
 -- where an edit breaks the rule of a refusal: each such place, and no other
 abbrev pub causes : EditFault → ℕ → ScenarioData → Edit → List Place
 causes fault n c edit = filter (is_broken n c) (places_of fault c edit)
+
+-- the refusal with each of these places
+abbrev pub reasons_at : EditFault → List Place → List Reason
+reasons_at fault places = map (λ place. record { fault = fault; place = place }) places
+
+-- each place at which any refusal applies to an edit, in the order of the refusals' numbers
+abbrev pub reasons : ℕ → ScenarioData → Edit → List Reason
+reasons n c edit = flat_map (λ fault. reasons_at fault (causes fault n c edit)) refusals

@@ -14,7 +14,7 @@ mod stops;
 mod texts;
 
 pub use broken::is_port;
-pub use place::{Counted, NumberWord, Place};
-pub use refused::causes;
+pub use place::{Counted, NumberWord, Place, Reason};
+pub use refused::reasons;
 pub use sentences::push_sentence;
 pub use stops::push_syntax;

@@ -1,5 +1,6 @@
 //! The places of an edit at which a rule bears.
 
+use pd_edit_lines::EditFault;
 use pd_scenario::{Name, Quantity};
 
 /// A word of an edit line that stands for a number of some range, by its name in docs/FORMATS.md; of `caps` with the place
@@ -91,4 +92,11 @@ pub enum Place {
         counted: Counted,
         count: usize,
     },
+}
+
+/// A refusal that applies to an edit, and a place at which it does.
+#[derive(Drop)]
+pub struct Reason {
+    pub fault: EditFault,
+    pub place: Place,
 }

@@ -50,7 +50,7 @@ mw = 20000
 ";
 
 /// Lines, each with what is said of it: a line for each place, parted by bars.
-const LINES: [(&[u8], &[u8]); 51] = [
+const LINES: [(&[u8], &[u8]); 54] = [
     (
         b"mvoe 1 5",
         b"refused 20: word 1: expected insert, remove, move, change, cable, sink, caps, floor, budget, end, show, found `mvoe`; \
@@ -239,6 +239,18 @@ hint: did you mean `lose`?",
         b"refused 28: the floors add to 5000, above the least budget, 4000",
     ),
     (b"floor 1 499", b"refused 26: `MW` is 499, below 500"),
+    (
+        b"caps 9 9000 3000",
+        b"refused 23: no port is 9; the last is 2|refused 27: `MV` of supply 1 is 9000, not 5000",
+    ),
+    (
+        b"insert 0 0 3 attach x phone",
+        b"refused 23: no port is 3; the last is 2|refused 24: no cable is named `x`; there are thin, c5|refused 26: `ID` is 0, below 1",
+    ),
+    (
+        b"budget 499",
+        b"refused 26: `MW` is 499, below 500|refused 28: the floors add to 5000, above the least budget, 499",
+    ),
 ];
 
 /// What is said of a script on that scenario.

@@ -14,9 +14,9 @@ use Rattle.pd_edit_lines.specs.declared.line.Line.TheVariants as line_read
 use Rattle.pd_edit_lines.specs.declared.line.Show.{Show}
 use Rattle.pd_edit_lines.specs.declared.line.Show.TheVariants.{Transcript}
 use Rattle.pd_edit.specs.Refusals.{edited}
-use Rattle.pd_explain.specs.declared.place.Place.{Place}
 use Rattle.pd_explain.specs.declared.place.Place.TheVariants as place
-use Rattle.pd_explain.specs.Places.{causes}
+use Rattle.pd_explain.specs.declared.place.Reason.{Reason}
+use Rattle.pd_explain.specs.Places.{reasons}
 use Rattle.pd_explain.specs.Sentences.{sentence}
 use Rattle.pd_explain.specs.Stops.{syntax_text}
 
@@ -32,9 +32,13 @@ front_text at refusal = at ++ (codes "refused " ++ (decimal refusal ++ codes ": 
 unfoldable pub reason_line : List ℕ → ℕ → List ℕ → List ℕ
 reason_line at refusal text = front_text at refusal ++ (text ++ 10 ∷ [])
 
--- a line for each of the places
-abbrev pub places_text : ℕ → List ℕ → ℕ → ScenarioData → List Place → List ℕ
-places_text refusal at n c places = flat_map (λ place. reason_line at refusal (sentence n c place)) places
+-- a line for a refusal at a place
+abbrev pub reason_text : List ℕ → ℕ → ScenarioData → Reason → List ℕ
+reason_text at n c reason = reason_line at (number_of reason.fault) (sentence n c reason.place)
+
+-- a line for each of the reasons
+abbrev pub reasons_text : List ℕ → ℕ → ScenarioData → List Reason → List ℕ
+reasons_text at n c reasons = flat_map (reason_text at n c) reasons
 
 -- ---- twenty of them
 
@@ -51,21 +55,21 @@ more_line at count = at ++ (decimal count ++ more_words count)
 abbrev pub more_text : List ℕ → ℕ → List ℕ
 more_text at count = if count == 0 then [] else more_line at count
 
-unfoldable pub first_places_text : ℕ → List ℕ → ℕ → ScenarioData → List Place → List ℕ
-first_places_text refusal at n c places =
-    places_text refusal at n c (take most_places places) ++ more_text at (length places - most_places)
+unfoldable pub first_reasons_text : List ℕ → ℕ → ScenarioData → List Reason → List ℕ
+first_reasons_text at n c reasons =
+    reasons_text at n c (take most_places reasons) ++ more_text at (length reasons - most_places)
 
 -- ---- a line
 
 -- an edit that is made needs no words
 abbrev pub edit_text : List ℕ → ℕ → ScenarioData → Edit → Result ScenarioData EditFault → List ℕ
 edit_text at n c edit (Ok after) = []
-edit_text at n c edit (Err fault) = first_places_text (number_of fault) at n c (causes fault n c edit)
+edit_text at n c edit (Err fault) = first_reasons_text at n c (reasons n c edit)
 
 -- a show is refused for its port alone
 abbrev pub show_text : List ℕ → ℕ → ScenarioData → Show → List ℕ
 show_text at n c (Transcript port) =
-    if is_port n port then [] else places_text (number_of NoSuchPort) at n c (place.Port port ∷ [])
+    if is_port n port then [] else reason_line at (number_of NoSuchPort) (sentence n c (place.Port port))
 show_text at n c _ = []
 
 abbrev pub read_text : List ℕ → ℕ → ScenarioData → List ℕ → Result Line EditFault → List ℕ

@@ -6,14 +6,15 @@ ghost use Rattle.pd_edit_lines.specs.Numbers.{number_of};
 ghost use Rattle.pd_edit.specs.Refusals.{edited};
 ghost use Rattle.pd_explain.specs.Sentences.{sentence};
 ghost use Rattle.pd_explain.specs.Stops.{syntax_text};
-ghost use Rattle.pd_script.specs.Script.{at_line, reason_line, places_text, edit_text, show_text, kept_or, line_text, after_line};
-ghost use Rattle.pd_script.specs.Script.{script_text, front_text, most_places, more_words, more_line, more_text, first_places_text};
+ghost use Rattle.pd_script.specs.Script.{at_line, reason_line, reason_text, reasons_text, edit_text, show_text, kept_or, line_text};
+ghost use Rattle.pd_script.specs.Script.{after_line, script_text, front_text, most_places, more_words, more_line, more_text};
+ghost use Rattle.pd_script.specs.Script.{first_reasons_text};
 
 use crate::lines::first_line;
 use pd_content::push_number;
 use pd_edit::apply;
 use pd_edit_lines::{Edit, EditFault, Line, Show};
-use pd_explain::{Place, causes, is_port, push_sentence, push_syntax};
+use pd_explain::{Place, Reason, is_port, push_sentence, push_syntax, reasons};
 use pd_scenario::Scenario;
 use std::alloc::{AllocError, Global};
 
@@ -47,30 +48,29 @@ fn push_place<const N: usize>(
     Ok(())
 }
 
-/// Writes a line for each place.
-fn push_places<const N: usize>(
+/// Writes a line for each reason.
+fn push_reasons<const N: usize>(
     text: &mut Vec<u8>,
     at: &[u8],
-    fault: EditFault,
     scenario: &Scenario<N>,
-    places: &[Place],
+    reasons: &[Reason],
 ) -> Result<(), AllocError>
-    ensures { OnOk result (text.new.items ≡ text.old.items ++ places_text (number_of fault) at.now N scenario.now places.now) }
+    ensures { OnOk result (text.new.items ≡ text.old.items ++ reasons_text at.now N scenario.now reasons.now) }
 {
-    for place in places {
-        push_place(text, at, fault, scenario, place)?;
+    for reason in reasons {
+        push_place(text, at, reason.fault, scenario, &reason.place)?;
     }
     Ok(())
 }
 
-/// At most twenty of the places, from the first on.
-fn first_places(places: &[Place]) -> &[Place]
-    ensures { result.now ≡ take most_places places.now }
+/// At most twenty of the reasons, from the first on.
+fn first_reasons(reasons: &[Reason]) -> &[Reason]
+    ensures { result.now ≡ take most_places reasons.now }
 {
-    if places.len() <= MOST_PLACES {
-        places
+    if reasons.len() <= MOST_PLACES {
+        reasons
     } else {
-        &places[..MOST_PLACES]
+        &reasons[..MOST_PLACES]
     }
 }
 
@@ -105,19 +105,18 @@ fn push_more(text: &mut Vec<u8>, at: &[u8], count: u64) -> Result<(), AllocError
     }
 }
 
-/// Writes a line for each of the first places, and how many more there are.
-#[tactic(auto, unfolding(crate::specs::Script::first_places_text))]
-fn push_first_places<const N: usize>(
+/// Writes a line for each of the first reasons, and how many more places there are.
+#[tactic(auto, unfolding(crate::specs::Script::first_reasons_text))]
+fn push_first_reasons<const N: usize>(
     text: &mut Vec<u8>,
     at: &[u8],
-    fault: EditFault,
     scenario: &Scenario<N>,
-    places: &[Place],
+    reasons: &[Reason],
 ) -> Result<(), AllocError>
-    ensures { OnOk result (text.new.items ≡ text.old.items ++ first_places_text (number_of fault) at.now N scenario.now places.now) }
+    ensures { OnOk result (text.new.items ≡ text.old.items ++ first_reasons_text at.now N scenario.now reasons.now) }
 {
-    push_places(text, at, fault, scenario, first_places(places))?;
-    push_more(text, at, places.len().saturating_sub(MOST_PLACES) as u64)
+    push_reasons(text, at, scenario, first_reasons(reasons))?;
+    push_more(text, at, reasons.len().saturating_sub(MOST_PLACES) as u64)
 }
 
 /// Writes why a line is none of an edit script.
@@ -177,15 +176,15 @@ fn push_edit<const N: usize>(
             Ok(())
         }
         Err(EditFault::Memory) => Err(AllocError),
-        Err(fault) => {
-            let places = causes(alloc, fault, scenario, edit)?;
-            push_first_places(text, at, fault, scenario, places.as_slice())
+        Err(_) => {
+            let reasons = reasons(alloc, scenario, edit)?;
+            push_first_reasons(text, at, scenario, reasons.as_slice())
         }
     }
 }
 
-/// Takes in a line, and writes why it is refused, where it is: a line for each of at most twenty places, and how many more
-/// there are.
+/// Takes in a line, and writes why it is refused, where it is: a line for each of at most twenty places at which a refusal
+/// applies, those of the least first, and how many more there are.
 ///
 /// # Errors
 /// There is no memory for it; some of it may stand in the text.
@@ -223,8 +222,8 @@ pub fn at_line(alloc: Global, name: &[u8], number: u64) -> Result<Vec<u8>, Alloc
     Ok(at)
 }
 
-/// Why lines of an edit script are refused, each against the scenario as edited by then: a line for each place that breaks
-/// the rule, behind the file's name and the line's number.
+/// Why lines of an edit script are refused, each against the scenario as edited by then: a line for each place at which a
+/// refusal applies, behind the file's name and the line's number.
 ///
 /// # Errors
 /// There is no memory for it.
