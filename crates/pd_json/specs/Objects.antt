@@ -82,11 +82,11 @@ refusal_members text = number_member (codes "refusal") (digits text) ++ place_me
 unfoldable pub warning_members : List ℕ → List ℕ
 warning_members text = number_member (codes "warning") (codes "true") ++ words_members text
 
--- a line of a test that isn't met, and what there is: no words for that have these in them
+-- a line of a test that isn't met, and what there is, which stands behind `is` or `are`: no words for that have these in them
 unfoldable pub failed_members : List ℕ → List ℕ
 failed_members text =
-    string_member (codes "expected") (before_last (codes "; there is ") text)
-    ++ string_member (codes "found") (behind_last (codes "; there is ") text)
+    string_member (codes "expected") (before_last (codes "; there ") text)
+    ++ string_member (codes "found") (after (codes " ") (behind_last (codes "; there ") text))
 
 unfoldable pub told_members : List ℕ → List ℕ
 told_members text =

@@ -181,8 +181,8 @@ fn push_warning(text: &mut Vec<u8>, words: &[u8]) -> Result<(), AllocError>
 fn push_failed(text: &mut Vec<u8>, words: &[u8]) -> Result<(), AllocError>
     ensures { OnOk result (text.new.items ≡ text.old.items ++ failed_members words.now) }
 {
-    push_member(text, b"expected", before_last(b"; there is ", words))?;
-    push_member(text, b"found", behind_last(b"; there is ", words))
+    push_member(text, b"expected", before_last(b"; there ", words))?;
+    push_member(text, b"found", after(b" ", behind_last(b"; there ", words)))
 }
 
 /// Writes what is told: a refusal, a warning, what a test comes to, or how many more places there are.

@@ -38,8 +38,9 @@ const LINES: [(&[u8], &[u8]); 16] = [
         b"{\"file\":\"c\",\"line\":2,\"refusal\":1,\"sentence\":\"a\\\\b\\u0009\\u001f\\\"\"}\n",
     ),
     (
-        b":3: failed: expect faults none # so; there is one; there is 2 faults",
-        b"{\"file\":\"c\",\"line\":3,\"expected\":\"expect faults none # so; there is one\",\"found\":\"2 faults\"}\n",
+        b":3: failed: expect faults none # so; there is one; there are 2 faults: 5 port 1 reject, 7 port 1 wait",
+        b"{\"file\":\"c\",\"line\":3,\"expected\":\"expect faults none # so; there is one\",\
+\"found\":\"2 faults: 5 port 1 reject, 7 port 1 wait\"}\n",
     ),
     (
         b":4: not lost: there is no such packet",
