@@ -64,7 +64,7 @@ impl Makers {
 
 /// The ports of which a contract is made at an instant of a run. It looks at the entries from then on that change a contract, and
 /// at no other.
-pub(crate) fn makers_of<const N: usize, T: Runner<N>>(run: &T, at: u64) -> Makers
+pub fn makers_of<const N: usize, T: Runner<N>>(run: &T, at: u64) -> Makers
     ensures { result ≡ makers_at at (T.entries run.now) }
 {
     let mut makers = Makers::nobody();

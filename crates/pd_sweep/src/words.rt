@@ -240,8 +240,11 @@ pub fn push_listed(
     push_listed(text, next, next, port + 1, marks)
 }
 
-/// Writes the ports whose contracts are made at an instant, if any are.
-fn push_makers(text: &mut Vec<u8>, makers: &Makers) -> Result<(), AllocError>
+/// Writes the ports whose contracts are made at an instant, if any are, as ` by port 1 and port 2`.
+///
+/// # Errors
+/// There is no memory for it; some of it may stand in the text.
+pub fn push_makers(text: &mut Vec<u8>, makers: &Makers) -> Result<(), AllocError>
     ensures { OnOk result (text.new.items ≡ text.old.items ++ makers_words makers.now) }
 {
     push_listed(text, b" by port ", b" and port ", 1, &makers.ports)
