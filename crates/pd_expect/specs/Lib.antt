@@ -1,3 +1,4 @@
+pub mod Details
 pub mod Laws
 pub mod Lines
 pub mod Losses

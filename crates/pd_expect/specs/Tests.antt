@@ -7,6 +7,7 @@ use Rattle.pd_scenario.specs.Scenarios.{ScenarioData}
 use Rattle.pd_explain.specs.Sentences.{sentence}
 use Rattle.pd_explain.specs.declared.place.Place.TheVariants as place
 use Rattle.pd_script.specs.Script.{after_line, at_line, line_text, reason_line}
+use Rattle.pd_expect.specs.Details.{details}
 use Rattle.pd_expect.specs.Lines.{test_line}
 use Rattle.pd_expect.specs.Losses.{IsLoss}
 use Rattle.pd_expect.specs.Sentences.{IsFound, is_met, port_of, unknown_port}
@@ -49,16 +50,16 @@ pub record Answer : Type 0 where
   pub after : ScenarioData
 
 -- an expectation that is met is passed over in silence
-abbrev pub judged : ScenarioData → List ℕ → List ℕ → TestTally → Expectation → Found → Answer
-judged c at line tally expectation what =
+abbrev pub judged : ScenarioData → List ℕ → List ℕ → TestTally → Expectation → Found → List (ℕ × Entry) → Answer
+judged c at line tally expectation what moves =
     if is_met expectation what then record { said = []; tally = one_passed tally; after = c }
-    else record { said = failure_line at line what; tally = one_failed tally; after = c }
+    else record { said = failure_line at line what (details expectation what moves); tally = one_failed tally; after = c }
 
 -- it is held against the run of the scenario as edited by then
 abbrev pub Judges : ScenarioData → List ℕ → List ℕ → TestTally → Expectation → Answer → Type 0
 Judges c at line tally expectation answer =
     (moves : List (ℕ × Entry)) × Shows (plan_of c) moves × (what : Found) × IsFound (plan_of c) moves line expectation what
-    × (answer ≡ judged c at line tally expectation what)
+    × (answer ≡ judged c at line tally expectation what moves)
 
 -- one of a port that isn't there is refused
 abbrev pub Expects : ℕ → ScenarioData → List ℕ → List ℕ → TestTally → Expectation → Option ℕ → Answer → Type 0

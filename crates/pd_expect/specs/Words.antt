@@ -1,5 +1,5 @@
 -- What is said of a line of a test script: this product's own form, docs/FORMATS.md, "Tests".
-use Rattle.std.specs.Prelude.{ℕ, zero, suc, List, [], ◌∷◌, ◌++◌, codes, decimal, Option, Some, None}
+use Rattle.std.specs.Prelude.{ℕ, zero, suc, ◌==◌, if◌then◌else◌, List, [], ◌∷◌, ◌++◌, codes, decimal, Option, Some, None}
 use Rattle.pd_objects.specs.declared.contract.Contract.{Contract}
 use Rattle.pd_tell.specs.Members.{number_member}
 use Rattle.pd_sweep.specs.Words.{obstacle_words}
@@ -18,17 +18,25 @@ abbrev pub contract_words : Option Contract → List ℕ
 contract_words None = codes "no contract"
 contract_words (Some c) = known_words c.position c.mv c.ma
 
+abbrev pub faults_word : ℕ → List ℕ
+faults_word count = if count == 1 then codes " fault" else codes " faults"
+
 -- what there is in place of what is expected
 unfoldable pub found_words : Found → List ℕ
 found_words (found.Contract stands) = contract_words stands
 found_words (found.Least margin) = codes "margin " ++ (decimal margin.left ++ (codes " at " ++ decimal margin.at))
-found_words (found.Faults count) = decimal count ++ codes " faults"
+found_words (found.Faults count) = decimal count ++ faults_word count
 found_words (found.Fault there) = codes "no such fault"
 found_words (found.Packet there) = codes "no such packet"
 
--- an expectation that isn't met: where its line stands, the line, and what there is
-unfoldable pub failure_line : List ℕ → List ℕ → Found → List ℕ
-failure_line at line what = at ++ (codes "failed: " ++ (line ++ (codes "; there is " ++ (found_words what ++ 10 ∷ []))))
+abbrev pub there_words : Found → List ℕ
+there_words (found.Faults count) = if count == 1 then codes "; there is " else codes "; there are "
+there_words _ = codes "; there is "
+
+-- an expectation that isn't met: where its line stands, the line, what there is, and details of that
+unfoldable pub failure_line : List ℕ → List ℕ → Found → List ℕ → List ℕ
+failure_line at line what details =
+    at ++ (codes "failed: " ++ (line ++ (there_words what ++ (found_words what ++ (details ++ 10 ∷ [])))))
 
 -- what may stand behind `expect`
 abbrev pub contract_forms : List ℕ

@@ -2,10 +2,13 @@
 #![tactic(auto)]
 
 mod contract;
+mod details;
 mod found;
 pub mod laws;
 mod lines;
 mod loss;
+mod near;
+mod notes;
 mod script;
 mod seek;
 mod span;

@@ -5,11 +5,13 @@ ghost use Rattle.std.specs.Str.Lines.{lines};
 ghost use Rattle.pd_explain.specs.Sentences.{sentence};
 ghost use Rattle.pd_explain.specs.declared.place.Place.TheVariants.{Port as port_place};
 ghost use Rattle.pd_script.specs.Script.{reason_line};
+ghost use Rattle.pd_expect.specs.Details.{details};
 ghost use Rattle.pd_expect.specs.Sentences.{port_of, unknown_port};
 ghost use Rattle.pd_expect.specs.Tests.{AnswersAs, Expects, IsAnswer, Judges, Loses, Tests, answered, no_test, one_refused};
-ghost use Rattle.pd_expect.specs.Words.{no_test_line};
+ghost use Rattle.pd_expect.specs.Words.{failure_line, no_test_line};
 ghost use Rattle.pd_expect.specs.declared.lines.TestLine.TheVariants.{Edit as line_is_edit};
 
+use crate::found::Found;
 use crate::lines::{Expectation, Lost, TestLine};
 use crate::loss::lose;
 use crate::tally::TestTally;
@@ -77,6 +79,23 @@ fn edit<const N: usize>(
     Ok(TestReport { text, tally })
 }
 
+/// Writes that an expectation isn't met by a run.
+fn push_unmet<const N: usize, T: Runner<N>>(
+    alloc: Global,
+    text: &mut Vec<u8>,
+    run: &T,
+    at: &[u8],
+    line: &[u8],
+    expectation: &Expectation,
+    found: &Found,
+) -> Result<(), AllocError>
+    ensures { OnOk result (text.new.items ≡ text.old.items
+        ++ failure_line at.now line.now found.now (details expectation.now found.now (T.entries run.now))) }
+{
+    let details = expectation.details(alloc, run, found)?;
+    push_failure(text, at, line, found, details.as_slice())
+}
+
 /// Holds an expectation against the run of a scenario.
 fn judge<const N: usize, T: Runner<N>>(
     alloc: Global,
@@ -100,7 +119,7 @@ fn judge<const N: usize, T: Runner<N>>(
         let tally = tally.one_passed();
         return Ok(TestReport { text, tally });
     }
-    push_failure(&mut text, at, line, &found)?;
+    push_unmet(alloc, &mut text, run, at, line, expectation, &found)?;
     let tally = tally.one_failed();
     Ok(TestReport { text, tally })
 }

@@ -63,21 +63,27 @@ pub(crate) struct Sought {
     pub to: u64,
 }
 
-impl Sought {
-    /// Whether such a packet starts.
-    fn starts(&self, start: &Option<Start>) -> bool
-        ensures { result ≡ starts self.now.side self.now.kind start.now }
-    {
-        match start {
-            Some(Start::Packet { side, packet, .. }) => {
-                side_text(*side) == side_text(self.side)
-                    && header_kind(packet.header()).name().as_str().as_bytes()
-                        == self.kind.name().as_str().as_bytes()
-            }
-            _ => false,
+/// Whether a packet of a side and a kind starts.
+pub(crate) fn starts(side: Side, kind: Kind, start: &Option<Start>) -> bool
+    ensures { result ≡ starts side kind start.now }
+{
+    match start {
+        Some(
+            Start::Packet {
+                side: other,
+                packet,
+                ..
+            },
+        ) => {
+            side_text(*other) == side_text(side)
+                && header_kind(packet.header()).name().as_str().as_bytes()
+                    == kind.name().as_str().as_bytes()
         }
+        _ => false,
     }
+}
 
+impl Sought {
     /// Whether an entry of a port is that of such a packet.
     fn is_of(&self, port: usize, entry: &Entry) -> bool
         ensures { result ≡ has_packet self.now.port self.now.side self.now.kind self.now.from self.now.to (port, entry.now) }
@@ -85,7 +91,7 @@ impl Sought {
         port as u64 == self.port
             && self.from <= entry.at
             && entry.at <= self.to
-            && self.starts(&entry.start)
+            && starts(self.side, self.kind, &entry.start)
     }
 
     /// Whether the entry at an index is.

@@ -2,7 +2,8 @@
 
 ghost use Rattle.std.specs.Prelude.{◌≡◌, ◌++◌, OnOk, decimal};
 ghost use Rattle.pd_sweep.specs.Words.{obstacle_words};
-ghost use Rattle.pd_expect.specs.Words.{contract_words, failure_line, found_words, known_words, loss_line, loss_words, no_test_line};
+ghost use Rattle.pd_expect.specs.Words.{contract_words, failure_line, found_words, faults_word, known_words};
+ghost use Rattle.pd_expect.specs.Words.{loss_line, loss_words, no_test_line, there_words};
 
 use crate::found::Found;
 use crate::loss::LoseFault;
@@ -61,6 +62,12 @@ fn push_wide(text: &mut Vec<u8>, number: u128) -> Result<(), AllocError>
     text.extend_from_slice(buffer.format(number).as_bytes())
 }
 
+fn faults_word(count: u128) -> &'static [u8]
+    ensures { result.now ≡ faults_word count }
+{
+    if count == 1 { b" fault" } else { b" faults" }
+}
+
 /// Writes what there is in place of what is expected.
 #[tactic(auto, unfolding(crate::specs::Words::found_words))]
 fn push_found(text: &mut Vec<u8>, found: &Found) -> Result<(), AllocError>
@@ -76,28 +83,39 @@ fn push_found(text: &mut Vec<u8>, found: &Found) -> Result<(), AllocError>
         }
         Found::Faults(count) => {
             push_wide(text, *count)?;
-            text.extend_from_slice(b" faults")
+            text.extend_from_slice(faults_word(*count))
         }
         Found::Fault(_) => text.extend_from_slice(b"no such fault"),
         Found::Packet(_) => text.extend_from_slice(b"no such packet"),
     }
 }
 
-/// Writes that an expectation isn't met: where its line stands, the line, and what there is.
+fn there_words(found: &Found) -> &'static [u8]
+    ensures { result.now ≡ there_words found.now }
+{
+    match found {
+        Found::Faults(count) if *count != 1 => b"; there are ",
+        _ => b"; there is ",
+    }
+}
+
+/// Writes that an expectation isn't met: where its line stands, the line, what there is, and details of that.
 #[tactic(auto, unfolding(crate::specs::Words::failure_line))]
 pub(crate) fn push_failure(
     text: &mut Vec<u8>,
     at: &[u8],
     line: &[u8],
     found: &Found,
+    details: &[u8],
 ) -> Result<(), AllocError>
-    ensures { OnOk result (text.new.items ≡ text.old.items ++ failure_line at.now line.now found.now) }
+    ensures { OnOk result (text.new.items ≡ text.old.items ++ failure_line at.now line.now found.now details.now) }
 {
     text.extend_from_slice(at)?;
     text.extend_from_slice(b"failed: ")?;
     text.extend_from_slice(line)?;
-    text.extend_from_slice(b"; there is ")?;
+    text.extend_from_slice(there_words(found))?;
     push_found(text, found)?;
+    text.extend_from_slice(details)?;
     text.push(b'\n')?;
     Ok(())
 }

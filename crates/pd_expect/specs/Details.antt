@@ -1,0 +1,124 @@
+-- What is told of an expectation that isn't met, behind what there is in its place: docs/FORMATS.md, "Tests".
+use Rattle.std.specs.Prelude.{ℕ, ◌-◌, ◌==◌, ◌&&◌, nat_lt, Bool, List, [], ◌∷◌, ◌++◌, map, fold, length, take, codes, decimal, is_some}
+use Rattle.std.specs.Prelude.{if◌then◌else◌, Option, Some, None}
+use Rattle.std.specs.List.{flat_map}
+use Rattle.pd_line.specs.declared.notes.Fault.{Fault}
+use Rattle.pd_port.specs.declared.entry.Entry.{Entry}
+use Rattle.pd_report.specs.FaultLines.{fault_words}
+use Rattle.pd_sweep.specs.Choices.{is_of_port}
+use Rattle.pd_sweep.specs.Summaries.{makers_at}
+use Rattle.pd_sweep.specs.Words.{makers_words}
+use Rattle.pd_expect.specs.Sentences.{Moves, starts}
+use Rattle.pd_expect.specs.declared.found.Found.{Found}
+use Rattle.pd_expect.specs.declared.found.Found.TheVariants as found
+use Rattle.pd_expect.specs.declared.lines.Expectation.{Expectation}
+use Rattle.pd_expect.specs.declared.lines.Expectation.TheVariants as expect
+use Rattle.pd_expect.specs.declared.near.Near.{Near}
+use Rattle.pd_expect.specs.declared.near.Sign.{Sign}
+use Rattle.pd_expect.specs.declared.near.Sign.TheVariants as sign
+use Rattle.pd_expect.specs.declared.notes.FaultNote.{FaultNote}
+
+-- ---- faults
+
+abbrev pub note_of : ℕ → ℕ → Fault → FaultNote
+note_of at port fault = record { at = at; port = port; fault = fault }
+
+-- the faults of an entry, where it is of the port that is asked for; where none is, of any
+unfoldable pub notes_at : Option ℕ → ℕ × Entry → List FaultNote
+notes_at wanted move = if is_of_port wanted move.0 then map (note_of move.1.at move.0) move.1.faults.items else []
+
+-- those of a run, in its order
+abbrev pub notes_of : Option ℕ → Moves → List FaultNote
+notes_of wanted moves = flat_map (notes_at wanted) moves
+
+-- as in the show of faults, with no blanks before the time
+unfoldable pub note_words : FaultNote → List ℕ
+note_words note = decimal note.at ++ (codes " port " ++ (decimal note.port ++ (32 ∷ fault_words note.fault)))
+
+-- the first behind these words, and each further one behind a comma
+unfoldable pub listed : List ℕ → List FaultNote → List ℕ
+listed front [] = []
+listed front (note ∷ notes) = front ++ (note_words note ++ listed (codes ", ") notes)
+
+abbrev pub most_notes : ℕ
+most_notes = 5
+
+-- how many more there are, where there are any
+abbrev pub more_words : ℕ → List ℕ
+more_words count = if count == 0 then [] else codes " and " ++ (decimal count ++ codes " more")
+
+-- the first five, and how many more there are
+abbrev pub first_notes : List FaultNote → List ℕ
+first_notes notes = listed (codes ": ") (take most_notes notes) ++ more_words (length notes - most_notes)
+
+abbrev pub other_word : ℕ → List ℕ
+other_word count = if count == 1 then codes " other" else codes " others"
+
+unfoldable pub no_other_words : ℕ → List ℕ
+no_other_words port = codes ", and no other on port " ++ decimal port
+
+abbrev pub but_words : List FaultNote → List ℕ
+but_words notes = codes ", but " ++ (decimal (length notes) ++ (other_word (length notes) ++ first_notes notes))
+
+-- what goes wrong on a port in place of what is expected
+abbrev pub others_words : ℕ → List FaultNote → List ℕ
+others_words port notes = if length notes == 0 then no_other_words port else but_words notes
+
+-- ---- what is nearest to a range of times
+
+-- the entry is of the port, and its contract changes, or a packet of the side and kind starts
+abbrev pub has_sign : Sign → ℕ × Entry → Bool
+has_sign (sign.Change port) move = move.0 == port && is_some move.1.contract
+has_sign (sign.Packet port side kind) move = move.0 == port && starts side kind move.1.start
+
+abbrev pub nothing_near : Near
+nothing_near = record { before = None; after = None }
+
+abbrev pub or_first : Option ℕ → ℕ → Option ℕ
+or_first None at = Some at
+or_first (Some first) at = Some first
+
+-- one more time, each being no sooner than those before: the last before the range, and the first after it
+abbrev pub beside : ℕ → ℕ → ℕ → Near → Near
+beside from to at near =
+    if nat_lt at from then record near { before = Some at }
+    else if nat_lt to at then record near { after = or_first near.after at }
+    else near
+
+abbrev pub near_after : Sign → ℕ → ℕ → Near → ℕ × Entry → Near
+near_after what from to near move = if has_sign what move then beside from to move.1.at near else near
+
+-- the times of the entries with the sign that are nearest to the range, in the run's order
+abbrev pub nearest : Sign → ℕ → ℕ → Moves → Near
+nearest what from to moves = fold (near_after what from to) nothing_near moves
+
+-- until when there is this contract, or none, where that changes
+abbrev pub until_words : Option ℕ → List ℕ
+until_words None = []
+until_words (Some at) = codes " until " ++ decimal at
+
+-- which packets of the side and kind are nearest
+abbrev pub near_words : Option ℕ → Option ℕ → List ℕ
+near_words None None = codes " at any time"
+near_words (Some before) None = codes "; the last before is at " ++ decimal before
+near_words None (Some after) = codes "; the first after is at " ++ decimal after
+near_words (Some before) (Some after) =
+    codes "; the last before is at " ++ (decimal before ++ (codes ", the first after at " ++ decimal after))
+
+-- ---- what is told
+
+abbrev pub packet_details : Near → List ℕ
+packet_details near = near_words near.before near.after
+
+-- of a margin the ports whose contracts are made at that instant
+abbrev pub margin_details : Found → Moves → List ℕ
+margin_details (found.Least margin) moves = makers_words (makers_at margin.at moves)
+margin_details _ moves = []
+
+abbrev pub details : Expectation → Found → Moves → List ℕ
+details (expect.Contract port at voltage current) what moves = until_words (nearest (sign.Change port) 0 at moves).after
+details (expect.NoContract port at) what moves = until_words (nearest (sign.Change port) 0 at moves).after
+details (expect.Margin least) what moves = margin_details what moves
+details expect.NoFaults what moves = first_notes (notes_of None moves)
+details (expect.Fault port) what moves = others_words port (notes_of (Some port) moves)
+details (expect.Packet port side kind from to) what moves = packet_details (nearest (sign.Packet port side kind) from to moves)
