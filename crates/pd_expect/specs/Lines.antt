@@ -6,9 +6,10 @@
 --     expect fault PORT "WORDS"
 --     expect packet PORT SIDE NAME between FROM TO
 --     lose NTH NAME of port PORT
--- RANGE is a number, or two with .. between them. What stands behind a word that begins with # is passed over.
+-- RANGE is a number, or two with .. between them. No range ends before it begins, and TO isn't before FROM.
+-- What stands behind a word that begins with # is passed over.
 use Rattle.std.specs.Prelude.{ℕ, ◌+◌, ◌==◌, Bool, true, false, List, [], ◌∷◌, ◌++◌, find, take, drop, codes, Option, Some, None, option_map}
-use Rattle.std.specs.Prelude.{bytes_eq, if◌then◌else◌}
+use Rattle.std.specs.Prelude.{bytes_eq, nat_lt, if◌then◌else◌}
 use Rattle.std.specs.List.{position_from}
 use Rattle.pd_header.specs.declared.kind.Kind.{Kind}
 use Rattle.pd_header.specs.declared.side.Side.{Side}
@@ -190,11 +191,31 @@ lost_of ws = do
   port ← number_at named
   alone (record { nth = nth.0; kind = kind.0; port = port.0 }) port.1
 
+-- ---- ranges that end before they begin
+
+abbrev pub if_empty : Span → Option Span
+if_empty span = if nat_lt span.to span.from then Some span else None
+
+abbrev pub first_span : Option Span → Option Span → Option Span
+first_span None other = other
+first_span (Some span) other = Some span
+
+-- the first range of an expectation in which no number is
+abbrev pub empty_span : Expectation → Option Span
+empty_span (expect.Contract port at voltage current) = first_span (if_empty voltage) (if_empty current)
+empty_span (expect.Packet port side kind from to) = if_empty (record { from = from; to = to })
+empty_span _ = None
+
 -- ---- lines
+
+-- an expectation is one where numbers are in its ranges
+abbrev pub ranged : Expectation → Option Span → TestLine
+ranged expectation None = line_is.Expect expectation
+ranged expectation (Some span) = line_is.EmptyRange span
 
 abbrev pub expect_line : Option Expectation → TestLine
 expect_line None = line_is.NoTest
-expect_line (Some expectation) = line_is.Expect expectation
+expect_line (Some expectation) = ranged expectation (empty_span expectation)
 
 abbrev pub lose_line : Option Lost → TestLine
 lose_line None = line_is.NoTest

@@ -11,7 +11,7 @@ use Rattle.pd_expect.specs.Details.{details}
 use Rattle.pd_expect.specs.Lines.{test_line}
 use Rattle.pd_expect.specs.Losses.{IsLoss}
 use Rattle.pd_expect.specs.Sentences.{IsFound, is_met, port_of, unknown_port}
-use Rattle.pd_expect.specs.Words.{failure_line, loss_line, no_test_line}
+use Rattle.pd_expect.specs.Words.{empty_range_line, failure_line, loss_line, no_test_line}
 use Rattle.pd_expect.specs.declared.found.Found.{Found}
 use Rattle.pd_expect.specs.declared.lines.Expectation.{Expectation}
 use Rattle.pd_expect.specs.declared.lines.Lost.{Lost}
@@ -81,6 +81,8 @@ AnswersAs n c at line tally line_is.Edit answer =
 AnswersAs n c at line tally (line_is.Expect expectation) answer =
     Expects n c at line tally expectation (unknown_port n (port_of expectation)) answer
 AnswersAs n c at line tally (line_is.Lose lost) answer = Loses n c at tally lost answer
+AnswersAs n c at line tally (line_is.EmptyRange span) answer =
+    answer ≡ record { said = empty_range_line at span; tally = one_refused tally; after = c }
 AnswersAs n c at line tally line_is.NoTest answer =
     answer ≡ record { said = no_test_line at; tally = one_refused tally; after = c }
 

@@ -7,6 +7,7 @@ use Rattle.pd_expect.specs.declared.found.Found.{Found}
 use Rattle.pd_expect.specs.declared.found.Found.TheVariants as found
 use Rattle.pd_expect.specs.declared.loss.LoseFault.{LoseFault}
 use Rattle.pd_expect.specs.declared.loss.LoseFault.TheVariants as fault
+use Rattle.pd_expect.specs.declared.span.Span.{Span}
 use Rattle.pd_expect.specs.declared.tally.TestTally.{TestTally}
 
 -- a contract, as in the show of contracts
@@ -51,6 +52,12 @@ packet_forms = codes "`expect packet PORT SIDE NAME between FROM TO` or `lose NT
 -- a line that begins as one of a test, and is none
 unfoldable pub no_test_line : List ℕ → List ℕ
 no_test_line at = at ++ (codes "refused 20: expected " ++ (contract_forms ++ (other_forms ++ packet_forms)))
+
+-- a range in which no number is
+unfoldable pub empty_range_line : List ℕ → Span → List ℕ
+empty_range_line at span =
+    at ++ (codes "refused 20: no number is from " ++ (decimal span.from ++ (codes " to " ++ (decimal span.to
+    ++ codes "; hint: the lesser one comes first\n"))))
 
 -- why a packet isn't lost
 abbrev pub loss_words : LoseFault → List ℕ

@@ -5,6 +5,7 @@ ghost use Rattle.pd_edit_lines.specs.Words.{next, number_at, words};
 ghost use Rattle.pd_header.specs.Kinds.{name_of};
 ghost use Rattle.pd_expect.specs.Lines.{after_word, alone, contract_of, expect_line, expectation_named, expectation_of, fault_of};
 ghost use Rattle.pd_expect.specs.Lines.{faults_of, is_comment, is_over, kind_at, kind_named, line_named, lose_line, lost_of};
+ghost use Rattle.pd_expect.specs.Lines.{empty_span, first_span, if_empty};
 ghost use Rattle.pd_expect.specs.Lines.{margin_of, no_contract_of, optional_span, packet_of, quoted, side_named, span_at, test_line};
 
 use crate::span::{Span, cut};
@@ -62,6 +63,8 @@ pub enum TestLine {
     Edit,
     Expect(Expectation),
     Lose(Lost),
+    /// It would be an expectation, but for a range that ends before it begins.
+    EmptyRange(Span),
     /// It begins as one of the others, and is none.
     NoTest,
 }
@@ -331,6 +334,54 @@ fn lost_of(line: &[u8]) -> Option<Lost>
     }
 }
 
+/// A range that ends before it begins.
+fn if_empty(span: Span) -> Option<Span>
+    ensures { result ≡ if_empty span }
+{
+    if span.to < span.from {
+        Some(span)
+    } else {
+        None
+    }
+}
+
+fn first_span(first: Option<Span>, other: Option<Span>) -> Option<Span>
+    ensures { result ≡ first_span first other }
+{
+    match first {
+        None => other,
+        Some(span) => Some(span),
+    }
+}
+
+/// The first range of an expectation in which no number is.
+fn empty_span(expectation: &Expectation) -> Option<Span>
+    ensures { result ≡ empty_span expectation.now }
+{
+    match *expectation {
+        Expectation::Contract {
+            voltage,
+            current,
+            ..
+        } => first_span(if_empty(voltage), if_empty(current)),
+        Expectation::Packet { from, to, .. } => if_empty(Span { from, to }),
+        _ => None,
+    }
+}
+
+/// What a line is by what is expected, if anything is.
+fn expect_line(expectation: Option<Expectation>) -> TestLine
+    ensures { result ≡ expect_line expectation }
+{
+    let Some(expectation) = expectation else {
+        return TestLine::NoTest;
+    };
+    match empty_span(&expectation) {
+        None => TestLine::Expect(expectation),
+        Some(span) => TestLine::EmptyRange(span),
+    }
+}
+
 impl TestLine {
     /// What a line of a test script is.
     #[tactic(auto, unfolding(crate::specs::Lines::test_line))]
@@ -341,10 +392,7 @@ impl TestLine {
             return TestLine::Edit;
         };
         if word == b"expect".as_slice() {
-            return match expectation_of(line, rest) {
-                None => TestLine::NoTest,
-                Some(expectation) => TestLine::Expect(expectation),
-            };
+            return expect_line(expectation_of(line, rest));
         }
         if word == b"lose".as_slice() {
             return match lost_of(rest) {

@@ -8,14 +8,15 @@ ghost use Rattle.pd_script.specs.Script.{reason_line};
 ghost use Rattle.pd_expect.specs.Details.{details};
 ghost use Rattle.pd_expect.specs.Sentences.{port_of, unknown_port};
 ghost use Rattle.pd_expect.specs.Tests.{AnswersAs, Expects, IsAnswer, Judges, Loses, Tests, answered, no_test, one_refused};
-ghost use Rattle.pd_expect.specs.Words.{failure_line, no_test_line};
+ghost use Rattle.pd_expect.specs.Words.{empty_range_line, failure_line, no_test_line};
 ghost use Rattle.pd_expect.specs.declared.lines.TestLine.TheVariants.{Edit as line_is_edit};
 
 use crate::found::Found;
 use crate::lines::{Expectation, Lost, TestLine};
 use crate::loss::lose;
+use crate::span::Span;
 use crate::tally::TestTally;
-use crate::words::{push_failure, push_loss, push_no_test};
+use crate::words::{push_empty_range, push_failure, push_loss, push_no_test};
 use pd_explain::{Place, is_port, push_sentence};
 use pd_port::Meter;
 use pd_run::Runner;
@@ -195,6 +196,24 @@ fn refuse(alloc: Global, at: &[u8], tally: TestTally) -> Result<TestReport, Allo
     Ok(TestReport { text, tally })
 }
 
+/// Says that no number is in a range.
+fn refuse_range(
+    alloc: Global,
+    at: &[u8],
+    span: Span,
+    tally: TestTally,
+) -> Result<TestReport, AllocError>
+    requires room { answered tally < 2 ^ 64 - 1 }
+    ensures text { IfOk result (λ report. report.text.items ≡ empty_range_line at.now span) }
+    ensures tally { IfOk result (λ report. report.tally ≡ one_refused tally) }
+    ensures room { IfOk result (λ report. answered report.tally ≤ answered tally + 1) }
+{
+    let mut text = Vec::new(alloc);
+    push_empty_range(&mut text, at, span)?;
+    let tally = tally.one_refused();
+    Ok(TestReport { text, tally })
+}
+
 /// What a line of a test script comes to.
 fn answer_line<const N: usize, T: Runner<N>>(
     alloc: Global,
@@ -216,6 +235,7 @@ fn answer_line<const N: usize, T: Runner<N>>(
             expect(alloc, run, scenario, at, line, &expectation, tally, meter)
         }
         TestLine::Lose(lost) => lose_named(alloc, run, scenario, at, &lost, tally, meter),
+        TestLine::EmptyRange(span) => refuse_range(alloc, at, span, tally),
         TestLine::NoTest => refuse(alloc, at, tally),
     }
 }

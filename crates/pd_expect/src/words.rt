@@ -3,10 +3,11 @@
 ghost use Rattle.std.specs.Prelude.{◌≡◌, ◌++◌, OnOk, decimal};
 ghost use Rattle.pd_sweep.specs.Words.{obstacle_words};
 ghost use Rattle.pd_expect.specs.Words.{contract_words, failure_line, found_words, faults_word, known_words};
-ghost use Rattle.pd_expect.specs.Words.{loss_line, loss_words, no_test_line, there_words};
+ghost use Rattle.pd_expect.specs.Words.{empty_range_line, loss_line, loss_words, no_test_line, there_words};
 
 use crate::found::Found;
 use crate::loss::LoseFault;
+use crate::span::Span;
 use itoa::Buffer;
 use pd_objects::Contract;
 use pd_sweep::push_obstacle;
@@ -130,6 +131,20 @@ pub(crate) fn push_no_test(text: &mut Vec<u8>, at: &[u8]) -> Result<(), AllocErr
     text.extend_from_slice(CONTRACT_FORMS)?;
     text.extend_from_slice(OTHER_FORMS)?;
     text.extend_from_slice(PACKET_FORMS)?;
+    Ok(())
+}
+
+/// Writes that no number is in a range.
+#[tactic(auto, unfolding(crate::specs::Words::empty_range_line))]
+pub(crate) fn push_empty_range(text: &mut Vec<u8>, at: &[u8], span: Span) -> Result<(), AllocError>
+    ensures { OnOk result (text.new.items ≡ text.old.items ++ empty_range_line at.now span) }
+{
+    text.extend_from_slice(at)?;
+    text.extend_from_slice(b"refused 20: no number is from ")?;
+    push_number(text, span.from)?;
+    text.extend_from_slice(b" to ")?;
+    push_number(text, span.to)?;
+    text.extend_from_slice(b"; hint: the lesser one comes first\n")?;
     Ok(())
 }
 
