@@ -3,10 +3,10 @@ use Rattle.std.proofs.Common.{◌≡◌, ℕ, ◌+◌, List, [], ◌∷◌, ◌+
 use Rattle.std.proofs.lemmas.List.{append-nil}
 use Rattle.std.specs.Str.Lines.{lines}
 use Rattle.pd_scenario.specs.Scenarios.{ScenarioData}
-use Rattle.pd_edit_lines.specs.Words.{next, words}
+use Rattle.pd_edit_lines.specs.Words.{next}
 use Rattle.pd_script.specs.Script.{at_line}
 use Rattle.pd_expect.specs.Tests.{Answer, IsAnswer, Tests, no_test}
-use Rattle.pd_expect.specs.Texts.{named_by, or_else, scenario_name}
+use Rattle.pd_expect.specs.Named.{named_by, or_else, scenario_name}
 use Rattle.pd_expect.specs.declared.tally.TestTally.{TestTally}
 
 next_some : (ls : List (List ℕ)) (line : List ℕ) (more : List (List ℕ)) → Some (line, more) ≡ next ls → ls ≡ line ∷ more
@@ -61,7 +61,7 @@ end_on n start name all c number tally text rest so_far is =
 
 -- ---- the scenario that a script names
 
-name_first : (line : List ℕ) (ls : List (List ℕ)) → scenario_name (line ∷ ls) ≡ or_else (named_by (words line)) (scenario_name ls)
+name_first : (line : List ℕ) (ls : List (List ℕ)) → scenario_name (line ∷ ls) ≡ or_else (named_by line) (scenario_name ls)
 unfolding scenario_name
 name_first line ls = refl
 
@@ -70,11 +70,11 @@ unfolding scenario_name
 name_none = refl
 
 pub name_found : (rest line : List ℕ) (ls : List (List ℕ)) (file : List ℕ) → Some (line, ls) ≡ next (lines rest) →
-    Some file ≡ named_by (words line) → Some file ≡ scenario_name (lines rest)
+    Some file ≡ named_by line → Some file ≡ scenario_name (lines rest)
 name_found rest line ls file is named =
     ap (λ o. or_else o (scenario_name ls)) named ∙ sym (name_first line ls) ∙ ap scenario_name (sym (next_some (lines rest) line ls is))
 
-pub name_later : (rest line : List ℕ) (ls : List (List ℕ)) → Some (line, ls) ≡ next (lines rest) → None ≡ named_by (words line) →
+pub name_later : (rest line : List ℕ) (ls : List (List ℕ)) → Some (line, ls) ≡ next (lines rest) → None ≡ named_by line →
     scenario_name (lines rest) ≡ scenario_name ls
 name_later rest line ls is named =
     ap scenario_name (next_some (lines rest) line ls is) ∙ name_first line ls ∙ ap (λ o. or_else o (scenario_name ls)) (sym named)

@@ -2,6 +2,7 @@ pub mod Details
 pub mod Laws
 pub mod Lines
 pub mod Losses
+pub mod Named
 pub mod Sentences
 pub mod Tests
 pub mod Texts

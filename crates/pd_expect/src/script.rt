@@ -6,6 +6,7 @@ ghost use Rattle.pd_explain.specs.Sentences.{sentence};
 ghost use Rattle.pd_explain.specs.declared.place.Place.TheVariants.{Port as port_place};
 ghost use Rattle.pd_script.specs.Script.{reason_line};
 ghost use Rattle.pd_expect.specs.Details.{details};
+ghost use Rattle.pd_expect.specs.Named.{script_lines};
 ghost use Rattle.pd_expect.specs.Sentences.{port_of, unknown_port};
 ghost use Rattle.pd_expect.specs.Tests.{AnswersAs, Expects, IsAnswer, Judges, Loses, Tests, answered, no_test, one_refused};
 ghost use Rattle.pd_expect.specs.Words.{empty_range_line, failure_line, no_test_line};
@@ -14,6 +15,7 @@ ghost use Rattle.pd_expect.specs.declared.lines.TestLine.TheVariants.{Edit as li
 use crate::found::Found;
 use crate::lines::{Expectation, Lost, TestLine};
 use crate::loss::lose;
+use crate::named::without_mark;
 use crate::span::Span;
 use crate::tally::TestTally;
 use crate::words::{push_empty_range, push_failure, push_loss, push_no_test};
@@ -278,4 +280,17 @@ pub fn test_lines<const N: usize, T: Runner<N>>(
         number += 1;
     }
     Ok(TestReport { text, tally })
+}
+
+/// The same for a script that may have a byte order mark before its first line.
+pub(crate) fn test_script<const N: usize, T: Runner<N>>(
+    alloc: Global,
+    run: &mut T,
+    scenario: Scenario<N>,
+    name: &[u8],
+    script: &[u8],
+) -> Result<TestReport, AllocError>
+    ensures { IfOk result (λ report. Tests N scenario.entry name.now 1 no_test (script_lines script.now) report.text.items report.tally) }
+{
+    test_lines(alloc, run, scenario, name, without_mark(script))
 }

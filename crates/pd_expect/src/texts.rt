@@ -1,19 +1,15 @@
 //! Test scripts for the scenarios of texts.
 
-ghost use Rattle.std.specs.Prelude.{◌≡◌, ◌≤◌, Ok, option_map};
-ghost use Rattle.std.specs.Str.Lines.{lines};
-ghost use Rattle.pd_edit_lines.specs.Words.{words};
+ghost use Rattle.std.specs.Prelude.{◌≡◌, ◌≤◌, Ok};
 ghost use Rattle.pd_scenario_tables.specs.Ports.{counted};
 ghost use Rattle.pd_scenario_text.specs.File.{members_of};
 ghost use Rattle.pd_run_text.specs.Texts.{ForTexts};
-ghost use Rattle.pd_expect.specs.Texts.{TestsText, named_by, scenario_name};
+ghost use Rattle.pd_expect.specs.Texts.{TestsText};
 
-use crate::script::{TestReport, test_lines};
-use pd_edit_lines::next;
+use crate::script::{TestReport, test_script};
 use pd_keep::Kept;
 use pd_run::Runner;
 use pd_scenario_text::{ScenarioFault, ScenarioFile};
-use pd_script::first_line;
 use std::alloc::Global;
 
 /// Why a test script wasn't gone through.
@@ -35,7 +31,8 @@ macro_rules! test_by {
     };
 }
 
-/// Goes through the lines of a test script, for the scenario of a text, which has 1 to 8 ports.
+/// Goes through the lines of a test script, for the scenario of a text, which has 1 to 8 ports. A byte order mark may stand before
+/// the first line.
 ///
 /// # Errors
 /// `Scenario` where the text is refused; `Memory` where there is none.
@@ -68,36 +65,8 @@ fn test_file<const N: usize>(
         Err(fault) => return Err(TestFault::Scenario(fault)),
     };
     let mut run = Kept::<N>::empty(alloc);
-    match test_lines(alloc, &mut run, scenario, name, script) {
+    match test_script(alloc, &mut run, scenario, name, script) {
         Ok(report) => Ok(report),
         Err(_) => Err(TestFault::Memory),
     }
-}
-
-/// The file that a line names, which is `# scenario FILE`.
-fn named_by(line: &[u8]) -> Option<&[u8]>
-    ensures { option_map (λ file. file.now) result ≡ named_by (words line.now) }
-{
-    let (hash, rest) = next(line)?;
-    let (word, rest) = next(rest)?;
-    let (file, rest) = next(rest)?;
-    if hash == b"#".as_slice() && word == b"scenario".as_slice() && next(rest).is_none() {
-        Some(file)
-    } else {
-        None
-    }
-}
-
-/// The file of the scenario that a test script names: that of its first line `# scenario FILE`.
-pub fn scenario_name(script: &[u8]) -> Option<&[u8]>
-    ensures { option_map (λ file. file.now) result ≡ scenario_name (lines script.now) }
-{
-    let mut rest = script;
-    while let Some((line, others)) = first_line(rest) {
-        if let Some(file) = named_by(line) {
-            return Some(file);
-        }
-        rest = others;
-    }
-    None
 }

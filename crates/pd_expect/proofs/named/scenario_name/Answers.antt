@@ -1,6 +1,6 @@
 use Rattle.std.proofs.Common.{◌∙◌, sym}
 use Rattle.pd_expect.proofs.LineLemmas.{name_found, name_later, name_nowhere}
-use Rattle.pd_expect.proofs.texts.scenario_name.Goals as goal
+use Rattle.pd_expect.proofs.named.scenario_name.Goals as goal
 
 pub returns-in-Some-named_by : goal.returns-in-Some-named_by
 returns-in-Some-named_by c =
