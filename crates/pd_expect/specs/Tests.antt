@@ -84,7 +84,7 @@ AnswersAs n c at line tally (line_is.Lose lost) answer = Loses n c at tally lost
 AnswersAs n c at line tally (line_is.EmptyRange span) answer =
     answer ≡ record { said = empty_range_line at span; tally = one_refused tally; after = c }
 AnswersAs n c at line tally line_is.NoTest answer =
-    answer ≡ record { said = no_test_line at; tally = one_refused tally; after = c }
+    answer ≡ record { said = no_test_line at line; tally = one_refused tally; after = c }
 
 -- what a line of a script comes to, of the scenario as edited by then
 abbrev pub IsAnswer : ℕ → ScenarioData → List ℕ → List ℕ → TestTally → Answer → Type 0

@@ -1,7 +1,8 @@
 -- What is said of a line of a test script: this product's own form, docs/FORMATS.md, "Tests".
-use Rattle.std.specs.Prelude.{ℕ, zero, suc, ◌==◌, if◌then◌else◌, List, [], ◌∷◌, ◌++◌, codes, decimal, Option, Some, None}
+use Rattle.std.specs.Prelude.{ℕ, zero, suc, ◌==◌, if◌then◌else◌, List, [], ◌∷◌, ◌++◌, codes, decimal, bytes_eq, Option, Some, None}
 use Rattle.pd_objects.specs.declared.contract.Contract.{Contract}
 use Rattle.pd_tell.specs.Members.{number_member}
+use Rattle.pd_edit_lines.specs.Words.{next, words}
 use Rattle.pd_sweep.specs.Words.{obstacle_words}
 use Rattle.pd_expect.specs.declared.found.Found.{Found}
 use Rattle.pd_expect.specs.declared.found.Found.TheVariants as found
@@ -39,19 +40,29 @@ unfoldable pub failure_line : List ℕ → List ℕ → Found → List ℕ → L
 failure_line at line what details =
     at ++ (codes "failed: " ++ (line ++ (there_words what ++ (found_words what ++ (details ++ 10 ∷ [])))))
 
--- what may stand behind `expect`
-abbrev pub contract_forms : List ℕ
-contract_forms = codes "`expect contract PORT at TIME [voltage RANGE] [current RANGE]`, `expect no contract PORT at TIME`, "
+-- the form of a line, by the word behind `expect`
+abbrev pub form_named : List ℕ → List ℕ
+form_named word =
+    if bytes_eq word (codes "contract") then codes "`expect contract PORT at TIME [voltage RANGE] [current RANGE]`"
+    else if bytes_eq word (codes "no") then codes "`expect no contract PORT at TIME`"
+    else if bytes_eq word (codes "margin") then codes "`expect margin at_least MICROWATTS`"
+    else if bytes_eq word (codes "faults") then codes "`expect faults none`"
+    else if bytes_eq word (codes "fault") then codes "`expect fault PORT \"WORDS\"`"
+    else if bytes_eq word (codes "packet") then codes "`expect packet PORT SIDE NAME between FROM TO`"
+    else codes "contract, no contract, margin, faults, fault or packet behind `expect`"
 
-abbrev pub other_forms : List ℕ
-other_forms = codes "`expect margin at_least MICROWATTS`, `expect faults none`, `expect fault PORT \"WORDS\"`, "
+abbrev pub form_behind : Option (List ℕ × List (List ℕ)) → List ℕ
+form_behind None = form_named []
+form_behind (Some second) = form_named second.0
 
-abbrev pub packet_forms : List ℕ
-packet_forms = codes "`expect packet PORT SIDE NAME between FROM TO` or `lose NTH NAME of port PORT`\n"
+abbrev pub form_of : Option (List ℕ × List (List ℕ)) → List ℕ
+form_of None = form_named []
+form_of (Some first) =
+    if bytes_eq first.0 (codes "lose") then codes "`lose NTH NAME of port PORT`" else form_behind (next first.1)
 
 -- a line that begins as one of a test, and is none
-unfoldable pub no_test_line : List ℕ → List ℕ
-no_test_line at = at ++ (codes "refused 20: expected " ++ (contract_forms ++ (other_forms ++ packet_forms)))
+unfoldable pub no_test_line : List ℕ → List ℕ → List ℕ
+no_test_line at line = at ++ (codes "refused 20: expected " ++ (form_of (next (words line)) ++ 10 ∷ []))
 
 -- a range in which no number is
 unfoldable pub empty_range_line : List ℕ → Span → List ℕ

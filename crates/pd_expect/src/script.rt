@@ -186,14 +186,14 @@ fn lose_named<const N: usize, T: Runner<N>>(
 }
 
 /// Says that a line is none of a test script.
-fn refuse(alloc: Global, at: &[u8], tally: TestTally) -> Result<TestReport, AllocError>
+fn refuse(alloc: Global, at: &[u8], line: &[u8], tally: TestTally) -> Result<TestReport, AllocError>
     requires room { answered tally < 2 ^ 64 - 1 }
-    ensures text { IfOk result (λ report. report.text.items ≡ no_test_line at.now) }
+    ensures text { IfOk result (λ report. report.text.items ≡ no_test_line at.now line.now) }
     ensures tally { IfOk result (λ report. report.tally ≡ one_refused tally) }
     ensures room { IfOk result (λ report. answered report.tally ≤ answered tally + 1) }
 {
     let mut text = Vec::new(alloc);
-    push_no_test(&mut text, at)?;
+    push_no_test(&mut text, at, line)?;
     let tally = tally.one_refused();
     Ok(TestReport { text, tally })
 }
@@ -238,7 +238,7 @@ fn answer_line<const N: usize, T: Runner<N>>(
         }
         TestLine::Lose(lost) => lose_named(alloc, run, scenario, at, &lost, tally, meter),
         TestLine::EmptyRange(span) => refuse_range(alloc, at, span, tally),
-        TestLine::NoTest => refuse(alloc, at, tally),
+        TestLine::NoTest => refuse(alloc, at, line, tally),
     }
 }
 

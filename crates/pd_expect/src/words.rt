@@ -1,30 +1,20 @@
 //! What is said of a line of a test script.
 
 ghost use Rattle.std.specs.Prelude.{◌≡◌, ◌++◌, OnOk, decimal};
+ghost use Rattle.pd_edit_lines.specs.Words.{next, words};
 ghost use Rattle.pd_sweep.specs.Words.{obstacle_words};
 ghost use Rattle.pd_expect.specs.Words.{contract_words, failure_line, found_words, faults_word, known_words};
-ghost use Rattle.pd_expect.specs.Words.{empty_range_line, loss_line, loss_words, no_test_line, there_words};
+ghost use Rattle.pd_expect.specs.Words.{empty_range_line, form_behind, form_named, form_of, loss_line, loss_words, no_test_line, there_words};
 
 use crate::found::Found;
 use crate::loss::LoseFault;
 use crate::span::Span;
 use itoa::Buffer;
+use pd_edit_lines::next;
 use pd_objects::Contract;
 use pd_sweep::push_obstacle;
 use pd_tell::push_number;
 use std::alloc::AllocError;
-
-/// What may stand behind `expect`, of contracts.
-const CONTRACT_FORMS: &[u8] =
-    b"`expect contract PORT at TIME [voltage RANGE] [current RANGE]`, `expect no contract PORT at TIME`, ";
-
-/// What else may stand there.
-const OTHER_FORMS: &[u8] =
-    b"`expect margin at_least MICROWATTS`, `expect faults none`, `expect fault PORT \"WORDS\"`, ";
-
-/// What may stand there of packets, and behind `lose`.
-const PACKET_FORMS: &[u8] =
-    b"`expect packet PORT SIDE NAME between FROM TO` or `lose NTH NAME of port PORT`\n";
 
 /// Writes a contract by its position, its voltage in millivolts and its current in milliamperes.
 fn push_known(text: &mut Vec<u8>, position: u64, mv: u64, ma: u64) -> Result<(), AllocError>
@@ -121,16 +111,61 @@ pub(crate) fn push_failure(
     Ok(())
 }
 
-/// Writes what may stand where a line is none of a test script.
+/// The form of a line, by the word behind `expect`.
+fn form_named(word: &[u8]) -> &'static [u8]
+    ensures { result.now ≡ form_named word.now }
+{
+    if word == b"contract".as_slice() {
+        return b"`expect contract PORT at TIME [voltage RANGE] [current RANGE]`";
+    }
+    if word == b"no".as_slice() {
+        return b"`expect no contract PORT at TIME`";
+    }
+    if word == b"margin".as_slice() {
+        return b"`expect margin at_least MICROWATTS`";
+    }
+    if word == b"faults".as_slice() {
+        return b"`expect faults none`";
+    }
+    if word == b"fault".as_slice() {
+        return b"`expect fault PORT \"WORDS\"`";
+    }
+    if word == b"packet".as_slice() {
+        return b"`expect packet PORT SIDE NAME between FROM TO`";
+    }
+    b"contract, no contract, margin, faults, fault or packet behind `expect`"
+}
+
+/// The form of a line, by what stands behind `expect`.
+fn form_behind(rest: &[u8]) -> &'static [u8]
+    ensures { result.now ≡ form_behind (next (words rest.now)) }
+{
+    match next(rest) {
+        None => form_named(b""),
+        Some((word, _)) => form_named(word),
+    }
+}
+
+/// The form of a line, by its first two words.
+fn form_of(line: &[u8]) -> &'static [u8]
+    ensures { result.now ≡ form_of (next (words line.now)) }
+{
+    match next(line) {
+        None => form_named(b""),
+        Some((word, _)) if word == b"lose".as_slice() => b"`lose NTH NAME of port PORT`",
+        Some((_, rest)) => form_behind(rest),
+    }
+}
+
+/// Writes the form that a line should have, where it is none of a test script.
 #[tactic(auto, unfolding(crate::specs::Words::no_test_line))]
-pub(crate) fn push_no_test(text: &mut Vec<u8>, at: &[u8]) -> Result<(), AllocError>
-    ensures { OnOk result (text.new.items ≡ text.old.items ++ no_test_line at.now) }
+pub(crate) fn push_no_test(text: &mut Vec<u8>, at: &[u8], line: &[u8]) -> Result<(), AllocError>
+    ensures { OnOk result (text.new.items ≡ text.old.items ++ no_test_line at.now line.now) }
 {
     text.extend_from_slice(at)?;
     text.extend_from_slice(b"refused 20: expected ")?;
-    text.extend_from_slice(CONTRACT_FORMS)?;
-    text.extend_from_slice(OTHER_FORMS)?;
-    text.extend_from_slice(PACKET_FORMS)?;
+    text.extend_from_slice(form_of(line))?;
+    text.push(b'\n')?;
     Ok(())
 }
 
