@@ -195,7 +195,8 @@ pub const TEST_HELP: &str = "pdlab test: whether runs are as scripts expect them
 usage: pdlab test [--json] SCRIPT..
 
 Goes through the file SCRIPT, whose line `# scenario FILE` names the scenario, a file
-beside it; one SCRIPT may be -, standard input, with the file in this folder. Its other lines are those of an edit script, and beside them
+beside it; one SCRIPT may be -, standard input, with the file in this folder. Its other
+lines are those of an edit script, and beside them
 
   expect contract PORT at TIME [voltage RANGE] [current RANGE]
   expect no contract PORT at TIME
