@@ -1,5 +1,6 @@
 -- A packet that is lost by its name.
-use Rattle.std.specs.Prelude.{◌≡◌, ℕ, zero, suc, Bool, List, slice_get, if◌then◌else◌, MatchBool, Option, Some, None, Result, Ok, Err}
+use Rattle.std.specs.Prelude.{◌≡◌, ℕ, zero, suc, Bool, List, length, slice_get, if◌then◌else◌, MatchBool}
+use Rattle.std.specs.Prelude.{Option, Some, None, Result, Ok, Err}
 use Rattle.pd_port.specs.declared.entry.Entry.{Entry}
 use Rattle.pd_run.specs.Shown.{Shows}
 use Rattle.pd_scenario.specs.Plans.{plan_of}
@@ -35,12 +36,14 @@ LosesIn (Ok after) target outcome =
     (moves : List (ℕ × Entry)) × Shows (plan_of after) moves
     × (outcome ≡ (if is_hit target moves then Ok after else Err fault.Missed))
 
-abbrev pub LosesPacket : ℕ → ScenarioData → Option Target → Result ScenarioData LoseFault → Type 0
-LosesPacket n c None outcome = outcome ≡ Err fault.NoPacket
-LosesPacket n c (Some target) outcome =
+-- there are so many packets of the kind on the port
+abbrev pub LosesPacket : ℕ → ScenarioData → ℕ → Option Target → Result ScenarioData LoseFault → Type 0
+LosesPacket n c count None outcome = outcome ≡ Err (fault.NoPacket count)
+LosesPacket n c count (Some target) outcome =
     MatchBool target.disturbed (outcome ≡ Err fault.Disturbed) (LosesIn (variant n c harm.Lost target) target outcome)
 
 -- The scenario with the event that loses the packet that is named in its run, or why there is none.
 abbrev pub IsLoss : ℕ → ScenarioData → Lost → Result ScenarioData LoseFault → Type 0
 IsLoss n c lost outcome =
-    (moves : List (ℕ × Entry)) × Shows (plan_of c) moves × LosesPacket n c (lost_packet lost moves) outcome
+    (moves : List (ℕ × Entry)) × Shows (plan_of c) moves
+    × LosesPacket n c (length (chosen (choice_of lost) moves)) (lost_packet lost moves) outcome

@@ -70,9 +70,19 @@ empty_range_line at span =
     at ++ (codes "refused 20: no number is from " ++ (decimal span.from ++ (codes " to " ++ (decimal span.to
     ++ codes "; hint: the lesser one comes first\n"))))
 
+-- the numbers that packets of the kind have, where there are any
+unfoldable pub numbers_words : ℕ → List ℕ
+numbers_words count = codes "; they are numbered from 1 to " ++ decimal count
+
+abbrev pub numbered_words : ℕ → List ℕ
+numbered_words count = if count == 0 then [] else numbers_words count
+
+unfoldable pub no_packet_words : ℕ → List ℕ
+no_packet_words count = codes "not lost: there is no such packet" ++ (numbered_words count ++ 10 ∷ [])
+
 -- why a packet isn't lost
 abbrev pub loss_words : LoseFault → List ℕ
-loss_words fault.NoPacket = codes "not lost: there is no such packet\n"
+loss_words (fault.NoPacket count) = no_packet_words count
 loss_words fault.Disturbed = codes "not lost: the scenario disturbs that packet already\n"
 loss_words fault.Missed = codes "not lost: the event doesn't hit that packet\n"
 loss_words (fault.Barred obstacle) = obstacle_words obstacle ++ codes "\n"

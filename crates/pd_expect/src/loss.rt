@@ -18,8 +18,8 @@ use std::alloc::Global;
 /// Why a packet isn't lost.
 #[derive(Clone, Copy, Debug, PartialEq, Eq)]
 pub enum LoseFault {
-    /// There is no such packet in the run.
-    NoPacket,
+    /// There is no such packet in the run, but so many of the kind on the port.
+    NoPacket { count: u64 },
     /// The scenario disturbs the packet already.
     Disturbed,
     /// The event doesn't hit the packet.
@@ -98,7 +98,8 @@ pub fn lose<const N: usize, T: Runner<N>>(
         return Err(BenchFault::Memory);
     };
     let Some(target) = nth_of(lost.nth, targets.as_slice()) else {
-        return Ok(Err(LoseFault::NoPacket));
+        let count = targets.len() as u64;
+        return Ok(Err(LoseFault::NoPacket { count }));
     };
     if target.disturbed {
         return Ok(Err(LoseFault::Disturbed));

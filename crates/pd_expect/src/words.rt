@@ -4,7 +4,8 @@ ghost use Rattle.std.specs.Prelude.{◌≡◌, ◌++◌, OnOk, decimal};
 ghost use Rattle.pd_edit_lines.specs.Words.{next, words};
 ghost use Rattle.pd_sweep.specs.Words.{obstacle_words};
 ghost use Rattle.pd_expect.specs.Words.{contract_words, failure_line, found_words, faults_word, known_words};
-ghost use Rattle.pd_expect.specs.Words.{empty_range_line, form_behind, form_named, form_of, loss_line, loss_words, no_test_line, there_words};
+ghost use Rattle.pd_expect.specs.Words.{empty_range_line, form_behind, form_named, form_of, loss_line, loss_words, there_words};
+ghost use Rattle.pd_expect.specs.Words.{no_packet_words, no_test_line, numbered_words, numbers_words};
 
 use crate::found::Found;
 use crate::loss::LoseFault;
@@ -183,12 +184,44 @@ pub(crate) fn push_empty_range(text: &mut Vec<u8>, at: &[u8], span: Span) -> Res
     Ok(())
 }
 
+/// Writes the numbers that packets have.
+#[tactic(auto, unfolding(crate::specs::Words::numbers_words))]
+fn push_numbers(text: &mut Vec<u8>, count: u64) -> Result<(), AllocError>
+    ensures { OnOk result (text.new.items ≡ text.old.items ++ numbers_words count) }
+{
+    text.extend_from_slice(b"; they are numbered from 1 to ")?;
+    push_number(text, count)?;
+    Ok(())
+}
+
+/// Writes the same, where there are any.
+fn push_numbered(text: &mut Vec<u8>, count: u64) -> Result<(), AllocError>
+    ensures { OnOk result (text.new.items ≡ text.old.items ++ numbered_words count) }
+{
+    if count == 0 {
+        Ok(())
+    } else {
+        push_numbers(text, count)
+    }
+}
+
+/// Writes that there is no such packet, and which there are.
+#[tactic(auto, unfolding(crate::specs::Words::no_packet_words))]
+fn push_no_packet(text: &mut Vec<u8>, count: u64) -> Result<(), AllocError>
+    ensures { OnOk result (text.new.items ≡ text.old.items ++ no_packet_words count) }
+{
+    text.extend_from_slice(b"not lost: there is no such packet")?;
+    push_numbered(text, count)?;
+    text.push(b'\n')?;
+    Ok(())
+}
+
 /// Writes why a packet isn't lost.
 fn push_fault(text: &mut Vec<u8>, fault: &LoseFault) -> Result<(), AllocError>
     ensures { OnOk result (text.new.items ≡ text.old.items ++ loss_words fault.now) }
 {
     match fault {
-        LoseFault::NoPacket => text.extend_from_slice(b"not lost: there is no such packet\n"),
+        LoseFault::NoPacket { count } => push_no_packet(text, *count),
         LoseFault::Disturbed => {
             text.extend_from_slice(b"not lost: the scenario disturbs that packet already\n")
         }
