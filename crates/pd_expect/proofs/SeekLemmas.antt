@@ -1,5 +1,5 @@
 -- Looking for an entry that passes a test.
-use Rattle.std.proofs.Common.{◌≡◌, ℕ, ◌<◌, List, [], ◌∷◌, length, take, drop, Option, Some, None, Bool, true, false, refl, sym, ap, ◌∙◌}
+use Rattle.std.proofs.Common.{◌≡◌, ℕ, List, [], ◌∷◌, take, drop, Option, Some, None, Bool, true, false, refl, sym, ap, ◌∙◌}
 use Rattle.std.specs.Prelude.{◌||◌, MatchOption, fold, slice_get}
 use Rattle.std.specs.List.{list_any}
 use Rattle.std.proofs.lemmas.List.{take-append-drop}

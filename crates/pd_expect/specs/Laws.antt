@@ -1,5 +1,5 @@
 -- What holds of expectations.
-use Rattle.std.specs.Prelude.{◌≡◌, ℕ, ◌<◌, ◌≤◌, List, MatchBool}
+use Rattle.std.specs.Prelude.{ℕ, ◌<◌, ◌≤◌, List, MatchBool}
 use Rattle.pd_port.specs.declared.entry.Entry.{Entry}
 use Rattle.pd_scenario.specs.Plan.{Plan}
 use Rattle.pd_report.specs.LeastMargin.{margin_at}

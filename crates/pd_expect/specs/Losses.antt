@@ -1,5 +1,5 @@
 -- A packet that is lost by its name.
-use Rattle.std.specs.Prelude.{◌≡◌, ℕ, zero, suc, Bool, List, length, slice_get, if◌then◌else◌, MatchBool}
+use Rattle.std.specs.Prelude.{◌≡◌, ℕ, zero, suc, List, length, slice_get, if◌then◌else◌, MatchBool}
 use Rattle.std.specs.Prelude.{Option, Some, None, Result, Ok, Err}
 use Rattle.pd_port.specs.declared.entry.Entry.{Entry}
 use Rattle.pd_run.specs.Shown.{Shows}

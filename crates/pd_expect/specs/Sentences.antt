@@ -6,7 +6,6 @@ use Rattle.pd_header.specs.declared.side.Side.{Side}
 use Rattle.pd_header.specs.Kinds.{kind_of_header, name_of}
 use Rattle.pd_tell.specs.Words.{side_words}
 use Rattle.pd_objects.specs.declared.contract.Contract.{Contract}
-use Rattle.pd_line.specs.declared.notes.Fault.{Fault}
 use Rattle.pd_line.specs.declared.notes.Start.{Start}
 use Rattle.pd_line.specs.declared.notes.Start.TheVariants as start
 use Rattle.pd_port.specs.declared.entry.ContractChange.{ContractChange}

@@ -1,4 +1,4 @@
-use Rattle.std.proofs.Common.{◌≡◌, ◌++◌, ◌∙◌, List, ℕ, ap, arith}
+use Rattle.std.proofs.Common.{◌++◌, ◌∙◌, List, ℕ, ap, arith}
 use Rattle.std.specs.Str.Lines.{lines}
 use Rattle.pd_expect.specs.Tests.{Answer}
 use Rattle.pd_expect.proofs.LineLemmas.{line_on, end_on}
