@@ -1,3 +1,4 @@
 pub mod PageLemmas
 pub mod SeenLemmas
 pub mod ShowLemmas
+pub mod SinceLemmas

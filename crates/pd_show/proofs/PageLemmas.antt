@@ -45,7 +45,7 @@ written-append f p xs ys =
 -- the lines of a move, part after part
 pub written_parts : (k : Form) (p p1 p2 p3 p4 p5 p6 p7 : PageData) (a b c d e f g : List Line) → p1 ≡ written k p a →
     p2 ≡ written k p1 b → p3 ≡ written k p2 c → p4 ≡ written k p3 d → p5 ≡ written k p4 e → p6 ≡ written k p5 f →
-    p7 ≡ written k p6 g → p7 ≡ written k p (a ++ (b ++ (c ++ (d ++ (e ++ (f ++ g))))))
+    p7 ≡ written k p6 g → p7 ≡ written k p ((a ++ (b ++ (c ++ (d ++ e)))) ++ (f ++ g))
 written_parts k p p1 p2 p3 p4 p5 p6 p7 a b c d e f g h1 h2 h3 h4 h5 h6 h7 =
     rw (h7, h6, h5, h4, h3, h2, h1) (simp written-append)
 

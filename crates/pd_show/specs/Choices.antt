@@ -6,6 +6,11 @@ use Rattle.pd_header.specs.declared.kind.Kind.TheVariants.{GoodCrc}
 use Rattle.pd_line.specs.declared.notes.Start.{Start}
 use Rattle.pd_line.specs.declared.notes.Start.TheVariants as start
 use Rattle.pd_show.specs.declared.choice.Choice.{Choice}
+use Rattle.pd_show.specs.declared.choice.Form.TheVariants.{Words}
+
+-- all there is to show, as words: every port and time, GoodCRC messages too, and no codes
+abbrev pub whole : Choice
+whole = record { port = None; from = 0; to = 18446744073709551615; good_crc = true; codes = false; form = Words }
 
 -- the port is the one that is chosen, or all are
 abbrev pub is_of_port : Option ℕ → ℕ → Bool

@@ -3,3 +3,4 @@ pub mod Lines
 pub mod Pages
 pub mod Seen
 pub mod Show
+pub mod Since

@@ -93,11 +93,15 @@ state_lines seen =
     else line_of seen (codes "state") (state_words seen.after.source seen.after.sink) (state_members seen.after.source seen.after.sink)
     ∷ []
 
+-- what a move says before what starts on the line
+unfoldable pub lines_before : Seen → List Line
+lines_before seen =
+    event_lines seen seen.entry.due.what ++ (map (fault_line seen) seen.entry.faults.items ++ (asked_lines seen seen.entry.query
+    ++ (change_lines seen seen.entry.contract ++ hold_lines seen)))
+
 -- all that a move says
 unfoldable pub all_lines : Choice → Seen → List Line
-all_lines choice seen =
-    event_lines seen seen.entry.due.what ++ (map (fault_line seen) seen.entry.faults.items ++ (asked_lines seen seen.entry.query
-    ++ (change_lines seen seen.entry.contract ++ (hold_lines seen ++ (start_lines choice seen seen.entry.start ++ state_lines seen)))))
+all_lines choice seen = lines_before seen ++ (start_lines choice seen seen.entry.start ++ state_lines seen)
 
 -- what is shown of a move
 unfoldable pub chosen_lines : Choice → Seen → List Line

@@ -18,10 +18,12 @@ head Csv = codes "at_us,since_us,port,kind,text\n"
 abbrev pub more_text : ℕ → List ℕ
 more_text n = replicate (8 - length (decimal n)) 32 ++ (43 ∷ decimal n)
 
--- its time right in nine places, the time since the line before, the port and the words
-unfoldable pub words_line : ℕ → ℕ → ℕ → List ℕ → List ℕ
-words_line at since port words =
-    right at ++ (32 ∷ (more_text since ++ (codes " port " ++ (decimal port ++ (32 ∷ (words ++ codes "\n"))))))
+-- its time right in nine places, the time since the line before, the port and the words; without the line feed
+unfoldable pub bare_line : ℕ → ℕ → ℕ → List ℕ → List ℕ
+bare_line at since port words = right at ++ (32 ∷ (more_text since ++ (codes " port " ++ (decimal port ++ (32 ∷ words)))))
+
+abbrev pub words_line : ℕ → ℕ → ℕ → List ℕ → List ℕ
+words_line at since port words = bare_line at since port words ++ codes "\n"
 
 -- an object: its time, the time since the line before, the port, the kind, and the members of that kind
 unfoldable pub json_line : ℕ → ℕ → ℕ → List ℕ → List ℕ → List ℕ

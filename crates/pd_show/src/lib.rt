@@ -7,11 +7,14 @@ mod faults;
 mod lines;
 mod page;
 mod seen;
+mod since;
 mod told;
 mod walk;
 
 pub use choice::{Choice, Form};
 pub use faults::push_fault;
+pub use page::push_bare_line;
 pub use seen::{Glance, Seen, step_seen};
+pub use since::{start_since, told_at};
 pub use told::push_change;
 pub use walk::show;

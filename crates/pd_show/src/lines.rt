@@ -157,7 +157,7 @@ fn push_start_line(
 }
 
 /// Whether both states have the names that they had.
-fn has_same_states(before: &Glance, after: &Glance) -> bool
+pub(crate) fn has_same_states(before: &Glance, after: &Glance) -> bool
     ensures { result ≡ has_same_states before.now after.now }
 {
     source_name(before.source).as_bytes() == source_name(after.source).as_bytes()

@@ -5,7 +5,7 @@ ghost use Rattle.std.specs.List.{flat_map};
 ghost use Rattle.pd_device.specs.Device.{CountsFailure, WrotePart};
 ghost use Rattle.pd_device.specs.Text.{right};
 ghost use Rattle.pd_device.specs.declared.fault.BenchFault.TheVariants.{WriteFailed as write_failed};
-ghost use Rattle.pd_show.specs.Pages.{csv_line, framed, head, json_line, more_text, twice, value, words_line};
+ghost use Rattle.pd_show.specs.Pages.{bare_line, csv_line, framed, head, json_line, more_text, twice, value, words_line};
 ghost use Rattle.pd_show.specs.Show.{Passed};
 
 use crate::Form;
@@ -126,8 +126,31 @@ fn push_more(text: &mut Vec<u8>, number: u64) -> Result<(), AllocError>
     Ok(())
 }
 
+/// Writes a line of words without its line feed: its time, the time since the line before, the port and the words.
+///
+/// # Errors
+/// There is no memory for it; some of it may stand in the text.
+#[tactic(auto, unfolding(crate::specs::Pages::bare_line))]
+pub fn push_bare_line(
+    text: &mut Vec<u8>,
+    at: u64,
+    since: u64,
+    port: usize,
+    words: &[u8],
+) -> Result<(), AllocError>
+    ensures { OnOk result (text.new.items ≡ text.old.items ++ bare_line at since port words.now) }
+{
+    push_right(text, at)?;
+    text.push(b' ')?;
+    push_more(text, since)?;
+    text.extend_from_slice(b" port ")?;
+    push_number(text, port as u64)?;
+    text.push(b' ')?;
+    text.extend_from_slice(words)?;
+    Ok(())
+}
+
 /// Writes a line of words.
-#[tactic(auto, unfolding(crate::specs::Pages::words_line))]
 fn push_words_line(
     text: &mut Vec<u8>,
     at: u64,
@@ -137,13 +160,7 @@ fn push_words_line(
 ) -> Result<(), AllocError>
     ensures { OnOk result (text.new.items ≡ text.old.items ++ words_line at since port words.now) }
 {
-    push_right(text, at)?;
-    text.push(b' ')?;
-    push_more(text, since)?;
-    text.extend_from_slice(b" port ")?;
-    push_number(text, port as u64)?;
-    text.push(b' ')?;
-    text.extend_from_slice(words)?;
+    push_bare_line(text, at, since, port, words)?;
     text.push(b'\n')?;
     Ok(())
 }

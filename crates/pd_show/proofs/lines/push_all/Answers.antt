@@ -1,13 +1,13 @@
 use Rattle.std.proofs.Common.{◌∙◌, List, ap, map}
 use Rattle.std.proofs.lemmas.Result.{on_ok_weaker}
 use Rattle.pd_line.specs.declared.notes.Fault.{Fault}
-use Rattle.pd_show.specs.Lines.{all_lines, fault_line}
+use Rattle.pd_show.specs.Lines.{all_lines, fault_line, lines_before}
 use Rattle.pd_show.specs.Pages.{written}
 use Rattle.pd_show.proofs.PageLemmas.{written_parts}
 use Rattle.pd_show.proofs.lines.push_all.Goals as goal
 
 pub returns : goal.returns
-unfolding all_lines
+unfolding all_lines lines_before
 returns c =
     on_ok_weaker c.push_state_line.result
     (λ h. written_parts _ _ _ _ _ _ _ _ _ _ _ _ _ _ _ _ c.in_ok-push_event_line.ensures
