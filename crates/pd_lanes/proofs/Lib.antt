@@ -1,3 +1,4 @@
 pub mod MarkLemmas
 pub mod PictureLemmas
+pub mod TitleLemmas
 pub mod WalkLemmas

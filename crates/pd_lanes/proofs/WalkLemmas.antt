@@ -11,6 +11,7 @@ use Rattle.pd_run.specs.Live.{next_move}
 use Rattle.pd_watch.specs.Watch.{WatchData}
 use Rattle.pd_show.specs.declared.seen.Seen.{Seen}
 use Rattle.pd_show.specs.Seen.{seen_of}
+use Rattle.pd_show.specs.Since.{told_at}
 use Rattle.pd_draw.specs.declared.frame.Frame.{Frame}
 use Rattle.pd_draw.specs.Curves.{CurvesData, curves_after, curves_of, curves_start}
 use Rattle.pd_lanes.specs.declared.lane.Lane.{Lane}
@@ -44,25 +45,37 @@ curves_more f plan seens s seen c c' h e g =
 
 drawn_push : (f : Frame) (chosen : Option ℕ) (seens : List Seen) (s : Seen)
     → drawn_of f chosen (seens ++ s ∷ []) ≡ drawn_after f chosen (drawn_of f chosen seens) s
-drawn_push f chosen seens s = fold-append (drawn_after f chosen) (record { lanes = lanes_start f; elements = [] }) seens (s ∷ [])
+drawn_push f chosen seens s =
+    fold-append (drawn_after f chosen) (record { lanes = lanes_start f; before = 0; elements = [] }) seens (s ∷ [])
+
+-- the time of the last line after one more move
+pub before_more : (f : Frame) (chosen : Option ℕ) (seens : List Seen) (s seen : Seen) (b b' : ℕ) →
+    b ≡ (drawn_of f chosen seens).before → seen ≡ s → b' ≡ told_at b seen → b' ≡ (drawn_of f chosen (seens ++ s ∷ [])).before
+before_more f chosen seens s seen b b' h e g =
+    g ∙ ap (λ (v : ℕ). told_at v seen) h ∙ ap (told_at (drawn_of f chosen seens).before) e
+    ∙ sym (ap (λ (d : Drawn). d.before) (drawn_push f chosen seens s))
 
 -- the lanes after one more move
-pub lanes_more : (f : Frame) (chosen : Option ℕ) (seens : List Seen) (s seen : Seen) (ls ls' : List Lane) →
-    ls ≡ (drawn_of f chosen seens).lanes → seen ≡ s → ls' ≡ lanes_after f chosen ls seen →
-    ls' ≡ (drawn_of f chosen (seens ++ s ∷ [])).lanes
-lanes_more f chosen seens s seen ls ls' h e g =
-    g ∙ ap (λ (v : List Lane). lanes_after f chosen v seen) h ∙ ap (lanes_after f chosen (drawn_of f chosen seens).lanes) e
-    ∙ sym (ap (λ (d : Drawn). d.lanes) (drawn_push f chosen seens s))
+pub lanes_more : (f : Frame) (chosen : Option ℕ) (seens : List Seen) (s seen : Seen) (b : ℕ) (ls ls' : List Lane) →
+    b ≡ (drawn_of f chosen seens).before → ls ≡ (drawn_of f chosen seens).lanes → seen ≡ s →
+    ls' ≡ lanes_after f chosen b ls seen → ls' ≡ (drawn_of f chosen (seens ++ s ∷ [])).lanes
+lanes_more f chosen seens s seen b ls ls' k h e g =
+    let d : Drawn = drawn_of f chosen seens in
+    g ∙ ap (λ (v : ℕ). lanes_after f chosen v ls seen) k ∙ ap (λ (v : List Lane). lanes_after f chosen d.before v seen) h
+    ∙ ap (lanes_after f chosen d.before d.lanes) e ∙ sym (ap (λ (v : Drawn). v.lanes) (drawn_push f chosen seens s))
 
 -- what they have drawn then
-pub text_more : (f : Frame) (chosen : Option ℕ) (seens : List Seen) (s seen : Seen) (ls : List Lane) (t t' : List ℕ) →
-    ls ≡ (drawn_of f chosen seens).lanes → t ≡ flat_map element_text (drawn_of f chosen seens).elements → seen ≡ s →
-    t' ≡ t ++ flat_map element_text (seen_elements f chosen ls seen) →
+pub text_more : (f : Frame) (chosen : Option ℕ) (seens : List Seen) (s seen : Seen) (b : ℕ) (ls : List Lane) (t t' : List ℕ) →
+    b ≡ (drawn_of f chosen seens).before → ls ≡ (drawn_of f chosen seens).lanes →
+    t ≡ flat_map element_text (drawn_of f chosen seens).elements → seen ≡ s →
+    t' ≡ t ++ flat_map element_text (seen_elements f chosen b ls seen) →
     t' ≡ flat_map element_text (drawn_of f chosen (seens ++ s ∷ [])).elements
-text_more f chosen seens s seen ls t t' h k e g =
+text_more f chosen seens s seen b ls t t' l h k e g =
     let d : Drawn = drawn_of f chosen seens in
-    g ∙ ap (λ (v : List ℕ). v ++ flat_map element_text (seen_elements f chosen ls seen)) k
-    ∙ ap (λ (v : List Lane). flat_map element_text d.elements ++ flat_map element_text (seen_elements f chosen v seen)) h
-    ∙ ap (λ (v : Seen). flat_map element_text d.elements ++ flat_map element_text (seen_elements f chosen d.lanes v)) e
-    ∙ sym (flat_map-append element_text d.elements (seen_elements f chosen d.lanes s))
+    let so_far : List ℕ = flat_map element_text d.elements in
+    g ∙ ap (λ (v : List ℕ). v ++ flat_map element_text (seen_elements f chosen b ls seen)) k
+    ∙ ap (λ (v : ℕ). so_far ++ flat_map element_text (seen_elements f chosen v ls seen)) l
+    ∙ ap (λ (v : List Lane). so_far ++ flat_map element_text (seen_elements f chosen d.before v seen)) h
+    ∙ ap (λ (v : Seen). so_far ++ flat_map element_text (seen_elements f chosen d.before d.lanes v)) e
+    ∙ sym (flat_map-append element_text d.elements (seen_elements f chosen d.before d.lanes s))
     ∙ sym (ap (λ (v : Drawn). flat_map element_text v.elements) (drawn_push f chosen seens s))

@@ -5,6 +5,7 @@ use Rattle.std.specs.List.{fold}
 use Rattle.pd_svg.specs.Elements.{Element}
 use Rattle.pd_show.specs.declared.seen.Seen.{Seen}
 use Rattle.pd_show.specs.Choices.{is_of_port}
+use Rattle.pd_show.specs.Since.{start_since, told_at}
 use Rattle.pd_draw.specs.declared.frame.Frame.{Frame}
 use Rattle.pd_draw.specs.Chart.{ports_up}
 use Rattle.pd_lanes.specs.declared.lane.Lane.{Lane}
@@ -14,9 +15,10 @@ use Rattle.pd_lanes.specs.Bands.{band_elements, lane_in, phase_of, turn_elements
 use Rattle.pd_lanes.specs.Marks.{Mark, lane_marked, marks_elements, marks_of}
 use Rattle.pd_lanes.specs.Places.{lane_top}
 
--- the lanes as they stand, and the text of what they have drawn
+-- the lanes as they stand, the time of the last line that a whole show has told, and the text of what the lanes have drawn
 pub record LanesData : Type 0 where
   pub lanes : List Lane
+  pub before : ℕ
   pub text : List ℕ
 
 -- a lane before any move
@@ -31,9 +33,15 @@ no_lane = record { phase = Detached; since = 0; rooms = []; next = 0 }
 abbrev pub lane_at : List Lane → ℕ → Lane
 lane_at lanes port = slice_index_or lanes (port - 1) no_lane
 
--- where a move stands
-abbrev pub place_of : Frame → Option ℕ → Seen → Place
-place_of f chosen seen = record { frame = f; port = seen.port; top = lane_top chosen seen.port; at = seen.entry.at }
+-- where a move stands, after a line of this time
+abbrev pub place_of : Frame → Option ℕ → ℕ → Seen → Place
+place_of f chosen before seen = record {
+  frame = f;
+  port = seen.port;
+  top = lane_top chosen seen.port;
+  at = seen.entry.at;
+  since = start_since before seen;
+}
 
 -- a move stands in a lane: the window isn't over, and the port is the one that is chosen, or all are
 abbrev pub has_place : Frame → Option ℕ → Seen → Bool
@@ -55,25 +63,27 @@ unfoldable pub move_elements : Place → Lane → Seen → List Element
 move_elements p lane seen =
     turn_elements p lane (phase_of seen.after.source) ++ marks_elements p (lane_turned p lane seen) (marks_shown p.frame seen)
 
--- the lanes after a move, and what is drawn of it
-unfoldable pub lanes_after : Frame → Option ℕ → List Lane → Seen → List Lane
-lanes_after f chosen lanes seen =
+-- the lanes after a move, and what is drawn of it, after a line of this time
+unfoldable pub lanes_after : Frame → Option ℕ → ℕ → List Lane → Seen → List Lane
+lanes_after f chosen before lanes seen =
     if has_place f chosen seen
-    then slice_set lanes (seen.port - 1) (lane_after (place_of f chosen seen) (lane_at lanes seen.port) seen) else lanes
+    then slice_set lanes (seen.port - 1) (lane_after (place_of f chosen before seen) (lane_at lanes seen.port) seen) else lanes
 
-unfoldable pub seen_elements : Frame → Option ℕ → List Lane → Seen → List Element
-seen_elements f chosen lanes seen =
-    if has_place f chosen seen then move_elements (place_of f chosen seen) (lane_at lanes seen.port) seen else []
+unfoldable pub seen_elements : Frame → Option ℕ → ℕ → List Lane → Seen → List Element
+seen_elements f chosen before lanes seen =
+    if has_place f chosen seen then move_elements (place_of f chosen before seen) (lane_at lanes seen.port) seen else []
 
--- the lanes, and all that they have drawn
+-- the lanes, the time of the last line that a whole show has told, and all that the lanes have drawn
 pub record Drawn : Type 0 where
   pub lanes : List Lane
+  pub before : ℕ
   pub elements : List Element
 
 abbrev pub drawn_after : Frame → Option ℕ → Drawn → Seen → Drawn
 drawn_after f chosen d seen = record {
-  lanes = lanes_after f chosen d.lanes seen;
-  elements = d.elements ++ seen_elements f chosen d.lanes seen;
+  lanes = lanes_after f chosen d.before d.lanes seen;
+  before = told_at d.before seen;
+  elements = d.elements ++ seen_elements f chosen d.before d.lanes seen;
 }
 
 abbrev pub lanes_start : Frame → List Lane
@@ -81,7 +91,7 @@ lanes_start f = replicate 8 (lane_start f.from)
 
 -- what the moves of a run have drawn
 abbrev pub drawn_of : Frame → Option ℕ → List Seen → Drawn
-drawn_of f chosen seens = fold (drawn_after f chosen) (record { lanes = lanes_start f; elements = [] }) seens
+drawn_of f chosen seens = fold (drawn_after f chosen) (record { lanes = lanes_start f; before = 0; elements = [] }) seens
 
 -- the ports that have lanes
 abbrev pub shown_ports : ℕ → Option ℕ → List ℕ
@@ -90,7 +100,7 @@ shown_ports n (Some chosen) = if nat_le 1 chosen && nat_le chosen 8 then chosen 
 
 -- the end of the window in the lane of a port
 abbrev pub end_of : Frame → Option ℕ → ℕ → Place
-end_of f chosen port = record { frame = f; port = port; top = lane_top chosen port; at = f.to }
+end_of f chosen port = record { frame = f; port = port; top = lane_top chosen port; at = f.to; since = 0 }
 
 -- the band that stands at the end of the window
 abbrev pub last_elements : Frame → Option ℕ → List Lane → ℕ → List Element

@@ -106,7 +106,7 @@ label_elements p lane row label title =
 unfoldable pub mark_elements : Place → Lane → Mark → List Element
 mark_elements p lane m =
     if joins p lane m.row then []
-    else tick_of p m.row (title_words p m.words) ∷ label_elements p lane m.row m.label (title_words p m.words)
+    else tick_of p m.row (title_words p m.row m.words) ∷ label_elements p lane m.row m.label (title_words p m.row m.words)
 
 -- from where on there is room in each row
 abbrev pub rooms_after : Place → Lane → Row → List ℕ → List ℕ

@@ -1,5 +1,6 @@
 -- Where the lanes stand, and what stands in them: below the chart one for each port, all places in tenths of a pixel.
 use Rattle.std.specs.Prelude.{ℕ, ◌+◌, ◌-◌, ◌*◌, min, List, ◌∷◌, ◌++◌, length, codes, decimal, Option, Some, None}
+use Rattle.pd_show.specs.Pages.{bare_line}
 use Rattle.pd_lanes.specs.declared.place.Place.{Place}
 use Rattle.pd_lanes.specs.declared.place.Row.{Row}
 use Rattle.pd_lanes.specs.declared.place.Row.TheVariants.{Events, Contracts, Faults, Packets}
@@ -31,6 +32,11 @@ row_top p row = p.top + 150 + 140 * row_number row
 abbrev pub box_width : List ℕ → ℕ
 box_width label = 60 * min 1000 (length label) + 60
 
--- what a browser tells: when, on which port, and the words of the shown run
-unfoldable pub title_words : Place → List ℕ → List ℕ
-title_words p words = decimal p.at ++ (codes " port " ++ (decimal p.port ++ (32 ∷ words)))
+-- when, on which port, and the words of the shown run
+unfoldable pub told_words : Place → List ℕ → List ℕ
+told_words p words = decimal p.at ++ (codes " port " ++ (decimal p.port ++ (32 ∷ words)))
+
+-- what a browser tells of words of the shown run: of a packet the whole line there
+abbrev pub title_words : Place → Row → List ℕ → List ℕ
+title_words p Packets words = bare_line p.at p.since p.port words
+title_words p _ words = told_words p words

@@ -4,6 +4,7 @@ ghost use Rattle.std.specs.Prelude.{◌≡◌, ◌++◌, ◌≤◌, [], OnOk};
 ghost use Rattle.std.specs.List.{flat_map};
 ghost use Rattle.pd_svg.specs.Elements.{element_text};
 ghost use Rattle.pd_show.specs.Choices.{is_of_port};
+ghost use Rattle.pd_show.specs.Since.{told_at};
 ghost use Rattle.pd_lanes.specs.Lanes.{has_place, lanes_after, lanes_start, last_elements, place_of, seen_elements};
 
 use crate::bands::push_band;
@@ -11,14 +12,16 @@ use crate::moves::push_move;
 use crate::place::lane_top;
 use crate::{Lane, Place};
 use pd_draw::Frame;
-use pd_show::Seen;
+use pd_show::{Seen, start_since, told_at};
 use std::alloc::{AllocError, Global};
 use std::marker::Model;
 
-/// The lanes as they stand, and the text of what they have drawn.
+/// The lanes as they stand, the time of the last line that a whole show of the run has told, in microseconds, and the text of
+/// what the lanes have drawn.
 #[derive(Drop)]
 pub struct Lanes {
     lanes: [Lane; 8],
+    before: u64,
     text: Vec<u8>,
 }
 
@@ -27,7 +30,7 @@ impl Model for Lanes {
 
     ghost Value = { LanesData };
 
-    ghost view = { λ l. record { lanes = l.lanes; text = l.text.items } };
+    ghost view = { λ l. record { lanes = l.lanes; before = l.before; text = l.text.items } };
 }
 
 fn is_of_port(chosen: Option<usize>, port: usize) -> bool
@@ -49,10 +52,11 @@ fn has_place(frame: Frame, chosen: Option<usize>, seen: &Seen) -> bool
 impl Lanes {
     /// The lanes before any move.
     pub fn new(alloc: Global, frame: Frame) -> Lanes
-        ensures { result ≡ record { lanes = lanes_start frame; text = [] } }
+        ensures { result ≡ record { lanes = lanes_start frame; before = 0; text = [] } }
     {
         Lanes {
             lanes: [Lane::new(frame.from); 8],
+            before: 0,
             text: Vec::new(alloc),
         }
     }
@@ -71,10 +75,13 @@ impl Lanes {
     ) -> Result<(), AllocError>
         requires from_one { 1 ≤ seen.now.port }
         requires known { seen.now.port ≤ 8 }
-        ensures lanes { OnOk result (self.new.lanes ≡ lanes_after frame chosen self.old.lanes seen.now) }
+        ensures lanes { OnOk result (self.new.lanes ≡ lanes_after frame chosen self.old.before self.old.lanes seen.now) }
+        ensures before { OnOk result (self.new.before ≡ told_at self.old.before seen.now) }
         ensures text { OnOk result (self.new.text
-            ≡ self.old.text ++ flat_map element_text (seen_elements frame chosen self.old.lanes seen.now)) }
+            ≡ self.old.text ++ flat_map element_text (seen_elements frame chosen self.old.before self.old.lanes seen.now)) }
     {
+        let since = start_since(self.before, seen);
+        self.before = told_at(self.before, seen);
         if !has_place(frame, chosen, seen) {
             return Ok(());
         }
@@ -83,6 +90,7 @@ impl Lanes {
             port: seen.port,
             top: lane_top(chosen, seen.port),
             at: seen.entry.at as u32,
+            since,
         };
         let mut lane = self.lanes[seen.port - 1];
         push_move(alloc, &mut self.text, &mut lane, place, seen)?;
@@ -115,6 +123,7 @@ impl Lanes {
             port,
             top: lane_top(chosen, port),
             at: frame.to,
+            since: 0,
         };
         push_band(text, place, &self.lanes[port - 1])
     }

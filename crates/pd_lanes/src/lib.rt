@@ -5,6 +5,7 @@
 mod bands;
 mod lane;
 mod lanes;
+mod laws;
 mod marks;
 mod moves;
 mod phase;
@@ -14,6 +15,7 @@ mod walk;
 
 pub use lane::Lane;
 pub use lanes::Lanes;
+pub use laws::titles_are_lines;
 pub use pd_draw::Look;
 pub use phase::Phase;
 pub use place::{Place, Row};

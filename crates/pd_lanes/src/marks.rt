@@ -129,7 +129,7 @@ fn push_shape(
         return Ok(());
     }
     let mut title = Vec::new(alloc);
-    place.push_title(&mut title, words)?;
+    place.push_title(&mut title, row, words)?;
     push_tick(alloc, text, place, row, title.as_slice())?;
     push_label(alloc, text, lane, place, row, label, title.as_slice())
 }

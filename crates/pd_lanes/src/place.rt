@@ -3,20 +3,22 @@
 ghost use Rattle.std.specs.Prelude.{◌≡◌, ◌+◌, ◌++◌, ◌<◌, ◌≤◌, OnOk};
 ghost use Rattle.pd_draw.specs.Scale.{x_of};
 ghost use Rattle.pd_lanes.specs.Marks.{is_packets};
-ghost use Rattle.pd_lanes.specs.Places.{box_width, lane_top, row_class, row_number, row_top, title_words};
+ghost use Rattle.pd_lanes.specs.Places.{box_width, lane_top, row_class, row_number, row_top, title_words, told_words};
 
 use pd_draw::Frame;
+use pd_show::push_bare_line;
 use pd_tell::push_number;
 use std::alloc::AllocError;
 
-/// Where something stands: in which window, in the lane of which port, numbered from 1, that lane's top, and its time, in
-/// microseconds.
+/// Where something stands: in which window, in the lane of which port, numbered from 1, that lane's top, its time, and the time
+/// since the line before of what starts on the line there, where all there is of the run is shown, both in microseconds.
 #[derive(Clone, Copy, Debug)]
 pub struct Place {
     pub frame: Frame,
     pub port: usize,
     pub top: u16,
     pub at: u32,
+    pub since: u64,
 }
 
 /// The rows of a lane below its bands.
@@ -96,15 +98,30 @@ impl Place {
         u64::from(self.top) + 150 + 140 * row.number() as u64
     }
 
-    /// Writes what a browser tells of what stands there.
-    #[tactic(auto, unfolding(crate::specs::Places::title_words))]
-    pub(crate) fn push_title(self, text: &mut Vec<u8>, words: &[u8]) -> Result<(), AllocError>
-        ensures { OnOk result (text.new.items ≡ text.old.items ++ title_words self words.now) }
+    /// Writes when, on which port, and some words of the shown run.
+    #[tactic(auto, unfolding(crate::specs::Places::told_words))]
+    fn push_told(self, text: &mut Vec<u8>, words: &[u8]) -> Result<(), AllocError>
+        ensures { OnOk result (text.new.items ≡ text.old.items ++ told_words self words.now) }
     {
         push_number(text, u64::from(self.at))?;
         text.extend_from_slice(b" port ")?;
         push_number(text, self.port as u64)?;
         text.push(b' ')?;
         text.extend_from_slice(words)
+    }
+
+    /// Writes what a browser tells of words of the shown run.
+    pub(crate) fn push_title(
+        self,
+        text: &mut Vec<u8>,
+        row: Row,
+        words: &[u8],
+    ) -> Result<(), AllocError>
+        ensures { OnOk result (text.new.items ≡ text.old.items ++ title_words self row words.now) }
+    {
+        match row {
+            Row::Packets => push_bare_line(text, u64::from(self.at), self.since, self.port, words),
+            Row::Events | Row::Contracts | Row::Faults => self.push_told(text, words),
+        }
     }
 }

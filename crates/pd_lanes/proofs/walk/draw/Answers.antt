@@ -10,7 +10,7 @@ use Rattle.pd_show.specs.Seen.{all_seen, seen_of}
 use Rattle.pd_show.proofs.ShowLemmas.{seen_push, watched, watched_push}
 use Rattle.pd_draw.specs.Curves.{curves_of}
 use Rattle.pd_lanes.specs.Lanes.{drawn_of}
-use Rattle.pd_lanes.proofs.WalkLemmas.{curves_more, first_port, lanes_more, last_port, text_more}
+use Rattle.pd_lanes.proofs.WalkLemmas.{before_more, curves_more, first_port, lanes_more, last_port, text_more}
 use Rattle.pd_lanes.proofs.walk.draw.Goals as goal
 
 pub step_seen-requires : goal.step_seen-requires
@@ -82,11 +82,15 @@ loop-port-preserved g c =
           curves_more f plan (all_seen plan i.moves) s c.in_ok-seen.seen c.loop-port.curves c.see.new.self i.curves_are is
           c.in_ok-see.ensures ∙ ap (curves_of f plan) more;
       lanes_are =
-          lanes_more f chosen (all_seen plan i.moves) s c.in_ok-seen.seen c.loop-port.lanes.lanes c.see-in-Some.new.self.lanes
-          i.lanes_are is
+          lanes_more f chosen (all_seen plan i.moves) s c.in_ok-seen.seen c.loop-port.lanes.before c.loop-port.lanes.lanes
+          c.see-in-Some.new.self.lanes i.before_is i.lanes_are is
           c.in_ok-see-2.ensures.lanes ∙ ap (λ (v : List Seen). (drawn_of f chosen v).lanes) more;
+      before_is =
+          before_more f chosen (all_seen plan i.moves) s c.in_ok-seen.seen c.loop-port.lanes.before c.see-in-Some.new.self.before
+          i.before_is is c.in_ok-see-2.ensures.before
+          ∙ ap (λ (v : List Seen). (drawn_of f chosen v).before) more;
       text_is =
-          text_more f chosen (all_seen plan i.moves) s c.in_ok-seen.seen c.loop-port.lanes.lanes c.loop-port.lanes.text
-          c.see-in-Some.new.self.text i.lanes_are i.text_is is c.in_ok-see-2.ensures.text
+          text_more f chosen (all_seen plan i.moves) s c.in_ok-seen.seen c.loop-port.lanes.before c.loop-port.lanes.lanes
+          c.loop-port.lanes.text c.see-in-Some.new.self.text i.before_is i.lanes_are i.text_is is c.in_ok-see-2.ensures.text
           ∙ ap (λ (v : List Seen). flat_map element_text (drawn_of f chosen v).elements) more;
     }

@@ -18,6 +18,7 @@ invariant-loop-port g l = record {
   ports : length l.watches.items ≡ g.row.N;
   curves_are : l.curves ≡ curves_of l.frame l.plan (all_seen l.plan moves);
   lanes_are : l.lanes.lanes ≡ (drawn_of l.frame l.look.port (all_seen l.plan moves)).lanes;
+  before_is : l.lanes.before ≡ (drawn_of l.frame l.look.port (all_seen l.plan moves)).before;
   text_is : l.lanes.text ≡ flat_map element_text (drawn_of l.frame l.look.port (all_seen l.plan moves)).elements;
 }
 
