@@ -1,5 +1,5 @@
 -- What is seen of a move of a run.
-use Rattle.std.specs.Prelude.{ℕ, ◌+◌, List, [], ◌∷◌}
+use Rattle.std.specs.Prelude.{◌+◌, List, [], ◌∷◌}
 use Rattle.pd_setup.specs.Settings.{SettingsData}
 use Rattle.pd_port.specs.Port.{PortRecord, hold as hold_of}
 use Rattle.pd_scenario.specs.Plan.{Plan, count, settings_of, force}
