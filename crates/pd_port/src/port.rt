@@ -19,7 +19,7 @@ use pd_timers::LAST_TIME;
 use std::marker::Model;
 
 /// One port of a charger, with what it is set to.
-#[derive(Drop)]
+#[derive(Clone, Copy)]
 pub struct Port {
     settings: Settings,
     parts: PortParts,
@@ -27,7 +27,8 @@ pub struct Port {
 
 impl Model for Port {
     ghost use Rattle.std.specs.Prelude.{◌≡◌};
-    ghost use Rattle.pd_line.specs.Record.{without_settings};
+    ghost use Rattle.std.proofs.Common.{sym};
+    ghost use Rattle.pd_line.specs.Record.{with_settings, without_settings};
     ghost use Rattle.pd_port.specs.Port.{PortData, source_settings};
 
     ghost Value = { PortData };
@@ -35,6 +36,10 @@ impl Model for Port {
     ghost view = { λ p. record { settings = p.settings; port_record = without_settings p.parts } };
 
     ghost invariant = { λ p. p.parts.source.settings ≡ source_settings p.settings };
+
+    ghost inverse = { λ v. record { settings = v.settings; parts = with_settings (source_settings v.settings) v.port_record } };
+
+    ghost inverse_ok = { λ p h i. record { settings = p.settings; parts = with_settings (sym h i) (without_settings p.parts) } };
 }
 
 /// The earliest of the next event, the line's end and each engine's first timer.
@@ -186,9 +191,6 @@ impl Port {
     pub fn copy(&self) -> Port
         ensures { result ≡ self.now }
     {
-        Port {
-            settings: self.settings,
-            parts: self.parts,
-        }
+        *self
     }
 }

@@ -11,4 +11,5 @@ pub mod Shown
 pub mod Sound
 pub mod Start
 pub mod StepsLeft
+pub mod Timed
 pub mod UpTo

@@ -4,6 +4,7 @@ ghost use Rattle.std.specs.Prelude.{◌≡◌, ◌≤◌, ◌↔◌, None, false
 ghost use Rattle.std.specs.Option.{option_copied};
 ghost use Rattle.pd_port.specs.Meter.{raised};
 ghost use Rattle.pd_port.specs.Port.{due as the_due, ask, record_after, entry_of, hold};
+ghost use Rattle.pd_run.specs.Timed.{asks_at};
 
 use pd_objects::{Answer, Query};
 use pd_port::{Due, Entry, Event, Meter, Port, What};
@@ -14,7 +15,7 @@ use std::rc::Rc;
 
 /// A port, and what is worked out once after each of its steps: what falls due on it but for events, whether it asks anything then,
 /// and what it holds.
-#[derive(Drop)]
+#[derive(Clone, Copy)]
 struct TimedPort {
     hold: u64,
     asks: bool,
@@ -23,15 +24,31 @@ struct TimedPort {
 }
 
 impl Model for TimedPort {
-    ghost use Rattle.std.specs.Prelude.{◌≡◌, None, false, IfSome};
-    ghost use Rattle.pd_port.specs.Port.{PortData, due, ask, hold as held};
+    ghost use Rattle.std.specs.Prelude.{◌≡◌};
+    ghost use Rattle.std.proofs.Common.{sym};
+    ghost use Rattle.pd_port.specs.Port.{PortData, hold as held};
+    ghost use Rattle.pd_run.specs.Timed.{own_due, asks_at};
 
     ghost Value = { PortData };
 
     ghost view = { λ p. p.port };
 
-    ghost invariant = { λ p. (p.own ≡ due p.port.port_record None) × (p.hold ≡ held p.port.settings p.port.port_record)
-        × (p.asks ≡ false → IfSome p.own (λ d. ask p.port.settings p.port.port_record d ≡ None)) };
+    ghost invariant = { λ p. (p.hold ≡ held p.port.settings p.port.port_record) × (p.own ≡ own_due p.port)
+        × (p.asks ≡ asks_at p.port (own_due p.port)) };
+
+    ghost inverse = { λ v. record {
+      hold = held v.settings v.port_record;
+      asks = asks_at v (own_due v);
+      own = own_due v;
+      port = v;
+    } };
+
+    ghost inverse_ok = { λ p h i. record {
+      hold = sym h.0 i;
+      asks = sym h.2 i;
+      own = sym h.1 i;
+      port = p.port;
+    } };
 }
 
 impl TimedPort {
@@ -87,17 +104,6 @@ impl TimedPort {
         })
     }
 
-    fn copy(&self) -> TimedPort
-        ensures { result ≡ self.now }
-    {
-        TimedPort {
-            hold: self.hold,
-            asks: self.asks,
-            own: self.own,
-            port: self.port.copy(),
-        }
-    }
-
     fn step(&mut self, due: &Due, answer: Option<Answer>, meter: &mut Meter) -> Entry
         requires { due.now.time ≤ LAST_TIME }
         ensures after { self.new ≡ record self.old {
@@ -116,7 +122,7 @@ impl TimedPort {
 
 // Whether a port asks anything of the shared budget at a due, where there is one.
 fn asks_at(port: &Port, due: &Option<Due>) -> bool
-    ensures { (result ≡ false) ↔ IfSome due.now (λ d. ask port.now.settings port.now.port_record d ≡ None) }
+    ensures { result ≡ asks_at port.now due.now }
 {
     match due {
         Some(due) => port.ask(due).is_some(),
@@ -216,7 +222,7 @@ impl SharedPort {
             return Ok(port.step(due, answer, meter));
         }
         // It is stepped where it is to stay, so that it needn't be moved there.
-        let mut stepped = Rc::new(alloc, self.port.copy())?;
+        let mut stepped = Rc::new(alloc, *self.port)?;
         let Some(port) = Rc::get_mut(&mut stepped) else {
             return Err(AllocError);
         };
