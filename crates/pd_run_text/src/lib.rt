@@ -9,4 +9,4 @@ mod texts;
 pub use check::check_text;
 pub use files::read_whole;
 pub use pd_device::{Output, SliceIn};
-pub use texts::{RunFault, run_kept, run_plain};
+pub use texts::{Release, RunFault, run_kept, run_kept_releasing, run_plain};

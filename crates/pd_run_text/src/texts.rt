@@ -24,11 +24,24 @@ pub enum RunFault {
     Session(BenchFault),
 }
 
+/// How a session's runner is let go when the session is over.
+pub trait Release {
+    /// Lets it go.
+    fn release<T: Drop>(runner: T);
+}
+
+/// What the runner keeps is freed.
+struct Freed;
+
+impl Release for Freed {
+    fn release<T: Drop>(_runner: T) {}
+}
+
 // Runs a session with a runner of as many ports as the file has.
 macro_rules! run_by {
-    ($runner:ident, $alloc:ident, $file:ident, $edits:ident, $writer:ident, $meter:ident; $($n:literal)*) => {
+    ($runner:ident, $release:ident, $alloc:ident, $file:ident, $edits:ident, $writer:ident, $meter:ident; $($n:literal)*) => {
         match $file.port_count().map_err(RunFault::Scenario)? {
-            $($n => run_file::<$n, $runner<$n>, W>($alloc, $file, $edits, $writer, $meter),)*
+            $($n => run_file::<$n, $runner<$n>, $release, W>($alloc, $file, $edits, $writer, $meter),)*
             _ => Err(RunFault::Scenario(ScenarioFault::Limit)),
         }
     };
@@ -52,7 +65,7 @@ pub fn run_plain<W: TextOut>(
     ensures rises { meter.old ≤ meter.new }
 {
     let file = ScenarioFile::parse(alloc, text).map_err(RunFault::Scenario)?;
-    run_by!(Plain, alloc, file, edits, writer, meter; 1 2 3 4 5 6 7 8)
+    run_by!(Plain, Freed, alloc, file, edits, writer, meter; 1 2 3 4 5 6 7 8)
 }
 
 /// Runs a session over an edit script for the scenario of a text, which has 1 to 8 ports. The moves of each run are kept
@@ -72,12 +85,32 @@ pub fn run_kept<W: TextOut>(
     ensures cost { RunCosts CostsFreshMoves result text.now edits.now (W.taken writer.old) (W.taken writer.new) meter.old meter.new }
     ensures rises { meter.old ≤ meter.new }
 {
+    run_kept_releasing::<Freed, W>(alloc, text, edits, writer, meter)
+}
+
+/// Does what `run_kept` does. How its runner is let go in the end is the caller's choice: to free what is kept of a run
+/// takes a tenth of the time of a first run, and is in vain where the process ends with the session.
+///
+/// # Errors
+/// As `run_kept`.
+pub fn run_kept_releasing<R: Release, W: TextOut>(
+    alloc: Global,
+    text: &[u8],
+    edits: &[u8],
+    writer: &mut W,
+    meter: &mut Meter,
+) -> Result<Tally, RunFault>
+    ensures text { RunsText result text.now edits.now (W.taken writer.old) (W.taken writer.new) }
+    ensures counts { CountsWrites result (W.failures writer.old) (W.failures writer.new) }
+    ensures cost { RunCosts CostsFreshMoves result text.now edits.now (W.taken writer.old) (W.taken writer.new) meter.old meter.new }
+    ensures rises { meter.old ≤ meter.new }
+{
     let file = ScenarioFile::parse(alloc, text).map_err(RunFault::Scenario)?;
-    run_by!(Kept, alloc, file, edits, writer, meter; 1 2 3 4 5 6 7 8)
+    run_by!(Kept, R, alloc, file, edits, writer, meter; 1 2 3 4 5 6 7 8)
 }
 
 // Runs a session for the scenario of a file of N ports.
-fn run_file<const N: usize, T: Runner<N> + Drop, W: TextOut>(
+fn run_file<const N: usize, T: Runner<N> + Drop, R: Release, W: TextOut>(
     alloc: Global,
     file: ScenarioFile,
     edits: &[u8],
@@ -98,5 +131,7 @@ fn run_file<const N: usize, T: Runner<N> + Drop, W: TextOut>(
     };
     let mut runner = T::empty(alloc);
     let mut reader = SliceIn { rest: edits };
-    session(alloc, scenario, &mut runner, &mut reader, writer, meter).map_err(RunFault::Session)
+    let ran = session(alloc, scenario, &mut runner, &mut reader, writer, meter);
+    R::release(runner);
+    ran.map_err(RunFault::Session)
 }

@@ -4,10 +4,20 @@ use crate::Ending;
 use crate::fault::{tell, tell_refused};
 use pd_device::Output;
 use pd_port::Meter;
-use pd_run_text::{RunFault, read_whole, run_kept};
+use pd_run_text::{Release, RunFault, read_whole, run_kept_releasing};
 use std::alloc::Global;
-use std::io;
 use std::rt::Files;
+use std::{io, mem};
+
+/// What is kept of the last run isn't freed: the process ends after its one session, and gives its memory back as a whole. Freed move
+/// by move it would take a tenth of a first run's time.
+struct LeftToTheEnd;
+
+impl Release for LeftToTheEnd {
+    fn release<T: Drop>(runner: T) {
+        mem::forget(runner);
+    }
+}
 
 /// Runs a session over an edit script, for the scenario of a file. Both files are read before anything is said.
 pub fn run<R: Files + Print + Eprint + Alloc<A = Global>>(
@@ -23,7 +33,7 @@ pub fn run<R: Files + Print + Eprint + Alloc<A = Global>>(
         writer: io::writer(rt),
         failures: 0,
     };
-    match run_kept(
+    match run_kept_releasing::<LeftToTheEnd, _>(
         rt.alloc(),
         scenario.as_slice(),
         edits.as_slice(),

@@ -11,13 +11,13 @@ returns-in-Err-clause-text g c =
 pub returns-clause-text : goal.returns-clause-text
 returns-clause-text g c =
     λ text is.
-    runs_text g.row.N text _ _ c.session.result _ _ _ _ _ _ _ c.map_err.ensures.cases (λ fault as_run h. h)
-    (accepted g.row.N text c.args.file _ is c.requires.counts c.in-Ok.ensures) c.session.ensures.text
-    c.session.ensures.whole c.session.ensures.counts
+    runs_text g.row.N text _ _ c.session-ran.result _ _ _ _ _ _ _ c.map_err.ensures.cases (λ fault as_run h. h)
+    (accepted g.row.N text c.args.file _ is c.requires.counts c.in-Ok.ensures) c.session-ran.ensures.text
+    c.session-ran.ensures.whole c.session-ran.ensures.counts
 
 pub returns-clause-cost : goal.returns-clause-cost
 returns-clause-cost g c =
     λ text is.
-    run_costs g.T.Runner.costs g.row.N text _ _ _ _ c.session.result _ _ _ _ _ _ c.map_err.ensures.cases (λ fault as_run h. h)
+    run_costs g.T.Runner.costs g.row.N text _ _ _ _ c.session-ran.result _ _ _ _ _ _ c.map_err.ensures.cases (λ fault as_run h. h)
     c.empty-runner.ensures.plan (accepted g.row.N text c.args.file _ is c.requires.counts c.in-Ok.ensures)
-    c.session.ensures.cost c.session.ensures.rises
+    c.session-ran.ensures.cost c.session-ran.ensures.rises
