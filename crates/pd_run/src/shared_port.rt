@@ -1,6 +1,6 @@
 //! A port that runs share.
 
-ghost use Rattle.std.specs.Prelude.{◌≡◌, ◌≤◌, ◌↔◌, None, false, IfOk, OnOk, OnErr, IfSome, IsTrue};
+ghost use Rattle.std.specs.Prelude.{◌≡◌, ◌≤◌, None, IfOk, OnOk, OnErr, IsTrue};
 ghost use Rattle.std.specs.Option.{option_copied};
 ghost use Rattle.pd_port.specs.Meter.{raised};
 ghost use Rattle.pd_port.specs.Port.{due as the_due, ask, record_after, entry_of, hold};
