@@ -1,6 +1,5 @@
 pub mod Details
 pub mod Laws
-pub mod Lines
 pub mod Losses
 pub mod Named
 pub mod Sentences

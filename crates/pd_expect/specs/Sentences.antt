@@ -15,18 +15,15 @@ use Rattle.pd_scenario.specs.Plan.{Plan}
 use Rattle.pd_report.specs.FaultLines.{fault_words}
 use Rattle.pd_report.specs.LeastMargin.{IsLeastMargin}
 use Rattle.pd_sweep.specs.Summaries.{contract_left, mishaps_of}
-use Rattle.pd_expect.specs.Lines.{quoted}
+use Rattle.pd_test_lines.specs.Lines.{is_within, quoted}
 use Rattle.pd_expect.specs.declared.found.Found.{Found}
 use Rattle.pd_expect.specs.declared.found.Found.TheVariants as found
-use Rattle.pd_expect.specs.declared.lines.Expectation.{Expectation}
-use Rattle.pd_expect.specs.declared.lines.Expectation.TheVariants as expect
-use Rattle.pd_expect.specs.declared.span.Span.{Span}
+use Rattle.pd_test_lines.specs.declared.lines.Expectation.{Expectation}
+use Rattle.pd_test_lines.specs.declared.lines.Expectation.TheVariants as expect
+use Rattle.pd_test_lines.specs.declared.span.Span.{Span}
 
 abbrev pub Moves : Type 0
 Moves = List (ℕ × Entry)
-
-abbrev pub is_within : Span → ℕ → Bool
-is_within span n = nat_le span.from n && nat_le n span.to
 
 -- ---- contracts
 

@@ -2,18 +2,17 @@
 
 ghost use Rattle.std.specs.Prelude.{◌≡◌};
 ghost use Rattle.pd_scenario.specs.Plans.{plan_of};
-ghost use Rattle.pd_expect.specs.Lines.{quoted};
+ghost use Rattle.pd_test_lines.specs.Lines.{quoted};
 ghost use Rattle.pd_expect.specs.Sentences.{IsFound, is_met, is_none, is_such, port_of, words_of};
 
 use crate::contract::contract_at;
-use crate::lines::{Expectation, quoted};
 use crate::seek::{Sought, has_fault};
-use crate::span::Span;
 use pd_objects::Contract;
 use pd_report::{Margin, least_margin};
 use pd_run::Runner;
 use pd_scenario::Scenario;
 use pd_sweep::summary_of;
+use pd_test_lines::{Expectation, Span, quoted};
 
 /// What a run has of what is expected.
 #[derive(Clone, Copy, Debug)]
@@ -40,75 +39,73 @@ fn words_of(line: &[u8]) -> &[u8]
     }
 }
 
-impl Expectation {
-    /// What a run has of what is expected by a line.
-    pub(crate) fn found<const N: usize, T: Runner<N>>(
-        &self,
-        run: &T,
-        scenario: &Scenario<N>,
-        line: &[u8],
-    ) -> Found
-        ensures { IsFound (plan_of scenario.now) (T.entries run.now) line.now self.now result }
-    {
-        match *self {
-            Expectation::Contract { port, at, .. } | Expectation::NoContract { port, at } => {
-                Found::Contract(contract_at(run, port, at))
-            }
-            Expectation::Margin { .. } => Found::Least(least_margin(run, scenario)),
-            Expectation::NoFaults => Found::Faults(summary_of(run).mishaps.faults),
-            Expectation::Fault { port } => Found::Fault(has_fault(run, port, words_of(line))),
-            Expectation::Packet {
+/// What a run has of what is expected by a line.
+pub(crate) fn found_in<const N: usize, T: Runner<N>>(
+    expectation: &Expectation,
+    run: &T,
+    scenario: &Scenario<N>,
+    line: &[u8],
+) -> Found
+    ensures { IsFound (plan_of scenario.now) (T.entries run.now) line.now expectation.now result }
+{
+    match *expectation {
+        Expectation::Contract { port, at, .. } | Expectation::NoContract { port, at } => {
+            Found::Contract(contract_at(run, port, at))
+        }
+        Expectation::Margin { .. } => Found::Least(least_margin(run, scenario)),
+        Expectation::NoFaults => Found::Faults(summary_of(run).mishaps.faults),
+        Expectation::Fault { port } => Found::Fault(has_fault(run, port, words_of(line))),
+        Expectation::Packet {
+            port,
+            side,
+            kind,
+            from,
+            to,
+        } => {
+            let sought = Sought {
                 port,
                 side,
                 kind,
                 from,
                 to,
-            } => {
-                let sought = Sought {
-                    port,
-                    side,
-                    kind,
-                    from,
-                    to,
-                };
-                Found::Packet(sought.is_in(run))
-            }
+            };
+            Found::Packet(sought.is_in(run))
         }
     }
+}
 
-    /// Whether what a run has is what is expected.
-    pub(crate) fn is_met(&self, found: &Found) -> bool
-        ensures { result ≡ is_met self.now found.now }
-    {
-        match (*self, *found) {
-            (
-                Expectation::Contract {
-                    voltage,
-                    current,
-                    ..
-                },
-                Found::Contract(stands),
-            ) => is_such(voltage, current, stands),
-            (Expectation::NoContract { .. }, Found::Contract(stands)) => stands.is_none(),
-            (Expectation::Margin { least }, Found::Least(margin)) => least <= margin.left,
-            (Expectation::NoFaults, Found::Faults(count)) => count == 0,
-            (Expectation::Fault { .. }, Found::Fault(there))
-            | (Expectation::Packet { .. }, Found::Packet(there)) => there,
-            _ => false,
-        }
+/// Whether what a run has is what is expected.
+pub(crate) fn is_met(expectation: &Expectation, found: &Found) -> bool
+    ensures { result ≡ is_met expectation.now found.now }
+{
+    match (*expectation, *found) {
+        (
+            Expectation::Contract {
+                voltage,
+                current,
+                ..
+            },
+            Found::Contract(stands),
+        ) => is_such(voltage, current, stands),
+        (Expectation::NoContract { .. }, Found::Contract(stands)) => stands.is_none(),
+        (Expectation::Margin { least }, Found::Least(margin)) => least <= margin.left,
+        (Expectation::NoFaults, Found::Faults(count)) => count == 0,
+        (Expectation::Fault { .. }, Found::Fault(there))
+        | (Expectation::Packet { .. }, Found::Packet(there)) => there,
+        _ => false,
     }
+}
 
-    /// The port that is named.
-    pub(crate) fn port(&self) -> Option<u64>
-        ensures { result ≡ port_of self.now }
-    {
-        match *self {
-            Expectation::Contract { port, .. }
-            | Expectation::NoContract { port, .. }
-            | Expectation::Fault { port }
-            | Expectation::Packet { port, .. } => Some(port),
-            Expectation::Margin { .. } | Expectation::NoFaults => None,
-        }
+/// The port that is named.
+pub(crate) fn port_of(expectation: &Expectation) -> Option<u64>
+    ensures { result ≡ port_of expectation.now }
+{
+    match *expectation {
+        Expectation::Contract { port, .. }
+        | Expectation::NoContract { port, .. }
+        | Expectation::Fault { port }
+        | Expectation::Packet { port, .. } => Some(port),
+        Expectation::Margin { .. } | Expectation::NoFaults => None,
     }
 }
 

@@ -10,13 +10,12 @@ ghost use Rattle.pd_expect.specs.Named.{script_lines};
 ghost use Rattle.pd_expect.specs.Sentences.{port_of, unknown_port};
 ghost use Rattle.pd_expect.specs.Tests.{AnswersAs, Expects, IsAnswer, Judges, Loses, Tests, answered, no_test, one_refused};
 ghost use Rattle.pd_expect.specs.Words.{empty_range_line, failure_line, no_test_line};
-ghost use Rattle.pd_expect.specs.declared.lines.TestLine.TheVariants.{Edit as line_is_edit};
+ghost use Rattle.pd_test_lines.specs.declared.lines.TestLine.TheVariants.{Edit as line_is_edit};
 
-use crate::found::Found;
-use crate::lines::{Expectation, Lost, TestLine};
+use crate::details::details;
+use crate::found::{Found, found_in, is_met, port_of};
 use crate::loss::lose;
 use crate::named::without_mark;
-use crate::span::Span;
 use crate::tally::TestTally;
 use crate::words::{push_empty_range, push_failure, push_loss, push_no_test};
 use pd_explain::{Place, is_port, push_sentence};
@@ -25,6 +24,7 @@ use pd_run::Runner;
 use pd_scenario::Scenario;
 use pd_script::{at_line, explain_line, first_line};
 use pd_tell::push_number;
+use pd_test_lines::{Expectation, Lost, Span, TestLine};
 use std::alloc::{AllocError, Global};
 
 /// What is said of the lines of a test script, and how they count.
@@ -95,7 +95,7 @@ fn push_unmet<const N: usize, T: Runner<N>>(
     ensures { OnOk result (text.new.items ≡ text.old.items
         ++ failure_line at.now line.now found.now (details expectation.now found.now (T.entries run.now))) }
 {
-    let details = expectation.details(alloc, run, found)?;
+    let details = details(alloc, expectation, run, found)?;
     push_failure(text, at, line, found, details.as_slice())
 }
 
@@ -116,9 +116,9 @@ fn judge<const N: usize, T: Runner<N>>(
     ensures room { IfOk result (λ report. answered report.tally ≤ answered tally + 1) }
 {
     run.replace(alloc, scenario, meter)?;
-    let found = expectation.found(run, scenario, line);
+    let found = found_in(expectation, run, scenario, line);
     let mut text = Vec::new(alloc);
-    if expectation.is_met(&found) {
+    if is_met(expectation, &found) {
         let tally = tally.one_passed();
         return Ok(TestReport { text, tally });
     }
@@ -144,7 +144,7 @@ fn expect<const N: usize, T: Runner<N>>(
         (record { said = report.text.items; tally = report.tally; after = scenario.now })) }
     ensures room { IfOk result (λ report. answered report.tally ≤ answered tally + 1) }
 {
-    match unknown_port(N, expectation.port()) {
+    match unknown_port(N, port_of(expectation)) {
         None => judge(alloc, run, scenario, at, line, expectation, tally, meter),
         Some(port) => {
             let mut text = Vec::new(alloc);

@@ -9,12 +9,12 @@ ghost use Rattle.pd_expect.specs.Words.{no_packet_words, no_test_line, numbered_
 
 use crate::found::Found;
 use crate::loss::LoseFault;
-use crate::span::Span;
 use itoa::Buffer;
 use pd_edit_lines::next;
 use pd_objects::Contract;
 use pd_sweep::push_obstacle;
 use pd_tell::push_number;
+use pd_test_lines::Span;
 use std::alloc::AllocError;
 
 /// Writes a contract by its position, its voltage in millivolts and its current in milliamperes.

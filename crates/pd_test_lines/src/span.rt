@@ -2,8 +2,7 @@
 
 ghost use Rattle.std.specs.Prelude.{◌≡◌, ◌==◌, ◌<◌, IfSome, length, option_map};
 ghost use Rattle.std.specs.List.{position_from};
-ghost use Rattle.pd_expect.specs.Lines.{any_span, behind_dot, cut, span_of, two_ends};
-ghost use Rattle.pd_expect.specs.Sentences.{is_within};
+ghost use Rattle.pd_test_lines.specs.Lines.{any_span, behind_dot, cut, is_within, span_of, two_ends};
 
 use pd_edit_lines::number;
 
@@ -74,7 +73,7 @@ impl Span {
     }
 
     /// Whether a number is among these.
-    pub(crate) fn has(self, number: u64) -> bool
+    pub fn has(self, number: u64) -> bool
         ensures { result ≡ is_within self number }
     {
         self.from <= number && number <= self.to

@@ -9,19 +9,19 @@
 -- RANGE is a number, or two with .. between them. No range ends before it begins, and TO isn't before FROM.
 -- What stands behind a word that begins with # is passed over.
 use Rattle.std.specs.Prelude.{ℕ, ◌+◌, ◌==◌, Bool, true, false, List, [], ◌∷◌, ◌++◌, find, take, drop, codes, Option, Some, None, option_map}
-use Rattle.std.specs.Prelude.{bytes_eq, nat_lt, if◌then◌else◌}
+use Rattle.std.specs.Prelude.{bytes_eq, nat_le, nat_lt, ◌&&◌, if◌then◌else◌}
 use Rattle.std.specs.List.{position_from}
 use Rattle.pd_header.specs.declared.kind.Kind.{Kind}
 use Rattle.pd_header.specs.declared.side.Side.{Side}
 use Rattle.pd_header.specs.declared.side.Side.TheVariants.{Source, Sink, Plug}
 use Rattle.pd_header.specs.Kinds.{name_of, control_messages, data_messages}
 use Rattle.pd_edit_lines.specs.Words.{words, number, next, number_at, ◌>>=◌}
-use Rattle.pd_expect.specs.declared.lines.Expectation.{Expectation}
-use Rattle.pd_expect.specs.declared.lines.Expectation.TheVariants as expect
-use Rattle.pd_expect.specs.declared.lines.Lost.{Lost}
-use Rattle.pd_expect.specs.declared.lines.TestLine.{TestLine}
-use Rattle.pd_expect.specs.declared.lines.TestLine.TheVariants as line_is
-use Rattle.pd_expect.specs.declared.span.Span.{Span}
+use Rattle.pd_test_lines.specs.declared.lines.Expectation.{Expectation}
+use Rattle.pd_test_lines.specs.declared.lines.Expectation.TheVariants as expect
+use Rattle.pd_test_lines.specs.declared.lines.Lost.{Lost}
+use Rattle.pd_test_lines.specs.declared.lines.TestLine.{TestLine}
+use Rattle.pd_test_lines.specs.declared.lines.TestLine.TheVariants as line_is
+use Rattle.pd_test_lines.specs.declared.span.Span.{Span}
 
 abbrev pub Words : Type 0
 Words = List (List ℕ)
@@ -54,6 +54,9 @@ after_word word [] = None
 after_word word (first ∷ more) = if bytes_eq first word then Some more else None
 
 -- ---- ranges
+
+abbrev pub is_within : Span → ℕ → Bool
+is_within span n = nat_le span.from n && nat_le n span.to
 
 -- any number of 64 bits
 abbrev pub any_span : Span
