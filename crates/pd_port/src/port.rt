@@ -132,6 +132,24 @@ impl Port {
         ensures meter { meter.new ≡ raised meter.old 1 }
     {
         let query = self.ask(due);
+        self.step_asking(due, query, answer, meter)
+    }
+
+    /// The same where it is known already what the port asks.
+    #[tactic(auto, unfolding(crate::specs::Port::portstep))]
+    pub fn step_asking(
+        &mut self,
+        due: &Due,
+        query: Option<Query>,
+        answer: Option<Answer>,
+        meter: &mut Meter,
+    ) -> Entry
+        requires time { due.now.time ≤ LAST_TIME }
+        requires asks { query ≡ ask self.old.settings self.old.port_record due.now }
+        ensures after { self.new ≡ record self.old { port_record = record_after self.old.settings self.old.port_record due.now answer } }
+        ensures entry { result ≡ entry_of self.old.settings self.old.port_record due.now answer }
+        ensures meter { meter.new ≡ raised meter.old 1 }
+    {
         let before = self.contract();
         meter.rise();
         let mut step = PortStep::at_rest(self.parts);

@@ -112,7 +112,8 @@ impl TimedPort {
         ensures entry { result ≡ entry_of self.old.settings self.old.port_record due.now answer }
         ensures meter { meter.new ≡ raised meter.old 1 }
     {
-        let entry = self.port.step(due, answer, meter);
+        let query = self.ask(due);
+        let entry = self.port.step_asking(due, query, answer, meter);
         self.own = self.port.due(None);
         self.asks = asks_at(&self.port, &self.own);
         self.hold = self.port.hold();

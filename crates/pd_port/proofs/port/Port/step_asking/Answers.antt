@@ -3,7 +3,7 @@ use Rattle.pd_line.specs.declared.port_step.PortStep.{PortStep}
 use Rattle.pd_line.specs.Record.{without_settings}
 use Rattle.pd_port.specs.Port.{begun, portstep}
 use Rattle.pd_port.proofs.Steps.{portstep_is, led_whole, port_data, after_is, settings_are, entry_is, change_is}
-use Rattle.pd_port.proofs.port.Port.step.Goals as goal
+use Rattle.pd_port.proofs.port.Port.step_asking.Goals as goal
 
 pub invariant_of-self : goal.invariant_of-self
 invariant_of-self c =
@@ -32,8 +32,8 @@ returns-clause-entry c =
     let is = portstep_is p d given c.at_rest-step.result c.happens.new.step left c.at_rest-step.ensures
     c.happens.ensures c.line_starts.ensures.after in
     let done = led_whole c.args.self.now c.self.inside.settings p d given c.self.view_is c.self.invariant in
-    entry_is c.args.self.now u d given c.ask-query.result left.faults c.change_of.result left.start done
-    c.ask-query.ensures (ap (λ (x : PortStep). x.faults) is)
+    entry_is c.args.self.now u d given c.args.query left.faults c.change_of.result left.start done
+    c.requires.asks (ap (λ (x : PortStep). x.faults) is)
     (change_is c.args.self.now u c.contract-before.result c.contract.result c.change_of.result c.contract-before.ensures
     (c.contract.ensures ∙ ap (λ (x : PortStep). x.port.source.record.contract) is) c.change_of.ensures)
     (ap (λ (x : PortStep). x.start) is)
