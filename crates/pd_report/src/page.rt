@@ -11,7 +11,7 @@ use pd_port::Entry;
 use pd_run::{Note, Runner};
 
 /// The most bytes of a page.
-pub(crate) const PAGE: usize = 8_192;
+pub(crate) const PAGE: usize = 2_048;
 
 /// The most bytes that an entry adds to a show.
 pub(crate) const MOST: usize = 1_280;
