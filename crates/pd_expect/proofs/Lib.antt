@@ -1,4 +1,6 @@
+mod ContractLemmas
 mod JoinLemmas
 mod LineLemmas
+mod NearLemmas
 mod QuietLemmas
 mod SeekLemmas

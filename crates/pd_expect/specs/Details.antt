@@ -1,7 +1,7 @@
 -- What is told of an expectation that isn't met, behind what there is in its place: docs/FORMATS.md, "Tests".
-use Rattle.std.specs.Prelude.{ℕ, ◌-◌, ◌==◌, ◌&&◌, nat_lt, Bool, List, [], ◌∷◌, ◌++◌, map, fold, length, take, codes, decimal, is_some}
+use Rattle.std.specs.Prelude.{ℕ, ◌-◌, ◌==◌, ◌&&◌, nat_lt, Bool, List, [], ◌∷◌, ◌++◌, map, filter, length, take, codes, decimal, is_some}
 use Rattle.std.specs.Prelude.{if◌then◌else◌, Option, Some, None}
-use Rattle.std.specs.List.{flat_map}
+use Rattle.std.specs.List.{flat_map, filter_map, last_or}
 use Rattle.pd_line.specs.declared.notes.Fault.{Fault}
 use Rattle.pd_port.specs.declared.entry.Entry.{Entry}
 use Rattle.pd_report.specs.FaultLines.{fault_words}
@@ -71,26 +71,29 @@ abbrev pub has_sign : Sign → ℕ × Entry → Bool
 has_sign (sign.Change port) move = move.0 == port && is_some move.1.contract
 has_sign (sign.Packet port side kind) move = move.0 == port && starts side kind move.1.start
 
-abbrev pub nothing_near : Near
-nothing_near = record { before = None; after = None }
+-- when the entry is, where it has the sign
+abbrev pub sign_at : Sign → ℕ × Entry → Option ℕ
+sign_at what move = if has_sign what move then Some move.1.at else None
 
-abbrev pub or_first : Option ℕ → ℕ → Option ℕ
-or_first None at = Some at
-or_first (Some first) at = Some first
+-- the times of the entries with the sign, in the run's order
+abbrev pub times_of : Sign → Moves → List ℕ
+times_of what moves = filter_map (sign_at what) moves
 
--- one more time, each being no sooner than those before: the last before the range, and the first after it
-abbrev pub beside : ℕ → ℕ → ℕ → Near → Near
-beside from to at near =
-    if nat_lt at from then record near { before = Some at }
-    else if nat_lt to at then record near { after = or_first near.after at }
-    else near
+-- the first of some times
+abbrev pub first_time : List ℕ → Option ℕ
+first_time [] = None
+first_time (at ∷ times) = Some at
 
-abbrev pub near_after : Sign → ℕ → ℕ → Near → ℕ × Entry → Near
-near_after what from to near move = if has_sign what move then beside from to move.1.at near else near
+-- of these times the last before the range, and the first after it
+abbrev pub near_of : ℕ → ℕ → List ℕ → Near
+near_of from to times = record {
+  before = last_or None (filter (λ at. nat_lt at from) times);
+  after = first_time (filter (λ at. nat_lt to at) times);
+}
 
--- the times of the entries with the sign that are nearest to the range, in the run's order
+-- the times of the entries with the sign that are nearest to the range
 abbrev pub nearest : Sign → ℕ → ℕ → Moves → Near
-nearest what from to moves = fold (near_after what from to) nothing_near moves
+nearest what from to moves = near_of from to (times_of what moves)
 
 -- until when there is this contract, or none, where that changes
 abbrev pub until_words : Option ℕ → List ℕ

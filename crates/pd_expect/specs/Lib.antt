@@ -1,7 +1,9 @@
+pub mod Along
 pub mod Details
 pub mod Laws
 pub mod Losses
 pub mod Named
+pub mod Near
 pub mod Sentences
 pub mod Tests
 pub mod Texts

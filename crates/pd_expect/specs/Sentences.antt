@@ -1,6 +1,6 @@
 -- What an expectation says of a run, and when it is met.
-use Rattle.std.specs.Prelude.{◌≡◌, ℕ, ◌==◌, ◌&&◌, nat_le, Bool, true, false, List, [], fold, if◌then◌else◌, bytes_eq, Option, Some, None}
-use Rattle.std.specs.List.{list_any}
+use Rattle.std.specs.Prelude.{◌≡◌, ℕ, ◌==◌, ◌&&◌, nat_le, Bool, true, false, List, [], if◌then◌else◌, bytes_eq, Option, Some, None}
+use Rattle.std.specs.List.{filter_map, last_or, list_any}
 use Rattle.pd_header.specs.declared.kind.Kind.{Kind}
 use Rattle.pd_header.specs.declared.side.Side.{Side}
 use Rattle.pd_header.specs.Kinds.{kind_of_header, name_of}
@@ -8,13 +8,13 @@ use Rattle.pd_tell.specs.Words.{side_words}
 use Rattle.pd_objects.specs.declared.contract.Contract.{Contract}
 use Rattle.pd_line.specs.declared.notes.Start.{Start}
 use Rattle.pd_line.specs.declared.notes.Start.TheVariants as start
-use Rattle.pd_port.specs.declared.entry.ContractChange.{ContractChange}
 use Rattle.pd_port.specs.declared.entry.Entry.{Entry}
 use Rattle.pd_scenario.specs.Limits.{is_port}
 use Rattle.pd_scenario.specs.Plan.{Plan}
 use Rattle.pd_report.specs.FaultLines.{fault_words}
 use Rattle.pd_report.specs.LeastMargin.{IsLeastMargin}
-use Rattle.pd_sweep.specs.Summaries.{contract_left, mishaps_of}
+use Rattle.pd_report.specs.Margins.{change_on, up_to}
+use Rattle.pd_sweep.specs.Summaries.{left_by, mishaps_of}
 use Rattle.pd_test_lines.specs.Lines.{is_within, quoted}
 use Rattle.pd_expect.specs.declared.found.Found.{Found}
 use Rattle.pd_expect.specs.declared.found.Found.TheVariants as found
@@ -27,17 +27,9 @@ Moves = List (ℕ × Entry)
 
 -- ---- contracts
 
-abbrev pub left_by : Option Contract → Option ContractChange → Option Contract
-left_by stood None = stood
-left_by stood (Some change) = contract_left change
-
--- an entry of the port up to a time may change its contract
-abbrev pub stands_after : ℕ → ℕ → Option Contract → ℕ × Entry → Option Contract
-stands_after port at stood move = if move.0 == port && nat_le move.1.at at then left_by stood move.1.contract else stood
-
--- the contract of a port at the end of an instant, the ports being numbered from 1
+-- the contract of a port at the end of an instant, the ports being numbered from 1: what the last change of it up to then has left
 abbrev pub contract_at : ℕ → ℕ → Moves → Option Contract
-contract_at port at moves = fold (stands_after port at) None moves
+contract_at port at moves = left_by None (last_or None (filter_map (change_on port) (up_to at moves)))
 
 -- ---- faults
 

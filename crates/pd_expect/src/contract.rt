@@ -1,7 +1,9 @@
 //! The contract of a port at the end of an instant.
 
 ghost use Rattle.std.specs.Prelude.{◌≡◌, ◌<◌, MatchOption, length, slice_get};
-ghost use Rattle.pd_expect.specs.Sentences.{contract_at, left_by, stands_after};
+ghost use Rattle.pd_sweep.specs.Summaries.{left_by};
+ghost use Rattle.pd_expect.specs.Along.{stands_after};
+ghost use Rattle.pd_expect.specs.Sentences.{contract_at};
 
 use pd_objects::Contract;
 use pd_port::{ContractChange, Entry};

@@ -1,8 +1,8 @@
 //! What of a run is nearest to a range of times.
 
 ghost use Rattle.std.specs.Prelude.{◌≡◌, ◌<◌, ◌++◌, MatchOption, OnOk, length, slice_get};
-ghost use Rattle.pd_expect.specs.Details.{beside, has_sign, near_after, near_words, nearest, nothing_near, or_first, packet_details};
-ghost use Rattle.pd_expect.specs.Details.{until_words};
+ghost use Rattle.pd_expect.specs.Details.{has_sign, near_words, nearest, packet_details, until_words};
+ghost use Rattle.pd_expect.specs.Near.{beside, near_after, nothing_near, or_first};
 
 use crate::seek::starts;
 use pd_header::{Kind, Side};
@@ -64,23 +64,17 @@ impl Near {
         }
     }
 
-    /// After one more time, which is no sooner than those before.
+    /// After one more time.
     fn beside(self, from: u64, to: u64, at: u64) -> Near
         ensures { result ≡ beside from to at self }
     {
-        if at < from {
-            Near {
-                before: Some(at),
-                ..self
-            }
-        } else if to < at {
-            Near {
-                after: or_first(self.after, at),
-                ..self
-            }
+        let before = if at < from { Some(at) } else { self.before };
+        let after = if to < at {
+            or_first(self.after, at)
         } else {
-            self
-        }
+            self.after
+        };
+        Near { before, after }
     }
 
     /// After one more entry of a port.

@@ -5,3 +5,4 @@ pub mod JoinLemmas
 mod PlaceLemmas
 mod QuietLemmas
 mod RowLemmas
+pub mod WalkLemmas

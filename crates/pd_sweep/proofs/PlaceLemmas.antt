@@ -8,7 +8,8 @@ use Rattle.pd_port.specs.declared.entry.Entry.{Entry}
 use Rattle.pd_report.specs.Walk.{NoneBefore}
 use Rattle.pd_report.proofs.MarginLemmas.{InOrder, Moves, all-append, none-before-here, take-next}
 use Rattle.pd_report.proofs.NotedLemmas.{along, at_index}
-use Rattle.pd_sweep.specs.Summaries.{is_made, makers_after, nobody}
+use Rattle.pd_sweep.specs.Along.{makers_after, nobody}
+use Rattle.pd_sweep.specs.Summaries.{is_made}
 use Rattle.pd_sweep.specs.Trials.{AreBefore, hits, starts_disturbed}
 use Rattle.pd_sweep.specs.declared.makers.Makers.{Makers}
 use Rattle.pd_sweep.specs.declared.packets.Target.{Target}

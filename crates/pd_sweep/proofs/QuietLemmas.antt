@@ -7,7 +7,8 @@ use Rattle.pd_port.specs.declared.entry.ContractChange.{ContractChange}
 use Rattle.pd_port.specs.declared.entry.Entry.{Entry}
 use Rattle.pd_run.specs.declared.note.Note.TheVariants as note
 use Rattle.pd_run.specs.Notes.{Leaves}
-use Rattle.pd_sweep.specs.Summaries.{changed, is_hard_reset, is_made, makers_after, mishaps_after, stands_after}
+use Rattle.pd_sweep.specs.Along.{changed, makers_after, mishaps_after, stands_after}
+use Rattle.pd_sweep.specs.Summaries.{is_hard_reset, is_made}
 use Rattle.pd_sweep.specs.declared.makers.Makers.{Makers}
 use Rattle.pd_sweep.specs.declared.summary.Mishaps.{Mishaps}
 use Rattle.pd_sweep.specs.declared.summary.Standing.{Standing}

@@ -1,3 +1,4 @@
+pub mod Along
 pub mod Choices
 pub mod Summaries
 pub mod Tallies

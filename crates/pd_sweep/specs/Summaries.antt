@@ -1,6 +1,8 @@
 -- What is told of a whole run.
-use Rattle.std.specs.Prelude.{◌≡◌, ℕ, ◌+◌, ◌-◌, ◌==◌, ◌&&◌, Bool, true, false, List, length, fold, count_by, replicate, slice_set}
+use Rattle.std.specs.Prelude.{◌≡◌, ℕ, ◌-◌, ◌==◌, ◌&&◌, Bool, true, false, List, length, map, count_by, is_some}
 use Rattle.std.specs.Prelude.{Option, Some, None, if◌then◌else◌}
+use Rattle.std.specs.List.{flat_map, filter_map, last_or, list_any, range_with_len}
+use Rattle.std.specs.Option.{option_map_or}
 use Rattle.pd_objects.specs.declared.contract.Contract.{Contract}
 use Rattle.pd_line.specs.declared.notes.Fault.{Fault}
 use Rattle.pd_line.specs.declared.notes.Fault.TheVariants.{HardReset}
@@ -17,26 +19,35 @@ use Rattle.pd_sweep.specs.declared.summary.Summary.{Summary}
 
 -- ---- contracts
 
--- before the run no port has a contract
-abbrev pub nothing_stands : Standing
-nothing_stands = record { contracts = replicate 8 None; settled = 0 }
-
 -- the contract that a change leaves
 abbrev pub contract_left : ContractChange → Option Contract
 contract_left (Made c) = Some c
 contract_left Lost = None
 
--- a change of a port's contract, the ports being numbered from 1, and its time
-abbrev pub changed : Standing → ℕ → ℕ → Option ContractChange → Standing
-changed s port at None = s
-changed s port at (Some change) = record { contracts = slice_set s.contracts (port - 1) (contract_left change); settled = at }
+-- what a change leaves of what stood before it, where there is a change
+abbrev pub left_by : Option Contract → Option ContractChange → Option Contract
+left_by stood None = stood
+left_by stood (Some change) = contract_left change
 
-abbrev pub stands_after : Standing → ℕ × Entry → Standing
-stands_after s move = changed s move.0 move.1.at move.1.contract
+-- the change of a port's contract in an entry, the ports being numbered from 0 here
+abbrev pub change_of : ℕ → ℕ × Entry → Option ContractChange
+change_of port move = if move.0 - 1 == port then move.1.contract else None
 
--- the contracts at the end, and the time of the last change of one, 0 where there is none
-abbrev pub standing_of : List (ℕ × Entry) → Standing
-standing_of moves = fold stands_after nothing_stands moves
+-- the last change of a port's contract
+abbrev pub last_change : ℕ → List (ℕ × Entry) → Option ContractChange
+last_change port moves = last_or None (filter_map (change_of port) moves)
+
+-- when an entry changes a contract, where it does
+abbrev pub changed_at : ℕ × Entry → Option ℕ
+changed_at move = if is_some move.1.contract then Some move.1.at else None
+
+-- the contract of each of eight ports at the end, as its last change has left it, and the time of the last change of any, 0 where there
+-- is none
+unfoldable pub standing_of : List (ℕ × Entry) → Standing
+standing_of moves = record {
+  contracts = map (λ port. left_by None (last_change port moves)) (range_with_len 0 8);
+  settled = option_map_or (λ at. at) (last_or None (filter_map changed_at moves)) 0;
+}
 
 -- ---- faults
 
@@ -44,18 +55,13 @@ abbrev pub is_hard_reset : Fault → Bool
 is_hard_reset (HardReset side) = true
 is_hard_reset _ = false
 
-abbrev pub no_mishap : Mishaps
-no_mishap = record { faults = 0; hard_resets = 0 }
-
-abbrev pub mishaps_after : Mishaps → ℕ × Entry → Mishaps
-mishaps_after m move = record {
-  faults = m.faults + length move.1.faults.items;
-  hard_resets = m.hard_resets + count_by is_hard_reset move.1.faults.items;
-}
+-- the faults of a run, in its order
+abbrev pub faults_of : List (ℕ × Entry) → List Fault
+faults_of moves = flat_map (λ move. move.1.faults.items) moves
 
 -- how many faults there are, and how many of them are Hard Resets that a side begins
-abbrev pub mishaps_of : List (ℕ × Entry) → Mishaps
-mishaps_of moves = fold mishaps_after no_mishap moves
+unfoldable pub mishaps_of : List (ℕ × Entry) → Mishaps
+mishaps_of moves = record { faults = length (faults_of moves); hard_resets = count_by is_hard_reset (faults_of moves) }
 
 -- ---- both
 abbrev pub summary_of : List (ℕ × Entry) → Summary
@@ -72,17 +78,13 @@ is_made (Some Lost) = false
 abbrev pub makes : ℕ → Entry → Bool
 makes at entry = entry.at == at && is_made entry.contract
 
--- before the run
-abbrev pub nobody : Makers
-nobody = record { ports = replicate 8 false }
+-- it does on the port, the ports being numbered from 0 here
+abbrev pub makes_on : ℕ → ℕ → ℕ × Entry → Bool
+makes_on at port move = move.0 - 1 == port && makes at move.1
 
--- an entry of the instant that makes a contract marks its port, the ports being numbered from 1
-abbrev pub makers_after : ℕ → Makers → ℕ × Entry → Makers
-makers_after at m move = if makes at move.1 then record { ports = slice_set m.ports (move.0 - 1) true } else m
-
--- the ports of which a contract is made at the instant
-abbrev pub makers_at : ℕ → List (ℕ × Entry) → Makers
-makers_at at moves = fold (makers_after at) nobody moves
+-- of each of eight ports whether a contract of it is made at the instant
+unfoldable pub makers_at : ℕ → List (ℕ × Entry) → Makers
+makers_at at moves = record { ports = map (λ port. list_any (makes_on at port) moves) (range_with_len 0 8) }
 
 -- ---- what the contracts leave of the budget
 

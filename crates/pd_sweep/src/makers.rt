@@ -1,7 +1,8 @@
 //! The ports of which a contract is made at an instant.
 
 ghost use Rattle.std.specs.Prelude.{◌≡◌, ◌<◌, length, MatchOption, slice_get};
-ghost use Rattle.pd_sweep.specs.Summaries.{is_made, makers_after, makers_at, makes, nobody};
+ghost use Rattle.pd_sweep.specs.Along.{makers_after, nobody};
+ghost use Rattle.pd_sweep.specs.Summaries.{is_made, makers_at, makes};
 
 use crate::trial::place_at;
 use pd_port::{ContractChange, Entry};

@@ -1,8 +1,8 @@
 //! What is told of a whole run.
 
 ghost use Rattle.std.specs.Prelude.{◌≡◌, ◌+◌, ◌<◌, ◌≤◌, ◌^◌, count_by, length, MatchOption, slice_get};
-ghost use Rattle.pd_sweep.specs.Summaries.{contract_left, is_hard_reset, mishaps_after, mishaps_of, no_mishap, nothing_stands};
-ghost use Rattle.pd_sweep.specs.Summaries.{standing_of, stands_after, summary_of};
+ghost use Rattle.pd_sweep.specs.Along.{mishaps_after, no_mishap, nothing_stands, stands_after};
+ghost use Rattle.pd_sweep.specs.Summaries.{contract_left, is_hard_reset, mishaps_of, standing_of, summary_of};
 
 use pd_line::Fault;
 use pd_objects::Contract;

@@ -1,7 +1,8 @@
-use Rattle.std.proofs.Common.{None, arith}
+use Rattle.std.proofs.Common.{◌≤◌, length, None, ◌∙◌, arith}
 use Rattle.pd_run.specs.declared.note.Note.TheVariants as note
-use Rattle.pd_expect.specs.Sentences.{stands_after}
-use Rattle.pd_sweep.proofs.FoldLemmas.{fold_start, fold_step}
+use Rattle.pd_expect.specs.Along.{stands_after}
+use Rattle.pd_sweep.proofs.FoldLemmas.{fold_end, fold_start, fold_step}
+use Rattle.pd_expect.proofs.ContractLemmas.{contract_walked}
 use Rattle.pd_expect.proofs.QuietLemmas.{quiet_contract}
 use Rattle.pd_expect.proofs.contract.contract_at.Goals as goal
 
@@ -28,3 +29,10 @@ loop-index-preserved g c =
           next.ensures;
       within = next.ensures.within;
     }
+
+pub returns : goal.returns
+returns g c =
+    let moves = g.T.Runner.entries c.args.run.now in
+    let past : length moves ≤ c.loop-index.index = omega (arith, c.len.ensures.count, c.loop-index-test.false) in
+    c.loop-index.invariant.value ∙ fold_end (stands_after c.args.port c.args.at) None moves c.loop-index.index past
+    ∙ contract_walked c.args.port c.args.at moves

@@ -1,6 +1,6 @@
 use Rattle.std.proofs.Common.{◌≡◌, ◌-◌, ◌≤◌, None, length, take}
 use Rattle.std.specs.Prelude.{fold}
-use Rattle.pd_expect.specs.Sentences.{stands_after}
+use Rattle.pd_expect.specs.Along.{stands_after}
 use Rattle.pd_expect.proofs.contract.contract_at.Given as goal
 
 abbrev pub invariant-loop-index : goal.invariant-loop-index

@@ -1,4 +1,3 @@
-use Rattle.std.proofs.Common.{refl}
 use Rattle.pd_run_text.proofs.Read.{refused}
 use Rattle.pd_expect.proofs.texts.test_file.Goals as goal
 

@@ -1,9 +1,10 @@
-use Rattle.std.proofs.Common.{◌∙◌, arith, sym, take}
+use Rattle.std.proofs.Common.{◌≤◌, length, ◌∙◌, arith, sym, take}
 use Rattle.pd_run.specs.declared.note.Note.TheVariants as note
-use Rattle.pd_sweep.specs.Summaries.{makers_after, nobody}
-use Rattle.pd_sweep.proofs.FoldLemmas.{fold_from, fold_step}
+use Rattle.pd_sweep.specs.Along.{makers_after, nobody}
+use Rattle.pd_sweep.proofs.FoldLemmas.{fold_end, fold_from, fold_step}
 use Rattle.pd_sweep.proofs.PlaceLemmas.{none_made}
 use Rattle.pd_sweep.proofs.QuietLemmas.{quiet_maker}
+use Rattle.pd_sweep.proofs.WalkLemmas.{makers_walked}
 use Rattle.pd_sweep.proofs.makers.makers_of.Goals as goal
 
 pub loop-index-init : goal.loop-index-init
@@ -31,3 +32,9 @@ loop-index-preserved g c =
           next.ensures;
       within = next.ensures.within;
     }
+
+pub returns : goal.returns
+returns g c =
+    let moves = g.T.Runner.entries c.args.run.now in
+    let past : length moves ≤ c.loop-index.index = omega (arith, c.len.ensures.count, c.loop-index-test.false) in
+    c.loop-index.invariant.value ∙ fold_end (makers_after c.args.at) nobody moves c.loop-index.index past ∙ makers_walked c.args.at moves

@@ -1,6 +1,6 @@
 use Rattle.std.proofs.Common.{◌≡◌, ◌-◌, ◌≤◌, length, take}
 use Rattle.std.specs.Prelude.{fold}
-use Rattle.pd_sweep.specs.Summaries.{makers_after, nobody}
+use Rattle.pd_sweep.specs.Along.{makers_after, nobody}
 use Rattle.pd_sweep.proofs.makers.makers_of.Given as goal
 
 abbrev pub invariant-loop-index : goal.invariant-loop-index

@@ -1,9 +1,10 @@
 use Rattle.std.proofs.Common.{◌≡◌, ◌≤◌, ◌+◌, ◌<◌, length, ap, ◌∙◌, arith}
 use Rattle.pd_run.specs.declared.note.Note.TheVariants as note
-use Rattle.pd_sweep.specs.Summaries.{mishaps_after, no_mishap}
+use Rattle.pd_sweep.specs.Along.{mishaps_after, no_mishap}
 use Rattle.pd_sweep.specs.declared.summary.Mishaps.{Mishaps}
-use Rattle.pd_sweep.proofs.FoldLemmas.{fold_start, fold_step}
+use Rattle.pd_sweep.proofs.FoldLemmas.{fold_end, fold_start, fold_step}
 use Rattle.pd_sweep.proofs.QuietLemmas.{quiet_fault}
+use Rattle.pd_sweep.proofs.WalkLemmas.{mishaps_walked}
 use Rattle.pd_sweep.proofs.summary.mishaps_of.Goals as goal
 
 pub loop-index-init : goal.loop-index-init
@@ -34,3 +35,9 @@ loop-index-preserved g c =
       few = omega (arith, up, c.loop-index.invariant.few, c.note_at.ensures.few);
       few_resets = omega (arith, up, c.loop-index.invariant.few_resets, c.note_at.ensures.few_resets);
     }
+
+pub returns : goal.returns
+returns g c =
+    let moves = g.T.Runner.entries c.args.run.now in
+    let past : length moves ≤ c.loop-index.index = omega (arith, c.len.ensures.count, c.loop-index-test.false) in
+    c.loop-index.invariant.value ∙ fold_end mishaps_after no_mishap moves c.loop-index.index past ∙ mishaps_walked moves

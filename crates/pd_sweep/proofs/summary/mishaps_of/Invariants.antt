@@ -1,6 +1,6 @@
 use Rattle.std.proofs.Common.{◌≡◌, ◌-◌, ◌*◌, ◌≤◌, length, take}
 use Rattle.std.specs.Prelude.{fold}
-use Rattle.pd_sweep.specs.Summaries.{mishaps_after, no_mishap}
+use Rattle.pd_sweep.specs.Along.{mishaps_after, no_mishap}
 use Rattle.pd_sweep.proofs.summary.mishaps_of.Given as goal
 
 abbrev pub invariant-loop-index : goal.invariant-loop-index

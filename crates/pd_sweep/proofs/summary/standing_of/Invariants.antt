@@ -1,6 +1,6 @@
 use Rattle.std.proofs.Common.{◌≡◌, ◌-◌, ◌≤◌, length, take}
 use Rattle.std.specs.Prelude.{fold}
-use Rattle.pd_sweep.specs.Summaries.{stands_after, nothing_stands}
+use Rattle.pd_sweep.specs.Along.{stands_after, nothing_stands}
 use Rattle.pd_sweep.proofs.summary.standing_of.Given as goal
 
 abbrev pub invariant-loop-index : goal.invariant-loop-index
