@@ -44,7 +44,7 @@ def programs(words, usual=(BENCH, BOTH)):
     found = [pathlib.Path(word).resolve() for word in words] or usual
     for program in found:
         if not os.access(program, os.X_OK):
-            sys.exit(f"no program {program}: `rt ci` at the top, or `rt run` in its folder, builds it")
+            sys.exit(f"no program {program}: `rt ci`, or `tools/build` with its name, builds it")
     return found
 
 
