@@ -21,7 +21,7 @@ use Rattle.pd_scenario.specs.Plan.{Plan, count, settings_of, script_of, floors_o
 use Rattle.pd_run.specs.Order.{EachAfter}
 use Rattle.pd_run.specs.Run.{Move, Run, Standing, standing, after, taken_after, due_after, holds_after, account_after, reply_after}
 use Rattle.pd_run.specs.Run.{GoesOn, IsAnswered, IsInOrder, NoneLater}
-use Rattle.pd_run.specs.UpTo.{before, IsUpTo, until, AgreeIn, AreAlike, StandsBeside, GoOnAlike}
+use Rattle.pd_run.specs.UpTo.{before, IsUpTo, until, AgreeIn, AreAlike, PortIsAlike, PortsGoOnAlike, StandsBeside, GoOnAlike}
 use Rattle.pd_run.proofs.Moves.{standing-same, standing-other}
 use Rattle.pd_run.proofs.Steps.{some_event}
 use Rattle.pd_run.proofs.Taken.{taken_is}
@@ -138,11 +138,9 @@ go_on to (x ∷ xs) (y ∷ ys) e h get lt =
 
 -- Where the ports stand, and what is left of their scripts.
 
--- each port has the same record, and the same events left before a time
+-- each port stands alike
 abbrev pub StandAlike : Plan → Plan → ℕ → List Move → List Move → Type 0
-StandAlike a b to past more = (p : ℕ) → p < count a →
-    ((standing a past p).state ≡ (standing b more p).state)
-    × (until to (drop (standing a past p).taken (script_of a p)) ≡ until to (drop (standing b more p).taken (script_of b p)))
+StandAlike a b to past more = (p : ℕ) → p < count a → PortIsAlike a b past more p to
 
 same_below : (to : ℕ) (es fs : List EventData) (t u : ℕ) → until to (drop t es) ≡ until to (drop u fs)
     → SameBelow to (slice_get es t) (slice_get fs u)
@@ -150,19 +148,17 @@ same_below to es fs t u h = λ e get lt.
     get_from fs u ∙ (go_on to (drop t es) (drop u fs) e h (sym (get_from es t) ∙ get) lt).next
 
 -- the due of a port before a time is that of the other
-due_alike : (a b : Plan) (to : ℕ) (past more : List Move) (p : ℕ) (d : Due) → StandAlike a b to past more → p < count a
+due_alike : (a b : Plan) (to : ℕ) (past more : List Move) (p : ℕ) (d : Due) → PortIsAlike a b past more p to
     → due_after a past p ≡ Some d → d.time < to → due_after b more p ≡ Some d
-due_alike a b to past more p d s lt e early =
-    let h = s p lt in
-    same_due _ _ _ _ d to h.0 e early (same_below to (script_of a p) (script_of b p) _ _ h.1)
-    (same_below to (script_of b p) (script_of a p) _ _ (sym h.1))
+due_alike a b to past more p d s e early =
+    same_due _ _ _ _ d to s.records e early (same_below to (script_of a p) (script_of b p) _ _ s.events)
+    (same_below to (script_of b p) (script_of a p) _ _ (sym s.events))
 
-due_back : (a b : Plan) (to : ℕ) (past more : List Move) (p : ℕ) (d : Due) → StandAlike a b to past more → p < count a
+due_back : (a b : Plan) (to : ℕ) (past more : List Move) (p : ℕ) (d : Due) → PortIsAlike a b past more p to
     → due_after b more p ≡ Some d → d.time < to → due_after a past p ≡ Some d
-due_back a b to past more p d s lt e early =
-    let h = s p lt in
-    same_due _ _ _ _ d to (sym h.0) e early (same_below to (script_of b p) (script_of a p) _ _ (sym h.1))
-    (same_below to (script_of a p) (script_of b p) _ _ h.1)
+due_back a b to past more p d s e early =
+    same_due _ _ _ _ d to (sym s.records) e early (same_below to (script_of b p) (script_of a p) _ _ (sym s.events))
+    (same_below to (script_of a p) (script_of b p) _ _ s.events)
 
 -- what is left after a due
 left_after : (a b : Plan) (to : ℕ) (p t u : ℕ) (r : PortRecord) (d : Due) → due r (slice_get (script_of a p) t) ≡ Some d → d.time < to
@@ -183,31 +179,54 @@ left_after a b to p t u r d e early h =
           ∙ ap (λ (c : Bool). until to (drop (cond c (u + 1) u) (script_of b p))) (sym isnt)
     ]
 
--- the ports stand alike after one more move of both
-stand_on : (a b : Plan) (to : ℕ) (past more : List Move) (m : Move) → a.settings ≡ b.settings → StandAlike a b to past more
-    → GoesOn a past m → m.due.time < to → StandAlike a b to (past ++ m ∷ []) (more ++ m ∷ [])
-stand_on a b to past more m set s goes early = λ p lt.
-    ⊎_elim
-    (λ (same : m.port ≡ p).
-    let h = s p lt in
+-- a move of both leaves its port alike
+stands_on : (a b : Plan) (to : ℕ) (past more : List Move) (m : Move) (p : ℕ) → m.port ≡ p → PortIsAlike a b past more p to
+    → GoesOn a past m → m.due.time < to → PortIsAlike a b (past ++ m ∷ []) (more ++ m ∷ []) p to
+stands_on a b to past more m p same s goes early =
     let in_a = standing-same a past m p same in
     let in_b = standing-same b more m p same in
     let is_due : due_after a past p ≡ Some m.due = ap (due_after a past) (sym same) ∙ goes.due_is in
-    let left = left_after a b to p (standing a past p).taken (standing b more p).taken (standing a past p).state m.due is_due early h.1 in
+    let left = left_after a b to p (standing a past p).taken (standing b more p).taken (standing a past p).state m.due is_due early
+    s.events in
     let state : after a m ≡ after b m =
-    ap (λ (l : List SettingsData). record_after (get_or l m.port no_settings) m.before m.due m.answer) set in (
-      ap (λ (x : Standing). x.state) in_a ∙ state ∙ ap (λ (x : Standing). x.state) (sym in_b),
-      ap (λ (x : Standing). until to (drop x.taken (script_of a p))) in_a ∙ left
-          ∙ ap (λ (x : Standing). until to (drop x.taken (script_of b p))) (sym in_b),
-    ))
-    (λ (other : m.port ≢ p).
-    let h = s p lt in
+    ap (λ q. record_after (settings_of a q) m.before m.due m.answer) same
+    ∙ ap (λ (x : SettingsData). record_after x m.before m.due m.answer) s.settings
+    ∙ ap (λ q. record_after (settings_of b q) m.before m.due m.answer) (sym same) in
+    record {
+      settings = s.settings;
+      records = ap (λ (x : Standing). x.state) in_a ∙ state ∙ ap (λ (x : Standing). x.state) (sym in_b);
+      events = ap (λ (x : Standing). until to (drop x.taken (script_of a p))) in_a ∙ left
+          ∙ ap (λ (x : Standing). until to (drop x.taken (script_of b p))) (sym in_b);
+    }
+
+-- and moves of other ports leave it so too
+stands_aside : (a b : Plan) (to : ℕ) (past more : List Move) (m : Move) (p : ℕ) → m.port ≢ p → PortIsAlike a b past more p to
+    → PortIsAlike a b (past ++ m ∷ []) more p to
+stands_aside a b to past more m p other s =
     let in_a = standing-other a past m p other in
-    let in_b = standing-other b more m p other in (
-      ap (λ (x : Standing). x.state) in_a ∙ h.0 ∙ ap (λ (x : Standing). x.state) (sym in_b),
-      ap (λ (x : Standing). until to (drop x.taken (script_of a p))) in_a ∙ h.1
-          ∙ ap (λ (x : Standing). until to (drop x.taken (script_of b p))) (sym in_b),
-    ))
+    record {
+      settings = s.settings;
+      records = ap (λ (x : Standing). x.state) in_a ∙ s.records;
+      events = ap (λ (x : Standing). until to (drop x.taken (script_of a p))) in_a ∙ s.events;
+    }
+
+pub stands_aside_too : (a b : Plan) (to : ℕ) (past more : List Move) (m : Move) (p : ℕ) → m.port ≢ p → PortIsAlike a b past more p to
+    → PortIsAlike a b past (more ++ m ∷ []) p to
+stands_aside_too a b to past more m p other s =
+    let in_b = standing-other b more m p other in
+    record {
+      settings = s.settings;
+      records = s.records ∙ ap (λ (x : Standing). x.state) (sym in_b);
+      events = s.events ∙ ap (λ (x : Standing). until to (drop x.taken (script_of b p))) (sym in_b);
+    }
+
+-- the ports stand alike after one more move of both
+stand_on : (a b : Plan) (to : ℕ) (past more : List Move) (m : Move) → StandAlike a b to past more → GoesOn a past m → m.due.time < to
+    → StandAlike a b to (past ++ m ∷ []) (more ++ m ∷ [])
+stand_on a b to past more m s goes early = λ p lt.
+    ⊎_elim
+    (λ (same : m.port ≡ p). stands_on a b to past more m p same (s p lt) goes early)
+    (λ (other : m.port ≢ p). stands_aside a b to past (more ++ m ∷ []) m p other (stands_aside_too a b to past more m p other (s p lt)))
     (cases_eq m.port p)
 
 -- Moves of the one are moves of the other.
@@ -215,13 +234,13 @@ stand_on a b to past more m set s goes early = λ p lt.
 pub same_count : (a b : Plan) → a.settings ≡ b.settings → count a ≡ count b
 same_count a b set = ap length set
 
-goes_on_too : (a b : Plan) (to : ℕ) (past more : List Move) (m : Move) → a.settings ≡ b.settings → StandAlike a b to past more
+goes_on_too : (a b : Plan) (to : ℕ) (past more : List Move) (m : Move) → m.port < count b → PortIsAlike a b past more m.port to
     → GoesOn a past m → m.due.time < to → GoesOn b more m
-goes_on_too a b to past more m set s goes early = record {
-  known = omega (arith, goes.known, same_count a b set);
-  before_is = goes.before_is ∙ (s m.port goes.known).0;
-  due_is = due_alike a b to past more m.port m.due s goes.known goes.due_is early;
-  entry_is = goes.entry_is ∙ ap (λ (l : List SettingsData). entry_of (get_or l m.port no_settings) m.before m.due m.answer) set;
+goes_on_too a b to past more m known s goes early = record {
+  known = known;
+  before_is = goes.before_is ∙ s.records;
+  due_is = due_alike a b to past more m.port m.due s goes.due_is early;
+  entry_is = goes.entry_is ∙ ap (λ (x : SettingsData). entry_of x m.before m.due m.answer) s.settings;
 }
 
 -- tables that are the same at each place
@@ -238,7 +257,7 @@ same_holds : (a b : Plan) (to : ℕ) (past more : List Move) → a.settings ≡ 
     → holds_after a past ≡ holds_after b more
 same_holds a b to past more set s =
     same_map _ _ (count a) (λ k lt. ap (λ (l : List SettingsData). hold (get_or l k no_settings) (standing a past k).state) set
-    ∙ ap (hold (settings_of b k)) (s k lt).0)
+    ∙ ap (hold (settings_of b k)) (s k lt).records)
     ∙ ap (λ n. map (λ p. hold (settings_of b p) (standing b more p).state) (range_with_len 0 n)) (same_count a b set)
 
 answered_too : (a b : Plan) (to : ℕ) (past more : List Move) (m : Move) → a.settings ≡ b.settings → StandAlike a b to past more
@@ -268,10 +287,13 @@ go_together a b from to past more [] set s goes inside = record {
 }
 go_together a b from to past more (m ∷ ms) set s goes inside =
     let here = All-head (IsIn from to) m ms inside in
-    let on = go_together a b from to (past ++ m ∷ []) (more ++ m ∷ []) ms set (stand_on a b to past more m set s goes.0 here.1) goes.1
+    let on = go_together a b from to (past ++ m ∷ []) (more ++ m ∷ []) ms set (stand_on a b to past more m s goes.0 here.1) goes.1
     (All-tail (IsIn from to) m ms inside) in
     record {
-      chained = (goes_on_too a b to past more m set s goes.0 here.1, on.chained);
+      chained = (
+        goes_on_too a b to past more m (omega (arith, goes.0.known, same_count a b set)) (s m.port goes.0.known) goes.0 here.1,
+        on.chained,
+      );
       alike = subst (λ (l : List Move). StandAlike a b to l (more ++ m ∷ ms)) (append_assoc past (m ∷ []) ms)
           (subst (λ (l : List Move). StandAlike a b to ((past ++ m ∷ []) ++ ms) l) (append_assoc more (m ∷ []) ms) on.alike);
     }
@@ -283,7 +305,7 @@ answered_together a b from to past more [] set budget s goes answered inside = t
 answered_together a b from to past more (m ∷ ms) set budget s goes answered inside =
     let here = All-head (IsIn from to) m ms inside in (
       answered_too a b to past more m set s (budget m.due.time here.0 here.1) answered.0,
-      answered_together a b from to (past ++ m ∷ []) (more ++ m ∷ []) ms set budget (stand_on a b to past more m set s goes.0 here.1)
+      answered_together a b from to (past ++ m ∷ []) (more ++ m ∷ []) ms set budget (stand_on a b to past more m s goes.0 here.1)
           goes.1 answered.1 (All-tail (IsIn from to) m ms inside),
     )
 
@@ -308,14 +330,14 @@ order_together from to past more done (m ∷ ms) earlier inside h =
           (subst (λ (l : List Move). EachAfter IsInOrder l ms) (append_assoc past done (m ∷ [])) h.1)),
     )
 
-abbrev EndTogether : Plan → Plan → ℕ → Type 0
+abbrev pub EndTogether : Plan → Plan → ℕ → Type 0
 EndTogether a b to = (a.end ≡ b.end) ⊎ ((to ≤ a.end) × (to ≤ b.end))
 
-in_both : (a b : Plan) (to t : ℕ) → EndTogether a b to → t < to → t ≤ a.end → t ≤ b.end
+pub in_both : (a b : Plan) (to t : ℕ) → EndTogether a b to → t < to → t ≤ a.end → t ≤ b.end
 in_both a b to t (inl e) lt le = omega arith
 in_both a b to t (inr e) lt le = let f = e.1 in omega arith
 
-in_both_back : (a b : Plan) (to t : ℕ) → EndTogether a b to → t < to → t ≤ b.end → t ≤ a.end
+pub in_both_back : (a b : Plan) (to t : ℕ) → EndTogether a b to → t < to → t ≤ b.end → t ≤ a.end
 in_both_back a b to t (inl e) lt le = omega arith
 in_both_back a b to t (inr e) lt le = let f = e.0 in omega arith
 
@@ -362,10 +384,13 @@ begin_alike : (a b : Plan) (moves more mid : List Move) (from to : ℕ) → Stan
 begin_alike a b moves more mid from to s = λ p lt.
     let past : List Move = before from moves in
     let had_a = taken_is a past from p (run_up_to a moves from s.run) s.soon lt in
-    let had_b = taken_is b more from p s.up s.soon_too (omega (arith, same_count a b s.alike.settings)) in (
-      s.alike.records p lt,
-      ap (λ n. until to (drop n (script_of a p))) had_a ∙ s.scripts.events p lt ∙ ap (λ n. until to (drop n (script_of b p))) (sym had_b),
-    )
+    let had_b = taken_is b more from p s.up s.soon_too (omega (arith, same_count a b s.alike.settings)) in
+    record {
+      settings = ap (λ (l : List SettingsData). get_or l p no_settings) s.alike.settings;
+      records = s.alike.records p lt;
+      events = ap (λ n. until to (drop n (script_of a p))) had_a ∙ s.scripts.events p lt
+          ∙ ap (λ n. until to (drop n (script_of b p))) (sym had_b);
+    }
 
 -- the moves in between go on in the other too
 together : (a b : Plan) (moves more mid : List Move) (from to : ℕ) → StandsBeside a b moves more mid from to
@@ -406,13 +431,13 @@ go_alike a b moves more mid from to s answered =
           let k : p < count a = omega (arith, same_count a b s.alike.settings) in
           ⊎_elim
           (λ (early : d.time < to).
-          old_up.passed p d k (due_back a b to (past ++ mid) (more ++ mid) p d on.alike k e early)
+          old_up.passed p d k (due_back a b to (past ++ mid) (more ++ mid) p d (on.alike p k) e early)
           (in_both_back a b to d.time s.scripts.ends early soon))
           (λ (late : to ≤ d.time). late)
           (cases_lt d.time to)),
       record {
         settings = s.alike.settings;
-        records = λ p lt. ap (λ (l : List Move). (standing a l p).state) s.is_between ∙ (on.alike p lt).0;
+        records = λ p lt. ap (λ (l : List Move). (standing a l p).state) s.is_between ∙ (on.alike p lt).records;
       },
     )
 
@@ -427,3 +452,18 @@ answered_alike a b moves more mid from to s agree =
 pub they_go_on_alike : GoOnAlike
 they_go_on_alike = λ a b moves more mid from to s.
     (chained_alike a b moves more mid from to s, go_alike a b moves more mid from to s)
+
+pub each_goes_on_alike : PortsGoOnAlike
+each_goes_on_alike = λ a b moves others p to known s. record {
+  dues = λ d early. (
+    λ e. due_alike a b to moves others p d s e early,
+    λ e. due_back a b to moves others p d s e early,
+  );
+  moves_on = λ m same early goes.
+      let at : PortIsAlike a b moves others m.port to = subst (λ q. PortIsAlike a b moves others q to) (sym same) s in (
+        goes_on_too a b to moves others m (omega (arith, same, known)) at goes early,
+        stands_on a b to moves others m p same s goes early,
+      );
+  aside = λ m other. stands_aside a b to moves others m p other s;
+  aside_too = λ m other. stands_aside_too a b to moves others m p other s;
+}

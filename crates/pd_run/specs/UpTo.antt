@@ -1,10 +1,10 @@
 -- A run up to a time, and plans that ask the same from one time to another.
-use Rattle.std.specs.Prelude.{◌≡◌, ◌⊎◌, ℕ, ◌<◌, ◌≤◌, ◌++◌, nat_lt, if◌then◌else◌, List, [], ◌∷◌, length, drop, All, Some, filter}
+use Rattle.std.specs.Prelude.{◌≡◌, ◌⊎◌, ◌↔◌, ℕ, ◌<◌, ◌≤◌, ◌++◌, nat_lt, if◌then◌else◌, List, [], ◌∷◌, length, drop, All, Some, filter}
 use Rattle.std.specs.Prelude.{slice_index_or}
 use Rattle.pd_setup.specs.Events.{EventData}
 use Rattle.pd_port.specs.declared.due.Due.{Due}
 use Rattle.pd_port.specs.Port.{PortData}
-use Rattle.pd_scenario.specs.Plan.{Plan, count, script_of, force}
+use Rattle.pd_scenario.specs.Plan.{Plan, count, settings_of, script_of, force}
 use Rattle.pd_run.specs.declared.beside.Agreement.{Agreement}
 use Rattle.pd_run.specs.declared.beside.Agreement.TheVariants as agreement
 use Rattle.pd_run.specs.Run.{Move, Run, standing, due_after, GoesOn, IsAnswered}
@@ -60,6 +60,31 @@ AgreeAs agreement.Both a b from to = AgreeIn a b from to
 pub record AreAlike (a : Plan) (moves : List Move) (b : Plan) (others : List Move) : Type 0 where
   pub settings : a.settings ≡ b.settings
   pub records : (p : ℕ) → p < count a → (standing a moves p).state ≡ (standing b others p).state
+
+-- the events that a port has left before a time, after these moves
+abbrev pub events_left : Plan → List Move → ℕ → ℕ → List EventData
+events_left plan moves p to = until to (drop (standing plan moves p).taken (script_of plan p))
+
+-- After these moves a port of one plan stands as that of another after others: with the same settings and record, and with the same
+-- events left before a time.
+pub record PortIsAlike (a b : Plan) (moves others : List Move) (p to : ℕ) : Type 0 where
+  pub settings : settings_of a p ≡ settings_of b p
+  pub records : (standing a moves p).state ≡ (standing b others p).state
+  pub events : events_left a moves p to ≡ events_left b others p to
+
+-- Until that time the same falls due on both, and a move of the one goes on in the other and leaves the port alike again. Moves of other
+-- ports, of either plan, leave it so too.
+pub record PortGoesOn (a b : Plan) (moves others : List Move) (p to : ℕ) : Type 0 where
+  pub dues : (d : Due) → d.time < to → (due_after a moves p ≡ Some d) ↔ (due_after b others p ≡ Some d)
+  pub moves_on : (m : Move) → m.port ≡ p → m.due.time < to → GoesOn a moves m
+      → GoesOn b others m × PortIsAlike a b (moves ++ m ∷ []) (others ++ m ∷ []) p to
+  pub aside : (m : Move) → (m.port ≡ p → ⊥) → PortIsAlike a b (moves ++ m ∷ []) others p to
+  pub aside_too : (m : Move) → (m.port ≡ p → ⊥) → PortIsAlike a b moves (others ++ m ∷ []) p to
+
+-- So does a port that stands alike.
+abbrev pub PortsGoOnAlike : Type 0
+PortsGoOnAlike = (a b : Plan) (moves others : List Move) (p to : ℕ) → p < count b → PortIsAlike a b moves others p to
+    → PortGoesOn a b moves others p to
 
 -- Of a run that has these moves from one time to another, the ports stand at the first time as those of another that has come up to it,
 -- and both plans have the same scripts from then on.

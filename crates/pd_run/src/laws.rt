@@ -3,7 +3,7 @@
 ghost use Rattle.pd_run.specs.Laws.{OneRun, AlwaysFit, ContractsAlwaysFit};
 ghost use Rattle.pd_run.specs.Sheds.{ShedsAlwaysLast};
 ghost use Rattle.pd_run.specs.Sound.{RunsAreSound};
-ghost use Rattle.pd_run.specs.UpTo.{GoOnAlike, AnsweredAlike};
+ghost use Rattle.pd_run.specs.UpTo.{GoOnAlike, AnsweredAlike, PortsGoOnAlike};
 
 /// A plan has at most one run.
 pub fn one_run()
@@ -33,6 +33,12 @@ pub fn sheds_last()
 /// current: at 5,000 mA where it is for 5 A and its plug acknowledges, and else at 3,000 mA.
 pub fn sound()
     ensures { RunsAreSound }
+{}
+
+/// A port that stands alike, and has the same events left before a time, moves alike until then, whatever other ports do, as long as it
+/// is answered alike: each move of it that goes on in the one run goes on in the other.
+pub fn port_goes_on_alike()
+    ensures { PortsGoOnAlike }
 {}
 
 /// Ports that stand alike move alike for as long as both plans have the same scripts and what they ask is answered alike: until then
