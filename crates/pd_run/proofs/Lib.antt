@@ -3,6 +3,7 @@ pub mod Awaited
 pub mod Contracts
 pub mod Cut
 pub mod First
+pub mod Follow
 pub mod Forces
 pub mod Held
 pub mod Moves

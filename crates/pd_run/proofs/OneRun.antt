@@ -67,7 +67,7 @@ make : ℕ → PortRecord → Due → Option Answer → Entry → Move
 make p b d a e = record { port = p; before = b; due = d; answer = a; entry = e }
 
 -- two moves of one port are one
-same_move : (plan : Plan) (past : List Move) (x y : Move) → GoesOn plan past x → GoesOn plan past y → IsAnswered plan past x
+pub same_move : (plan : Plan) (past : List Move) (x y : Move) → GoesOn plan past x → GoesOn plan past y → IsAnswered plan past x
     → IsAnswered plan past y → x.port ≡ y.port → x ≡ y
 unfolding make
 same_move plan past x y gx gy ax ay e =

@@ -25,8 +25,9 @@ use Rattle.pd_scenario.specs.Plan.{Plan, IsPlan, count, settings_of, script_of, 
 use Rattle.pd_run.specs.Run.{Move, Standing, standing, moved, after, taken_after, due_after, account_after, holds_after, reply_after}
 use Rattle.pd_run.specs.Start.{start_of, no_port}
 use Rattle.pd_run.specs.Live.{LiveData, RunsTo, StandsAfter, IsFirst, IsNext, at_budget, due_at, next_move, port_at, port_after}
-use Rattle.pd_run.specs.Live.{reply_at, moved_port, asked_due, HasMoved}
+use Rattle.pd_run.specs.Live.{reply_at, moved_port, moved_live, asked_due, HasMoved, IsNextBeside, HasMovedBeside}
 use Rattle.pd_run.proofs.Moves.{standing-same, standing-other, due_after-other}
+use Rattle.pd_run.proofs.Runs.{runs_step}
 
 -- a table with one entry changed
 pub table-set : {X : Type 0} (f g : ℕ → X) (n p : ℕ) (y : X) → p < n → ((k : ℕ) → k ≢ p → g k ≡ f k) → g p ≡ y
@@ -322,3 +323,55 @@ renewed_fits plan past before port d live h hm h_is =
     let least = hold_floor (settings_of plan p) (after plan m) in
     subst (λ (l : LiveData). (slice_index l.account.floors p ≤ h) × (h ≤ max (free_of l.account p) (slice_index l.account.holds p)))
     (sym hm.moved) (omega arith, omega arith)
+
+-- Where the port that moves stands as where all ports stand.
+
+port_moved : ℕ → Due → PortData → Account → PortData
+port_moved p d x a = record {
+  settings = x.settings;
+  port_record = record_after x.settings x.port_record d (option_map (answer_of a p) (ask x.settings x.port_record d));
+}
+
+-- its move leaves it alike
+pub moved_beside : (plan : Plan) (past : List Move) (whole : LiveData) (port : ℕ) (d : Due) (live : LiveData)
+    → IsNextBeside plan past whole port d live → moved_port live (port - 1) d ≡ moved_port whole (port - 1) d
+unfolding port_moved
+moved_beside plan past whole port d live h =
+    let p = port - 1 in
+    let there : port_moved p d (port_at live p) live.account ≡ port_moved p d (port_at whole p) whole.account =
+    ap (λ (x : PortData). port_moved p d x live.account) h.port_is ∙ ap (port_moved p d (port_at whole p)) h.account_is in
+    there
+
+-- all of it after its move, where all ports stand
+pub StandsAfter-moved : (n : ℕ) (plan : Plan) (past : List Move) (live : LiveData) (port : ℕ) (d : Due) → IsPlan n plan
+    → StandsAfter plan past live → IsNext plan live port d → live.account.budget ≡ force plan d.time
+    → StandsAfter plan (past ++ next_move plan past (port - 1) d ∷ []) (moved_live plan live (port - 1) d)
+StandsAfter-moved n plan past live port d is s next budget =
+    let p = port - 1 in
+    let moved : LiveData = record live { ports = slice_set live.ports p (moved_port live p d) } in
+    let hm : HasMoved plan past live port d moved = record { stood = s; next = next; budget = budget; moved = refl } in
+    StandsAfter-renewed n plan past live port d moved _ _ _ is hm (runs_step n plan past live p d is s next.first) refl refl refl
+
+-- the hold that it has moved to is no less than its floor, and no more than was free, or than it was
+pub beside_fits : (plan : Plan) (past : List Move) (whole before : LiveData) (port : ℕ) (d : Due) (live : LiveData) (h : ℕ)
+    → HasMovedBeside plan past whole before port d live → port - 1 < length live.ports
+    → h ≡ hold (port_at live (port - 1)).settings (port_at live (port - 1)).port_record
+    → (slice_index live.account.floors (port - 1) ≤ h)
+    × (h ≤ max (free_of live.account (port - 1)) (slice_index live.account.holds (port - 1)))
+beside_fits plan past whole before port d live h hm inside h_is =
+    let p = port - 1 in
+    let next = hm.next in
+    let s = next.stood in
+    let x : PortData = moved_port before p d in
+    let y : PortData = moved_port whole p d in
+    let moved : LiveData = record whole { ports = slice_set whole.ports p y } in
+    let there : HasMoved plan past whole port d moved =
+    record { stood = s; next = next.next; budget = next.budget; moved = refl } in
+    let as_long : length live.ports ≡ length before.ports = ap (λ (l : LiveData). length l.ports) hm.moved ∙ length-set before.ports p x in
+    let x_at : port_at live p ≡ x = ap (λ (l : LiveData). port_at l p) hm.moved
+    ∙ get_or-set_same before.ports p x no_port (omega arith) in
+    let y_at : port_at moved p ≡ y = get_or-set_same whole.ports p y no_port (omega (arith, s.ports_count, next.next.first.known)) in
+    let same : port_at live p ≡ port_at moved p = x_at ∙ moved_beside plan past whole port d before next ∙ sym y_at in
+    let fits = renewed_fits plan past whole port d moved h there (h_is ∙ ap (λ (z : PortData). hold z.settings z.port_record) same) in
+    subst (λ (a : Account). (slice_index a.floors p ≤ h) × (h ≤ max (free_of a p) (slice_index a.holds p)))
+    (sym (ap (λ (l : LiveData). l.account) hm.moved ∙ next.account_is)) fits

@@ -1,14 +1,15 @@
 -- Ports that move.
-use Rattle.std.specs.Prelude.{◌≡◌, ℕ, ◌-◌, ◌<◌, ◌≤◌, List, [], length, slice_index, slice_index_or, slice_set, slice_get}
+use Rattle.std.specs.Prelude.{◌≡◌, ℕ, ◌+◌, ◌-◌, ◌<◌, ◌≤◌, Bool, true, false, if◌then◌else◌, List, [], length}
+use Rattle.std.specs.Prelude.{slice_index, slice_index_or, slice_set, slice_get}
 use Rattle.std.specs.Prelude.{Option, None, Some, option_map}
 use Rattle.pd_objects.specs.declared.query.Answer.{Answer}
 use Rattle.pd_port.specs.declared.due.Due.{Due}
-use Rattle.pd_port.specs.Port.{PortData, due, ask, entry_of, record_after}
+use Rattle.pd_port.specs.Port.{PortData, due, ask, entry_of, hold, record_after}
 use Rattle.pd_ledger.specs.Account.{Account}
 use Rattle.pd_ledger.specs.Offer.{answer_of}
 use Rattle.pd_scenario.specs.Plan.{Plan, count, settings_of, script_of, floors_of, force}
 use Rattle.pd_run.specs.Order.{EachAfter, IsNoLater}
-use Rattle.pd_run.specs.Run.{Move, standing, due_after, holds_after, reply_after, GoesOn, IsInOrder, NoneLater, IsAnswered}
+use Rattle.pd_run.specs.Run.{Move, standing, taken_after, due_after, holds_after, reply_after, GoesOn, IsInOrder, NoneLater, IsAnswered}
 use Rattle.pd_run.specs.Start.{no_port}
 
 -- the ports, how many events each has had, what is kept of what falls due next on each, and the shared budget
@@ -106,6 +107,30 @@ pub record IsNext (plan : Plan) (live : LiveData) (port : ℕ) (d : Due) : Type 
   pub from_one : 1 ≤ port
   pub first : IsFirst plan live (port - 1) d
 
+-- a port has moved to where it stands, and what its move changes beside it is as it stands now: how many events it has had, what is kept
+-- of its due, and its hold
+abbrev pub renewed : Plan → LiveData → ℕ → Due → LiveData
+renewed plan live p d = record {
+  ports = live.ports;
+  taken = slice_set live.taken p (taken_after (slice_index live.taken p) d);
+  dues = slice_set live.dues p (asked_due plan live p (taken_after (slice_index live.taken p) d));
+  account = record live.account { holds = slice_set live.account.holds p (hold (port_at live p).settings (port_at live p).port_record) };
+}
+
+-- the same after the port's move for a due
+abbrev pub moved_live : Plan → LiveData → ℕ → Due → LiveData
+moved_live plan live p d = renewed plan (record live { ports = slice_set live.ports p (moved_port live p d) }) p d
+
+-- A port, which is numbered from 1 here, is the next one where all ports stand, and it stands there too, with the same shared budget;
+-- other ports needn't.
+pub record IsNextBeside (plan : Plan) (past : List Move) (whole : LiveData) (port : ℕ) (d : Due) (live : LiveData) : Type 0 where
+  pub stood : StandsAfter plan past whole
+  pub next : IsNext plan whole port d
+  pub budget : whole.account.budget ≡ force plan d.time
+  pub port_is : port_at live (port - 1) ≡ port_at whole (port - 1)
+  pub taken_is : live.taken ≡ whole.taken
+  pub account_is : live.account ≡ whole.account
+
 -- The next port, which is numbered from 1 here, has moved for what was due, and all else is as it was before: how many events
 -- the port has had, what is kept of its due, and its hold are still to be renewed.
 pub record HasMoved (plan : Plan) (past : List Move) (before : LiveData) (port : ℕ) (d : Due) (live : LiveData) : Type 0 where
@@ -113,6 +138,41 @@ pub record HasMoved (plan : Plan) (past : List Move) (before : LiveData) (port :
   pub next : IsNext plan before port d
   pub budget : before.account.budget ≡ force plan d.time
   pub moved : live ≡ record before { ports = slice_set before.ports (port - 1) (moved_port before (port - 1) d) }
+
+-- the next port has moved so beside others
+pub record HasMovedBeside (plan : Plan) (past : List Move) (whole before : LiveData) (port : ℕ) (d : Due) (live : LiveData) : Type 0 where
+  pub next : IsNextBeside plan past whole port d before
+  pub moved : live ≡ record before { ports = slice_set before.ports (port - 1) (moved_port before (port - 1) d) }
+
+-- so many events a port has had after a move, where it was for an event or not
+abbrev pub had_with : ℕ → Bool → ℕ
+had_with taken is_event = if is_event then taken + 1 else taken
+
+-- a port that follows another run has moved as there for a due, with an answer by the budget of its time, and holds so much
+abbrev pub followed : Plan → LiveData → ℕ → Due → ℕ → LiveData
+followed plan live p d left = record live {
+  taken = slice_set live.taken p (taken_after (slice_index live.taken p) d);
+  account = record live.account { budget = force plan d.time; holds = slice_set live.account.holds p left };
+}
+
+-- a port that followed another run moves for itself, from where it stands
+abbrev pub taken_up : Plan → LiveData → ℕ → PortData → LiveData
+taken_up plan live p x = record live {
+  ports = slice_set live.ports p x;
+  dues = slice_set live.dues p (due x.port_record (slice_get (script_of plan p) (slice_index live.taken p)));
+}
+
+-- Of the ports those that are marked follow another run: nothing is kept of what falls due on them, and they needn't stand where these
+-- moves have left them. All else is as where all ports stand.
+pub record StandsBut (plan : Plan) (past : List Move) (away : List Bool) (whole live : LiveData) : Type 0 where
+  pub stands : StandsAfter plan past whole
+  pub ports_count : length live.ports ≡ count plan
+  pub dues_count : length live.dues ≡ count plan
+  pub taken_is : live.taken ≡ whole.taken
+  pub account_is : live.account ≡ whole.account
+  pub ports_are : (p : ℕ) → p < count plan → slice_index_or away p false ≡ false → port_at live p ≡ port_at whole p
+  pub dues_are : (p : ℕ) → p < count plan → slice_index_or away p false ≡ false → due_at live p ≡ due_at whole p
+  pub gone : (p : ℕ) → p < count plan → slice_index_or away p false ≡ true → due_at live p ≡ None
 
 -- there are n ports
 pub record HasPorts (n : ℕ) (live : LiveData) : Type 0 where

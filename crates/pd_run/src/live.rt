@@ -1,22 +1,24 @@
 //! Ports that move.
 
 ghost use Rattle.std.specs.Prelude.{◌≡◌, ℕ, ◌+◌, ◌-◌, ◌<◌, ◌≤◌, ◌∷◌, ◌++◌, ◌↔◌, List, [], None, true, length, max};
-ghost use Rattle.std.specs.Prelude.{IfOk, OnOk, OnErr, IfSome, IfNone, MatchOption, IsTrue, ⊤};
+ghost use Rattle.std.specs.Prelude.{IfOk, OnOk, OnErr, IfSome, IfNone, MatchOption, IsTrue, IsFalse, ⊤};
 ghost use Rattle.std.specs.Prelude.{option_map, slice_get, slice_index, slice_index_or, slice_set};
 ghost use Rattle.pd_port.specs.Meter.{raised};
-ghost use Rattle.pd_port.specs.Port.{is_event, due, hold};
+ghost use Rattle.pd_port.specs.Port.{is_event, due, entry_of, hold};
 ghost use Rattle.pd_port.specs.declared.due.Due.{Due as DueData};
 ghost use Rattle.pd_ledger.specs.Offer.{answer_of};
-ghost use Rattle.pd_scenario.specs.Plan.{IsPlan, count, force, script_of};
-ghost use Rattle.pd_run.specs.Run.{Move, NoneLater, taken_after};
+ghost use Rattle.pd_scenario.specs.Plan.{IsPlan, count, floors_of, force, script_of};
+ghost use Rattle.pd_run.specs.Run.{Move, NoneLater, IsAnswered, taken_after};
 ghost use Rattle.pd_run.specs.Live.{LiveData, StandsAfter, IsSoFar, IsNext, IsOver, at_budget, due_at, next_move, port_at};
-ghost use Rattle.pd_run.specs.Live.{reply_at, moved_port, HasMoved};
+ghost use Rattle.pd_run.specs.Held.{HoldsOn};
+ghost use Rattle.pd_run.specs.Live.{reply_at, moved_port, moved_live, renewed, followed, had_with, taken_up, IsNextBeside, HasMovedBeside};
 ghost use Rattle.pd_run.specs.Shown.{SafeRun};
 ghost use Rattle.pd_run.specs.Start.{no_port};
 ghost use Rattle.pd_run.specs.StepsLeft.{steps_left};
 ghost use Rattle.pd_run.specs.UpTo.{IsUpTo, AreAfter, had_by};
 
 use crate::had::had_by;
+use crate::shared_budget::gives;
 use crate::{Plan, SharedPort};
 use pd_ledger::Ledger;
 use pd_objects::{Answer, Query};
@@ -141,6 +143,20 @@ impl<const N: usize> Live<N> {
     }
 
     /// The answer to what a port asks at a due. From now on the shared budget is that of the due's time.
+    pub fn reply_beside(&mut self, plan: &Plan<N>, port: usize, due: &Due) -> Option<Answer>
+        requires first { 1 ≤ port }
+        requires last { port ≤ N }
+        requires floors { self.old.account.floors ≡ floors_of plan.now }
+        ensures answer { result ≡ reply_at self.new (port - 1) due.now }
+        ensures budget { self.new ≡ at_budget self.old (force plan.now due.now.time) }
+    {
+        let budget = plan.force(due.time);
+        self.ledger.set_budget(budget);
+        let query = self.ports[port - 1].ask(due);
+        reply(&self.ledger, port, query)
+    }
+
+    /// The same, where all ports stand as moves have left them.
     pub fn reply(&mut self, plan: &Plan<N>, port: usize, due: &Due) -> Option<Answer>
         requires first { 1 ≤ port }
         requires last { port ≤ N }
@@ -152,16 +168,43 @@ impl<const N: usize> Live<N> {
         ensures known { (past : List Move) → StandsAfter plan.now past self.old
             → result ≡ (next_move plan.now past (port - 1) due.now).answer }
     {
-        let budget = plan.force(due.time);
-        self.ledger.set_budget(budget);
-        let query = self.ports[port - 1].ask(due);
-        reply(&self.ledger, port, query)
+        let _budget = plan.force(due.time);
+        self.reply_beside(plan, port, due)
     }
 
-    /// The step of the port that moves next for what falls due, with the answer to what it asked. The meter rises by one.
+    /// The step of the port that moves next for what falls due, with the answer to what it asked; the other ports needn't stand where
+    /// their moves have left them. The meter rises by one.
     ///
     /// # Errors
     /// There is no memory. The ports stand as they stood; the meter may have risen.
+    pub fn step_beside(
+        &mut self,
+        alloc: Global,
+        plan: &Plan<N>,
+        port: usize,
+        due: &Due,
+        answer: Option<Answer>,
+        meter: &mut Meter,
+    ) -> Result<Entry, AllocError>
+        requires plan { IsPlan N plan.now }
+        requires next { (past : List Move) × (whole : LiveData) × IsNextBeside plan.now past whole port due.now self.old }
+        requires answer { answer ≡ reply_at self.old (port - 1) due.now }
+        ensures entry { IfOk result (λ entry. entry ≡ entry_of (port_at self.old (port - 1)).settings
+            (port_at self.old (port - 1)).port_record due.now answer) }
+        ensures moved { OnOk result (self.new ≡ moved_live plan.now self.old (port - 1) due.now) }
+        ensures meter { OnOk result (meter.new ≡ raised meter.old 1) }
+        ensures rises { meter.old ≤ meter.new }
+        ensures same { OnErr result (self.new ≡ self.old) }
+    {
+        let entry = self.ports[port - 1].step(alloc, due, answer, meter)?;
+        self.renew(plan, port, due);
+        Ok(entry)
+    }
+
+    /// The same, where all ports stand as moves have left them.
+    ///
+    /// # Errors
+    /// As there.
     pub fn step(
         &mut self,
         alloc: Global,
@@ -186,36 +229,88 @@ impl<const N: usize> Live<N> {
         ensures rises { meter.old ≤ meter.new }
         ensures same { OnErr result (self.new ≡ self.old) }
     {
-        let entry = self.ports[port - 1].step(alloc, due, answer, meter)?;
-        self.renew(plan, port, due);
-        Ok(entry)
+        self.step_beside(alloc, plan, port, due, answer, meter)
     }
 
-    /// Puts the port that moves next to where its move for what falls due has left it.
+    /// Puts the port that moves next to where its move for what falls due has left it; the other ports needn't stand where theirs have
+    /// left them.
     pub fn settle(&mut self, plan: &Plan<N>, port: usize, due: &Due, after: SharedPort)
         requires plan { IsPlan N plan.now }
-        requires stands { (past : List Move) × StandsAfter plan.now past self.old }
-        requires next { IsNext plan.now self.old port due.now }
-        requires budget { self.old.account.budget ≡ force plan.now due.now.time }
+        requires next { (past : List Move) × (whole : LiveData) × IsNextBeside plan.now past whole port due.now self.old }
         requires after { after ≡ moved_port self.old (port - 1) due.now }
-        ensures stands { (past : List Move) → StandsAfter plan.now past self.old
-            → StandsAfter plan.now (past ++ next_move plan.now past (port - 1) due.now ∷ []) self.new }
-        ensures less { steps_left plan.now self.new < steps_left plan.now self.old }
-        ensures ports { self.new.ports ≡ slice_set self.old.ports (port - 1) after }
+        ensures { self.new ≡ moved_live plan.now self.old (port - 1) due.now }
     {
         self.ports[port - 1] = after;
         self.renew(plan, port, due);
     }
 
+    /// From now on the port only follows another run: nothing is kept of what falls due on it.
+    pub fn set_aside(&mut self, port: usize)
+        requires first { 1 ≤ port }
+        requires last { port ≤ N }
+        ensures { self.new ≡ record self.old { dues = slice_set self.old.dues (port - 1) None } }
+    {
+        self.dues[port - 1] = None;
+    }
+
+    /// A port that follows another run has moved as there, for an event or for something else, and holds what it held.
+    pub fn pass(&mut self, port: usize, is_event: bool)
+        requires first { 1 ≤ port }
+        requires last { port ≤ N }
+        requires few { is_event ≡ true → slice_index self.old.taken (port - 1) < 4096 }
+        ensures { self.new ≡ record self.old {
+          taken = slice_set self.old.taken (port - 1)
+              (had_with (slice_index self.old.taken (port - 1)) is_event);
+        } }
+    {
+        let taken = self.taken[port - 1];
+        self.taken[port - 1] = if is_event { taken + 1 } else { taken };
+    }
+
+    /// Whether the move of a port that follows another run, which left this entry and after which the port holds so much, in
+    /// microwatts, has the answer that the shared budget gives at its time. If it has, the port has moved, and holds this.
+    pub fn follow(
+        &mut self,
+        plan: &Plan<N>,
+        port: usize,
+        entry: &Entry,
+        answer: &Option<Answer>,
+        left: u64,
+    ) -> bool
+        requires holds { (past : List Move) × (m : Move) × HoldsOn plan.now past self.old.account m port entry.now answer.now left }
+        requires few { is_event entry.now.due.what ≡ true → slice_index self.old.taken (port - 1) < 4096 }
+        ensures answered { (past : List Move) (m : Move)
+            → HoldsOn plan.now past self.old.account m port entry.now answer.now left → (IsTrue result ↔ IsAnswered plan.now past m) }
+        ensures followed { IsTrue result → self.new ≡ followed plan.now self.old (port - 1) entry.now.due left }
+        ensures other { IsFalse result → self.new ≡ at_budget self.old (force plan.now entry.now.due.time) }
+    {
+        let budget = plan.force(entry.due.time);
+        self.ledger.set_budget(budget);
+        let given = gives(&self.ledger, port, &entry.query, answer);
+        if given {
+            self.ledger.set_hold(port, left);
+            self.taken[port - 1] = taken_after(self.taken[port - 1], &entry.due);
+        }
+        given
+    }
+
+    /// A port that followed another run moves for itself from now on, from where it stands.
+    pub fn take_up(&mut self, plan: &Plan<N>, port: usize, stands: SharedPort)
+        requires first { 1 ≤ port }
+        requires last { port ≤ N }
+        ensures { self.new ≡ taken_up plan.now self.old (port - 1) stands }
+    {
+        let next = stands.due(plan.event(port, self.had(port)));
+        self.ports[port - 1] = stands;
+        self.dues[port - 1] = next;
+    }
+
     // What a move for a due changes beside the port itself.
     fn renew(&mut self, plan: &Plan<N>, port: usize, due: &Due)
         requires plan { IsPlan N plan.now }
-        requires moved { (past : List Move) × (before : LiveData) × HasMoved plan.now past before port due.now self.old }
-        ensures stands { (past : List Move) (before : LiveData) → HasMoved plan.now past before port due.now self.old
-            → StandsAfter plan.now (past ++ next_move plan.now past (port - 1) due.now ∷ []) self.new }
-        ensures less { (past : List Move) (before : LiveData) → HasMoved plan.now past before port due.now self.old
-            → steps_left plan.now self.new < steps_left plan.now before }
-        ensures ports { self.new.ports ≡ self.old.ports }
+        requires moved { (past : List Move) × (whole : LiveData) × (before : LiveData)
+            × HasMovedBeside plan.now past whole before port due.now self.old }
+        ensures { self.new ≡ renewed plan.now self.old (port - 1) due.now }
     {
         let hold = self.shared(port).hold();
         let taken = taken_after(self.had(port), due);

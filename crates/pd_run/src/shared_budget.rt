@@ -77,7 +77,7 @@ impl<const N: usize> SharedBudget<N> {
 }
 
 // Whether the ledger answers this to a query, and there is no answer where there is no query.
-fn gives<const N: usize>(
+pub(crate) fn gives<const N: usize>(
     ledger: &Ledger<N>,
     port: usize,
     query: &Option<Query>,
