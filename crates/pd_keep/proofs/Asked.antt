@@ -1,5 +1,5 @@
 -- Moves that are asked again for their answers.
-use Rattle.std.proofs.Common.{◌≡◌, ◌≢◌, ⊎_elim, ℕ, zero, suc, ◌+◌, ◌-◌, ◌<◌, ◌≤◌, Bool, true, false, List, [], ◌∷◌, ◌++◌, length, map, take}
+use Rattle.std.proofs.Common.{◌≡◌, ◌≢◌, ⊎_elim, ℕ, zero, suc, ◌+◌, ◌-◌, ◌<◌, ◌≤◌, false, List, [], ◌∷◌, ◌++◌, length, map, take}
 use Rattle.std.proofs.Common.{None, Some, slice_get, slice_index_or, get_or, ap, sym, ◌∙◌, subst, refl, arith, append_assoc}
 use Rattle.std.proofs.Math.ListN.{get_or-append}
 use Rattle.std.proofs.Math.Seq.{get_or-append_seam}
@@ -16,13 +16,15 @@ use Rattle.pd_run.specs.Run.{Move, after, IsAnswered}
 use Rattle.pd_run.proofs.Cut.{EachAfter-append}
 use Rattle.pd_run.proofs.Held.{unasked, quiet_on}
 use Rattle.pd_keep.specs.Asked.{IsAsked}
-use Rattle.pd_keep.specs.Kept.{KeptData, RunData, move_of, held_by, IsOwn, IsQuiet, AreQuiet}
+use Rattle.pd_keep.specs.declared.kept_move.Brief.{Brief}
+use Rattle.pd_keep.specs.Kept.{KeptData, RunData, move_of, held_by, IsOwn, IsQuiet, IsBrief, AreBrief, no_brief}
 use Rattle.pd_keep.specs.Rerun.{GoesOnWith}
 
 -- One move.
 
 -- what its port holds after it
-hold_left : (plan : Plan) (k : KeptData) → IsOwn plan k → held_by k.after ≡ hold (settings_of plan (k.port - 1)) (after plan (move_of k))
+pub hold_left : (plan : Plan) (k : KeptData) → IsOwn plan k
+    → held_by k.after ≡ hold (settings_of plan (k.port - 1)) (after plan (move_of k))
 hold_left plan k own =
     ap (λ (x : KeptData). held_by x.after) own.made
     ∙ ap (λ (s : SettingsData). hold s (record_after s k.before.port_record k.due k.answer)) own.settings
@@ -53,34 +55,36 @@ quiet_held plan past account moves i k a quiet =
 pub read_at : (moves : List KeptData) (i : ℕ) (k : KeptData) → slice_get moves i ≡ Some k → get_or moves i k ≡ k
 read_at moves i k there = same_Some _ _ (sym (slice_get-get_or moves i k (slice_get_within moves i k there)) ∙ there)
 
-pub quiet_at : (moves : List KeptData) (stirs : List Bool) (i : ℕ) (k : KeptData) → AreQuiet moves stirs → slice_get moves i ≡ Some k
-    → slice_index_or stirs i true ≡ false → IsQuiet k
-quiet_at moves stirs i k quiet there none =
-    subst IsQuiet (read_at moves i k there) (quiet.quiet i k (slice_get_within moves i k there) none)
+pub quiet_at : (moves : List KeptData) (briefs : List Brief) (i : ℕ) (k : KeptData) → AreBrief moves briefs
+    → slice_get moves i ≡ Some k → (slice_index_or briefs i no_brief).stirs ≡ false → IsQuiet k
+quiet_at moves briefs i k brief there none =
+    subst IsQuiet (read_at moves i k there) ((brief.told i k (slice_get_within moves i k there)).quiet none)
 
--- one more move with its mark
-pub quiet_more : (moves : List KeptData) (stirs : List Bool) (k : KeptData) (mark : Bool) → AreQuiet moves stirs
-    → (mark ≡ false → IsQuiet k) → AreQuiet (moves ++ k ∷ []) (stirs ++ mark ∷ [])
-quiet_more moves stirs k mark h last =
+-- one more move with its brief
+pub brief_more : (moves : List KeptData) (briefs : List Brief) (k : KeptData) (b : Brief) → AreBrief moves briefs → IsBrief k b
+    → AreBrief (moves ++ k ∷ []) (briefs ++ b ∷ [])
+brief_more moves briefs k b h last =
     let count = h.count in
     let moves_more = length_push moves k in
-    let stirs_more = length_push stirs mark in
+    let briefs_more = length_push briefs b in
     record {
-      count = omega (arith, count, moves_more, stirs_more);
-      quiet = λ i d lt none.
+      count = omega (arith, count, moves_more, briefs_more);
+      told = λ i d lt.
           ⊎_elim
           (λ (same : i ≡ length moves).
-          let mark_is : slice_index_or (stirs ++ mark ∷ []) i true ≡ mark =
-          ap (λ n. slice_index_or (stirs ++ mark ∷ []) n true) (same ∙ sym count) ∙ get_or-append_seam stirs mark [] true in
+          let brief_is : slice_index_or (briefs ++ b ∷ []) i no_brief ≡ b =
+          ap (λ n. slice_index_or (briefs ++ b ∷ []) n no_brief) (same ∙ sym count) ∙ get_or-append_seam briefs b [] no_brief in
           let move_is : slice_index_or (moves ++ k ∷ []) i d ≡ k =
           ap (λ n. slice_index_or (moves ++ k ∷ []) n d) same ∙ get_or-append_seam moves k [] d in
-          subst IsQuiet (sym move_is) (last (sym mark_is ∙ none)))
+          subst (λ (m : KeptData). IsBrief m (slice_index_or (briefs ++ b ∷ []) i no_brief)) (sym move_is)
+          (subst (IsBrief k) (sym brief_is) last))
           (λ (other : i ≢ length moves).
           let inside : i < length moves = omega (arith, moves_more, lt) in
-          let mark_is : slice_index_or (stirs ++ mark ∷ []) i true ≡ slice_index_or stirs i true =
-          get_or-append stirs (mark ∷ []) true i (omega (arith, count)) in
+          let brief_is : slice_index_or (briefs ++ b ∷ []) i no_brief ≡ slice_index_or briefs i no_brief =
+          get_or-append briefs (b ∷ []) no_brief i (omega (arith, count)) in
           let move_is : slice_index_or (moves ++ k ∷ []) i d ≡ slice_index_or moves i d = get_or-append moves (k ∷ []) d i inside in
-          subst IsQuiet (sym move_is) (h.quiet i d inside (sym mark_is ∙ none)))
+          subst (λ (m : KeptData). IsBrief m (slice_index_or (briefs ++ b ∷ []) i no_brief)) (sym move_is)
+          (subst (IsBrief (slice_index_or moves i d)) (sym brief_is) (h.told i d inside)))
           (cases_eq i (length moves));
     }
 
@@ -101,11 +105,11 @@ told_of plan past account moves i k v left a read left_is =
     (subst (λ (x : KeptData). HoldsOn plan past account (move_of k) x.port x.entry x.answer (held_by x.after)) (sym is)
     (holds_on plan past account moves i k a))
 
--- what is read of its mark is its mark
-pub mark_at : (moves : List KeptData) (stirs : List Bool) (i : ℕ) (b : Bool) → AreQuiet moves stirs → i < length moves
-    → b ≡ slice_index_or stirs i b → b ≡ false → slice_index_or stirs i true ≡ false
-mark_at moves stirs i b quiet inside read none =
-    let count = quiet.count in sym (read ∙ get_or_default stirs i b true (omega (arith, count, inside))) ∙ none
+-- what is read of its brief is its brief
+pub brief_at : (moves : List KeptData) (briefs : List Brief) (i : ℕ) (b : Brief) → AreBrief moves briefs → i < length moves
+    → b ≡ slice_index_or briefs i b → b ≡ slice_index_or briefs i no_brief
+brief_at moves briefs i b brief inside read =
+    let count = brief.count in read ∙ get_or_default briefs i b no_brief (omega (arith, count, inside))
 
 -- All moves of a span.
 

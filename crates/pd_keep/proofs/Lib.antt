@@ -2,6 +2,8 @@ pub mod Asked
 pub mod Beside
 pub mod Counts
 pub mod Entries
+pub mod Course
+mod Following
 pub mod Fresh
 pub mod InTime
 pub mod Later

@@ -1,15 +1,16 @@
 -- Moves that are kept.
-use Rattle.std.specs.Prelude.{◌≡◌, ℕ, ◌-◌, ◌<◌, ◌≤◌, ◌==◌, if◌then◌else◌, Bool, true, false, List, [], ◌∷◌, length}
+use Rattle.std.specs.Prelude.{◌≡◌, ℕ, ◌-◌, ◌<◌, ◌≤◌, ◌==◌, if◌then◌else◌, true, false, List, [], ◌∷◌, length}
 use Rattle.std.specs.Prelude.{Option, None, Some, slice_index_or}
 use Rattle.pd_objects.specs.declared.query.Answer.{Answer}
 use Rattle.pd_port.specs.declared.due.Due.{Due}
-use Rattle.pd_port.specs.Port.{PortData, record_after, entry_of, hold}
+use Rattle.pd_port.specs.Port.{PortData, record_after, entry_of, hold, is_event}
 use Rattle.pd_scenario.specs.Plan.{Plan, settings_of}
 use Rattle.pd_run.specs.declared.note.Marks.{Marks}
 use Rattle.pd_run.specs.Notes.{marks_of}
 use Rattle.pd_run.specs.Run.{Move}
 use Rattle.pd_run.specs.Start.{no_port}
 use Rattle.pd_port.specs.declared.entry.Entry.{Entry}
+use Rattle.pd_keep.specs.declared.kept_move.Brief.{Brief}
 use Rattle.pd_keep.specs.declared.kept_move.Place.{Place}
 use Rattle.pd_keep.specs.declared.kept_move.Place.TheVariants as place
 
@@ -96,10 +97,22 @@ pub record IsQuiet (k : KeptData) : Type 0 where
   pub unanswered : k.answer ≡ None
   pub same_hold : held_by k.after ≡ held_by k.before
 
--- each move is quiet, unless it is marked as one that may not be
-pub record AreQuiet (moves : List KeptData) (stirs : List Bool) : Type 0 where
-  pub count : length stirs ≡ length moves
-  pub quiet : (i : ℕ) (k : KeptData) → i < length moves → slice_index_or stirs i true ≡ false → IsQuiet (slice_index_or moves i k)
+-- this is the brief of a move: when it was, of which port, whether for an event; and it is quiet, unless it is marked as one that
+-- may not be
+pub record IsBrief (k : KeptData) (b : Brief) : Type 0 where
+  pub time : b.time ≡ k.due.time
+  pub port : b.port ≡ k.port
+  pub event : b.is_event ≡ is_event k.due.what
+  pub quiet : b.stirs ≡ false → IsQuiet k
+
+-- stands where there is no move
+abbrev pub no_brief : Brief
+no_brief = record { time = 0; port = 0; is_event = false; stirs = true }
+
+-- these are the briefs of moves
+pub record AreBrief (moves : List KeptData) (briefs : List Brief) : Type 0 where
+  pub count : length briefs ≡ length moves
+  pub told : (i : ℕ) (k : KeptData) → i < length moves → IsBrief (slice_index_or moves i k) (slice_index_or briefs i no_brief)
 
 -- moves up to a time, and the ports as they are before them
 pub record RunData : Type 0 where

@@ -2,6 +2,7 @@ pub mod Asked
 pub mod Charge
 pub mod Cost
 pub mod Firsts
+pub mod Following
 pub mod Fresh
 pub mod Kept
 pub mod Places

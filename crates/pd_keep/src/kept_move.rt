@@ -3,17 +3,17 @@
 ghost use Rattle.std.specs.Prelude.{◌≡◌, ◌↔◌, ◌<◌, ◌≤◌, ◌-◌, ◌++◌, ◌∷◌, ℕ, [], List, All, IsTrue, IfOk, OnOk, length, map};
 ghost use Rattle.std.specs.Prelude.{false, option_map, slice_get, slice_index_or};
 ghost use Rattle.pd_run.specs.Notes.{IsNextWith};
-ghost use Rattle.pd_port.specs.Port.{PortData};
+ghost use Rattle.pd_port.specs.Port.{PortData, is_event};
 ghost use Rattle.pd_run.specs.Held.{AreHeld};
 ghost use Rattle.pd_run.specs.Run.{Move, IsAnswered};
 ghost use Rattle.pd_run.specs.Start.{no_port};
 ghost use Rattle.pd_run.specs.UpTo.{AreAfter};
 ghost use Rattle.pd_keep.specs.Asked.{IsAsked};
-ghost use Rattle.pd_keep.specs.Kept.{KeptData, IsMade, IsKnown, IsQuiet, kept_of, left_by, move_of, marks_kept, shown_of};
+ghost use Rattle.pd_keep.specs.Kept.{KeptData, IsBrief, IsLeft, IsMade, IsKnown, IsQuiet, kept_of, left_by, move_of, marks_kept, shown_of};
 
 use crate::presence::Presence;
 use pd_objects::Answer;
-use pd_port::{Due, Entry, Port};
+use pd_port::{Due, Entry, Port, What};
 use pd_run::{Marks, Note, Plan, SharedBudget, SharedPort};
 use std::alloc::{AllocError, Global};
 use std::marker::Model;
@@ -53,6 +53,18 @@ impl KeptMove {
         self.entry.query.is_some()
             || self.answer.is_some()
             || self.after.hold() != self.before.hold()
+    }
+
+    // Its brief.
+    fn brief(&self) -> Brief
+        ensures { IsBrief self.now result }
+    {
+        Brief {
+            time: self.entry.due.time,
+            port: self.port,
+            is_event: is_event(&self.entry.due.what),
+            stirs: self.stirs(),
+        }
     }
 }
 
@@ -103,6 +115,16 @@ impl SharedMove {
     }
 }
 
+/// What of a move is looked at where ports go on as in the run that has it: when it was, in microseconds, its port, numbered from 1,
+/// whether it was for an event, and whether it asked the shared budget or changed what its port holds.
+#[derive(Clone, Copy)]
+pub struct Brief {
+    pub time: u64,
+    pub port: usize,
+    pub is_event: bool,
+    pub stirs: bool,
+}
+
 /// Where a port stands in a span: as at its beginning, or as the move at a place has left it.
 #[derive(Clone, Copy)]
 pub enum Place {
@@ -110,11 +132,10 @@ pub enum Place {
     After(usize),
 }
 
-/// Moves of a run up to a time, and the ports as they are before them. Beside the moves stand the marks of their entries, so that
-/// whoever looks for a note reads these alone, and where each move's port stood before it, so that ports that come from one move to
-/// the next needn't be compared, and which moves asked the shared budget or changed what their port holds, so that no other is looked
-/// at where the budget alone is another. It is also known where each port stands after the moves. What none
-/// of them leaves is noted too.
+/// Moves of a run up to a time, and the ports as they are before them. Moves lie far apart in memory, so beside them stand the marks
+/// of their entries, for whoever looks for a note; their briefs, for ports that go on as they did; and where each move's port stood
+/// before it, so that ports that come from one move to the next needn't be compared. It is also known where each port stands after the
+/// moves. What none of them leaves is noted too.
 #[derive(Drop)]
 pub struct KeptMoves {
     to: u64,
@@ -122,14 +143,14 @@ pub struct KeptMoves {
     moves: Vec<SharedMove>,
     marks: Vec<Marks>,
     links: Vec<Place>,
-    stirs: Vec<bool>,
+    briefs: Vec<Brief>,
     lasts: [Place; 8],
     presence: Presence,
 }
 
 impl Model for KeptMoves {
     ghost use Rattle.std.specs.Prelude.{◌≡◌, map};
-    ghost use Rattle.pd_keep.specs.Kept.{RunData, AreLast, AreLinked, AreQuiet, marks_kept};
+    ghost use Rattle.pd_keep.specs.Kept.{RunData, AreBrief, AreLast, AreLinked, marks_kept};
     ghost use Rattle.pd_keep.specs.Presence.{AreNoted};
 
     ghost Value = { RunData };
@@ -137,7 +158,7 @@ impl Model for KeptMoves {
     ghost view = { λ r. record { to = r.to; first = r.first.items; moves = r.moves.items } };
 
     ghost invariant = { λ r. (r.marks.items ≡ map marks_kept r.moves.items) × AreLinked r.first.items r.moves.items r.links.items
-        × AreQuiet r.moves.items r.stirs.items × AreLast r.first.items r.moves.items r.lasts
+        × AreBrief r.moves.items r.briefs.items × AreLast r.first.items r.moves.items r.lasts
         × AreNoted r.presence r.marks.items };
 }
 
@@ -152,7 +173,7 @@ impl KeptMoves {
             moves: Vec::new(alloc),
             marks: Vec::new(alloc),
             links: Vec::new(alloc),
-            stirs: Vec::new(alloc),
+            briefs: Vec::new(alloc),
             lasts: [Place::First; 8],
             presence: Presence::nothing(),
         }
@@ -175,7 +196,7 @@ impl KeptMoves {
             moves: Vec::with_capacity(alloc, room)?,
             marks: Vec::with_capacity(alloc, room)?,
             links: Vec::with_capacity(alloc, room)?,
-            stirs: Vec::with_capacity(alloc, room)?,
+            briefs: Vec::with_capacity(alloc, room)?,
             lasts: [Place::First; 8],
             presence: Presence::nothing(),
         })
@@ -258,7 +279,50 @@ impl KeptMoves {
         requires { i < length self.now.moves }
         ensures { (k : KeptData) → result ≡ (slice_index_or self.now.moves i k).due.time }
     {
-        self.moves[i].kept().entry.due.time
+        self.briefs[i].time
+    }
+
+    /// A move's brief.
+    pub fn brief(&self, i: usize) -> Brief
+        requires { i < length self.now.moves }
+        ensures { (k : KeptData) → IsBrief (slice_index_or self.now.moves i k) result }
+    {
+        self.briefs[i]
+    }
+
+    /// What is kept of a move.
+    pub fn kept(&self, i: usize) -> &KeptMove
+        requires { i < length self.now.moves }
+        ensures { (k : KeptData) → result.now ≡ slice_index_or self.now.moves i k }
+    {
+        self.moves[i].kept()
+    }
+
+    /// Where a move's port stood before it.
+    pub fn place_before(&self, i: usize) -> Place
+        requires { i < length self.now.moves }
+        ensures { (k : KeptData) → IsLeft self.now.first self.now.moves ((slice_index_or self.now.moves i k).port - 1) result
+            (slice_index_or self.now.moves i k).before }
+    {
+        self.links[i]
+    }
+
+    /// A port, numbered from 0 here, as the moves leave it, for one more owner.
+    ///
+    /// # Errors
+    /// It has more owners than can be counted.
+    pub fn last_port(&self, port: usize) -> Result<SharedPort, AllocError>
+        requires inside { port < length self.now.first }
+        requires few { port < 8 }
+        ensures { IfOk result (λ shared. shared ≡ left_by self.now.first self.now.moves port) }
+    {
+        match self.lasts[port] {
+            Place::First => self.first[port].share(),
+            Place::After(i) => match self.moves.get(i) {
+                Some(last) => last.kept().after.share(),
+                None => Err(AllocError),
+            },
+        }
     }
 
     /// The marks of a move.
@@ -309,7 +373,7 @@ impl KeptMoves {
         ensures held { IsTrue result → (past : List Move) (k : KeptData)
             → IsAsked plan.now past shared.old self.now.moves i k → AreHeld plan.now (past ++ move_of k ∷ []) shared.new }
     {
-        if !self.stirs[i] {
+        if !self.briefs[i].stirs {
             return true;
         }
         let kept = self.moves[i].kept();
@@ -377,20 +441,62 @@ impl KeptMoves {
         requires goes { kept.before ≡ left_by self.old.first self.old.moves (port - 1) }
         ensures { OnOk result (self.new ≡ record self.old { moves = self.old.moves ++ kept ∷ [] }) }
     {
+        let brief = kept.kept().brief();
+        self.push_noted(port, kept, marks, brief)
+    }
+
+    /// Keeps one more move, which an older run has too. The moves before it left its port as it was before this one.
+    ///
+    /// # Errors
+    /// There is no memory.
+    pub fn push_again(&mut self, old: &KeptMoves, i: usize) -> Result<(), AllocError>
+        requires inside { i < length old.now.moves }
+        requires first { (k : KeptData) → 1 ≤ (slice_index_or old.now.moves i k).port }
+        requires last { (k : KeptData) → (slice_index_or old.now.moves i k).port ≤ 8 }
+        requires goes { (k : KeptData) → (slice_index_or old.now.moves i k).before
+            ≡ left_by self.old.first self.old.moves ((slice_index_or old.now.moves i k).port - 1) }
+        ensures { OnOk result ((k : KeptData)
+            → self.new ≡ record self.old { moves = self.old.moves ++ slice_index_or old.now.moves i k ∷ [] }) }
+    {
+        let brief = old.brief(i);
+        self.push_noted(brief.port, old.share(i)?, old.marks(i), brief)
+    }
+
+    // Keeps one more move with its marks and its brief.
+    fn push_noted(
+        &mut self,
+        port: usize,
+        kept: SharedMove,
+        marks: Marks,
+        brief: Brief,
+    ) -> Result<(), AllocError>
+        requires first { 1 ≤ port }
+        requires last { port ≤ 8 }
+        requires port { port ≡ kept.port }
+        requires marks { marks ≡ marks_kept kept }
+        requires brief { IsBrief kept brief }
+        requires goes { kept.before ≡ left_by self.old.first self.old.moves (port - 1) }
+        ensures { OnOk result (self.new ≡ record self.old { moves = self.old.moves ++ kept ∷ [] }) }
+    {
         let place = Place::After(self.len());
         self.marks.reserve(1)?;
         self.links.reserve(1)?;
-        self.stirs.reserve(1)?;
-        let stirs = kept.kept().stirs();
+        self.briefs.reserve(1)?;
         let presence = self.presence.with(marks);
         self.moves.push(kept)?;
         self.marks.push_reserved(marks);
         self.links.push_reserved(self.lasts[port - 1]);
-        self.stirs.push_reserved(stirs);
+        self.briefs.push_reserved(brief);
         self.lasts[port - 1] = place;
         self.presence = presence;
         Ok(())
     }
+}
+
+fn is_event(what: &What) -> bool
+    ensures { result ≡ is_event what.now }
+{
+    matches!(what, What::Event(_))
 }
 
 // Whether a place is given, and is this one.

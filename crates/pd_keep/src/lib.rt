@@ -2,6 +2,7 @@
 #![tactic(auto)]
 
 mod answered;
+mod follow;
 mod kept;
 mod kept_move;
 pub mod laws;

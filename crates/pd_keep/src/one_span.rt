@@ -5,13 +5,14 @@ ghost use Rattle.std.specs.Prelude.{Contains};
 ghost use Rattle.std.specs.Prelude.{All, slice_index, slice_index_or, slice_set};
 ghost use Rattle.pd_port.specs.Meter.{raised};
 ghost use Rattle.pd_scenario.specs.Plan.{Plan as PlanData, IsPlan, force};
-ghost use Rattle.pd_run.specs.Live.{StandsAfter, IsNext, next_move, port_at, moved_port, reply_at};
+ghost use Rattle.pd_run.specs.Live.{LiveData, StandsAfter, IsNext, IsNextBeside, port_at, moved_port, moved_live, reply_at};
 ghost use Rattle.pd_run.specs.Run.{Move, NoneLater};
 ghost use Rattle.pd_run.specs.Start.{no_port};
 ghost use Rattle.pd_run.specs.StepsLeft.{steps_left};
 ghost use Rattle.pd_run.specs.UpTo.{IsUpTo};
 ghost use Rattle.pd_keep.specs.Kept.{KeptData, kept_of, move_of, marks_kept, IsMade, IsOwn, IsKnown, AreInTime, AreBefore};
 ghost use Rattle.pd_keep.specs.Charge.{Charges};
+ghost use Rattle.pd_keep.specs.Following.{IsOwnNext};
 ghost use Rattle.pd_keep.specs.Places.{ArePlaced};
 ghost use Rattle.pd_keep.specs.Rerun.{AreThose, Costs, IsNextSpan};
 
@@ -94,12 +95,13 @@ fn end_before(span: &KeptMoves, time: u64) -> Option<u64>
 }
 
 // The port that moves next, with what falls due on it, if that is before a time.
-fn next_before<const N: usize>(live: &Live<N>, plan: &Plan<N>, to: u64) -> Option<(usize, Due)>
+pub fn next_before<const N: usize>(live: &Live<N>, plan: &Plan<N>, to: u64) -> Option<(usize, Due)>
     ensures next { IfSome result (λ r. IsNext plan.now live.now r.0 r.1 × (r.1.time < to)) }
     ensures in_order { IfSome result (λ r. (past : List Move) → StandsAfter plan.now past live.now
         → NoneLater r.1.time (r.0 - 1) past) }
     ensures none { IfNone result ((past : List Move) → StandsAfter plan.now past live.now
         → All (λ m. m.due.time < to) past → IsUpTo plan.now past to) }
+    ensures own { IsOwnNext plan.now live.now to result }
     ensures is_plan { IsPlan N plan.now }
 {
     let (port, due) = live.next(plan)?;
@@ -111,7 +113,8 @@ fn next_before<const N: usize>(live: &Live<N>, plan: &Plan<N>, to: u64) -> Optio
 }
 
 // A port's move for a due, with its marks, and where the port stands in the old run then: shared where the old run has it, else a step.
-fn make<const N: usize>(
+// The other ports needn't stand where their moves have left them.
+pub fn make<const N: usize>(
     alloc: Global,
     old: &KeptMoves,
     from: usize,
@@ -128,17 +131,13 @@ fn make<const N: usize>(
     requires before { AreBefore old.now.moves from due.time }
     requires left { IsKnown old.now.first old.now.moves (port - 1) left (port_at live.old (port - 1)) }
     requires plan { IsPlan N plan.now }
-    requires stands { (past : List Move) × StandsAfter plan.now past live.old }
-    requires next { IsNext plan.now live.old port due }
-    requires budget { live.old.account.budget ≡ force plan.now due.time }
+    requires room { length live.old.ports ≡ N }
+    requires next { (past : List Move) × (whole : LiveData) × IsNextBeside plan.now past whole port due live.old }
     requires answer { answer ≡ reply_at live.old (port - 1) due }
     ensures kept { IfOk result (λ r. r.0 ≡ kept_of port (port_at live.old (port - 1)) due answer) }
     ensures marks { IfOk result (λ r. r.1 ≡ marks_kept r.0) }
     ensures found { IfOk result (λ r. IsKnown old.now.first old.now.moves (port - 1) r.2 (moved_port live.old (port - 1) due)) }
-    ensures ports { OnOk result (live.new.ports ≡ slice_set live.old.ports (port - 1) (moved_port live.old (port - 1) due)) }
-    ensures stands { OnOk result ((past : List Move) → StandsAfter plan.now past live.old
-        → StandsAfter plan.now (past ++ next_move plan.now past (port - 1) due ∷ []) live.new) }
-    ensures less { OnOk result (steps_left plan.now live.new < steps_left plan.now live.old) }
+    ensures moved { OnOk result (live.new ≡ moved_live plan.now live.old (port - 1) due) }
     ensures charges { OnOk result (Charges old.now.moves (kept_of port (port_at live.old (port - 1)) due answer) meter.old meter.new) }
     ensures rises { meter.old ≤ meter.new }
 {
@@ -163,20 +162,16 @@ fn step<const N: usize>(
     meter: &mut Meter,
 ) -> Result<SharedMove, AllocError>
     requires plan { IsPlan N plan.now }
-    requires stands { (past : List Move) × StandsAfter plan.now past live.old }
-    requires next { IsNext plan.now live.old port due }
-    requires budget { live.old.account.budget ≡ force plan.now due.time }
+    requires room { length live.old.ports ≡ N }
+    requires next { (past : List Move) × (whole : LiveData) × IsNextBeside plan.now past whole port due live.old }
     requires answer { answer ≡ reply_at live.old (port - 1) due }
     ensures kept { IfOk result (λ kept. kept ≡ kept_of port (port_at live.old (port - 1)) due answer) }
-    ensures ports { OnOk result (live.new.ports ≡ slice_set live.old.ports (port - 1) (moved_port live.old (port - 1) due)) }
-    ensures stands { OnOk result ((past : List Move) → StandsAfter plan.now past live.old
-        → StandsAfter plan.now (past ++ next_move plan.now past (port - 1) due ∷ []) live.new) }
-    ensures less { OnOk result (steps_left plan.now live.new < steps_left plan.now live.old) }
+    ensures moved { OnOk result (live.new ≡ moved_live plan.now live.old (port - 1) due) }
     ensures meter { OnOk result (meter.new ≡ raised meter.old 1) }
     ensures rises { meter.old ≤ meter.new }
 {
     let before = live.share(port)?;
-    let entry = live.step(alloc, plan, port, &due, copy_answer(&answer), meter)?;
+    let entry = live.step_beside(alloc, plan, port, &due, copy_answer(&answer), meter)?;
     let after = live.share(port)?;
     let kept = KeptMove {
         port,
@@ -189,7 +184,7 @@ fn step<const N: usize>(
 }
 
 // The first place from `from` on whose move isn't before this time.
-fn skip(old: &KeptMoves, from: usize, time: u64) -> usize
+pub fn skip(old: &KeptMoves, from: usize, time: u64) -> usize
     requires within { from ≤ length old.now.moves }
     requires before { AreBefore old.now.moves from time }
     ensures within { result ≤ length old.now.moves }

@@ -9,15 +9,17 @@ ghost use Rattle.pd_scenario.specs.Plan.{Plan as PlanData, IsPlan};
 ghost use Rattle.pd_run.specs.Live.{StandsAfter, port_at};
 ghost use Rattle.pd_run.specs.Run.{Move};
 ghost use Rattle.pd_run.specs.Start.{no_port};
-ghost use Rattle.pd_run.specs.UpTo.{IsUpTo};
+ghost use Rattle.pd_run.specs.UpTo.{IsUpTo, AgreeAs, AgreeInScripts};
 ghost use Rattle.pd_keep.specs.Kept.{KeptData, move_of, IsMade, IsOwn, AreInTime};
 ghost use Rattle.pd_keep.specs.Kept.{RunData, IsKnown, left_by};
+ghost use Rattle.pd_keep.specs.Following.{AreNumbered, CanFollow, ComesApart};
 ghost use Rattle.pd_keep.specs.Places.{ArePlaced, StandAs};
 ghost use Rattle.pd_keep.specs.Rerun.{IsOld, IsSoFar, Stands, Costs, ComesTo, AreStanding, AreThose, IsDone, IsShared, AreOver};
 ghost use Rattle.pd_keep.specs.Rerun.{AreKnown, BeginsWith, BeginsWithMarked};
 ghost use Rattle.pd_keep.specs.Spans.{IsKept, kept_of_spans, moves_of};
 
 use crate::answered::are_answered;
+use crate::follow::follow_span;
 use crate::kept_move::{KeptMoves, Place};
 use crate::one_span::{STRIDE, run_span};
 use crate::spans::Spans;
@@ -128,8 +130,7 @@ fn next_spans<const N: usize>(
         return Ok(Standing::Alike);
     }
     let (mut live, alike) = standing_live(alloc, old, plan, at, standing)?;
-    let to = old.to();
-    let alike = run_on(alloc, old, plan, at, to, &mut live, alike, spans, meter)?;
+    let alike = go_on(alloc, old, plan, at, agree, &mut live, alike, spans, meter)?;
     Ok(Standing::Apart(live, alike))
 }
 
@@ -209,6 +210,80 @@ fn begins_with<const N: usize>(span: &KeptMoves, live: &Live<N>, alike: &[bool; 
         }
     }
     true
+}
+
+// Whether both plans have the same scripts.
+fn have_same_scripts(agree: Agreement) -> bool
+    ensures { IsTrue result → (a : PlanData) (b : PlanData) (from to : ℕ) → AgreeAs agree a b from to → AgreeInScripts a b from to }
+{
+    match agree {
+        Agreement::Not => false,
+        Agreement::Both => true,
+        Agreement::Scripts => true,
+    }
+}
+
+// The spans of a run to the end of the older one's, in which the ports that are marked follow it where both plans have the same scripts.
+// Which are known to stand as the older run's afterwards.
+fn go_on<const N: usize>(
+    alloc: Global,
+    old: &KeptMoves,
+    plan: &Plan<N>,
+    from: u64,
+    agree: Agreement,
+    live: &mut Live<N>,
+    alike: [bool; 8],
+    spans: &mut Spans,
+    meter: &mut Meter,
+) -> Result<[bool; 8], AllocError>
+    requires comes { (a : PlanData) × (old_spans : List RunData)
+        × ComesApart N a old_spans old.now plan.now spans.old from agree alike live.old }
+    ensures so_far { OnOk result (IsSoFar N plan.now spans.new old.now.to) }
+    ensures stands { OnOk result (StandsAfter plan.now (moves_of spans.new) live.new) }
+    ensures known { IfOk result (λ alike. StandAs N alike live.new (left_by old.now.first old.now.moves)) }
+    ensures cost { OnOk result ((a : PlanData) (old_spans : List RunData) (first : ℕ)
+        → ComesApart N a old_spans old.now plan.now spans.old from agree alike live.old
+        → Costs a (moves_of old_spans) plan.now (moves_of spans.old) first meter.old
+        → Costs a (moves_of old_spans) plan.now (moves_of spans.new) first meter.new) }
+    ensures rises { meter.old ≤ meter.new }
+{
+    let (_end, _count, to) = (plan.end(), meter.count(), old.to());
+    if have_same_scripts(agree) {
+        return follow_on(alloc, old, plan, from, live, alike, spans, meter);
+    }
+    run_on(alloc, old, plan, from, to, live, alike, spans, meter)
+}
+
+// A span of a run in which the ports that are marked follow the older run's. Which are known to stand as those afterwards.
+fn follow_on<const N: usize>(
+    alloc: Global,
+    old: &KeptMoves,
+    plan: &Plan<N>,
+    from: u64,
+    live: &mut Live<N>,
+    alike: [bool; 8],
+    spans: &mut Spans,
+    meter: &mut Meter,
+) -> Result<[bool; 8], AllocError>
+    requires made { All IsMade old.now.moves }
+    requires in_time { AreInTime old.now.moves }
+    requires numbered { AreNumbered N old.now.moves }
+    requires soon { from ≤ plan.now.end }
+    requires so_far { IsSoFar N plan.now spans.old from }
+    requires follows { (a : PlanData) × (all : List Move) × CanFollow N a all old.now plan.now (moves_of spans.old) from alike live.old }
+    ensures so_far { OnOk result (IsSoFar N plan.now spans.new old.now.to) }
+    ensures stands { OnOk result (StandsAfter plan.now (moves_of spans.new) live.new) }
+    ensures known { IfOk result (λ alike. StandAs N alike live.new (left_by old.now.first old.now.moves)) }
+    ensures cost { OnOk result ((a : PlanData) (all : List Move) (olds : List KeptData) (first : ℕ)
+        → CanFollow N a all old.now plan.now (moves_of spans.old) from alike live.old → All (IsOwn a) olds
+        → AreThose olds from old.now.to old.now.moves
+        → Costs a (map move_of olds) plan.now (moves_of spans.old) first meter.old
+        → Costs a (map move_of olds) plan.now (moves_of spans.new) first meter.new) }
+    ensures rises { meter.old ≤ meter.new }
+{
+    let (span, alike) = follow_span(alloc, old, &alike, plan, live, meter)?;
+    spans.push(Rc::new(alloc, span)?)?;
+    Ok(alike)
 }
 
 // The spans of a run from one time to another, beside what is kept of an older one in between. Of the ports those that are marked

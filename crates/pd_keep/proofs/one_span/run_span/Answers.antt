@@ -6,11 +6,13 @@ use Rattle.pd_port.specs.Port.{PortData}
 use Rattle.pd_scenario.specs.Plan.{count}
 use Rattle.pd_run.specs.Order.{EachAfter}
 use Rattle.pd_run.specs.Run.{Move, IsInOrder}
-use Rattle.pd_run.specs.Live.{LiveData, StandsAfter, port_at, port_after, due_at, moved_port}
+use Rattle.pd_run.specs.Live.{LiveData, StandsAfter, IsNextBeside, port_at, port_after, due_at, moved_port, next_move}
 use Rattle.pd_run.specs.StepsLeft.{steps_left}
 use Rattle.pd_run.specs.Start.{no_port}
 use Rattle.pd_run.specs.UpTo.{IsUpTo}
 use Rattle.pd_run.proofs.Alike.{none_later-back}
+use Rattle.pd_run.proofs.Steps.{StandsAfter-moved}
+use Rattle.pd_run.proofs.StepsLeft.{steps_left_less}
 use Rattle.pd_run.proofs.Cut.{All-nil, All-append, EachAfter-back, IsEarlier, IsLater, next_up_to}
 use Rattle.pd_keep.specs.Kept.{KeptData, move_of, kept_of, IsKnown, IsOwn}
 use Rattle.pd_keep.specs.Places.{ArePlaced}
@@ -68,7 +70,10 @@ make-requires g c =
     let old : RunData = c.args.old.now in
     let left = subst (λ (l : LiveData). IsKnown old.first old.moves p (slice_index_or c.loop-port.places p None) (port_at l p))
     (sym c.reply-answer.ensures.budget) (i.placed.placed p known) in
-    (omega arith, (omega arith, (made, (in_time, (before, (left, (plan, ((moves, stands), (next, (budget, answer))))))))))
+    let beside : IsNextBeside c.args.plan.now moves c.reply-answer.new.self c.in-Some.port c.in-Some.due c.reply-answer.new.self =
+    record { stood = stands; next = next; budget = budget; port_is = refl; taken_is = refl; account_is = refl } in
+    let room = stands.ports_count ∙ plan.settings_count in
+    (omega arith, (omega arith, (made, (in_time, (before, (left, (plan, (room, ((moves, c.reply-answer.new.self, beside), answer)))))))))
 
 pub push-requires : goal.push-requires
 push-requires g c =
@@ -110,7 +115,17 @@ pub loop-port-smaller : goal.loop-port-smaller
 loop-port-smaller g c =
     let same : steps_left c.args.plan.now c.reply-answer.new.self ≡ steps_left c.args.plan.now c.loop-port.live =
     ap (steps_left c.args.plan.now) c.reply-answer.ensures.budget in
-    omega (arith, c.in_ok-kept.ensures.less)
+    let plan = c.args.plan.now in
+    let past = c.requires.stands.0 in
+    let moves : List Move = past ++ map move_of c.loop-port.span.moves in
+    let is = c.in-Some.ensures.is_plan in
+    let stands = c.reply-answer.ensures.stands moves (c.loop-port.invariant.stands past c.requires.stands.1) in
+    let next = c.reply-answer.ensures.next c.in-Some.ensures.next.0 in
+    let budget = ap (λ (l : LiveData). l.account.budget) c.reply-answer.ensures.budget in
+    let less = steps_left_less g.row.N plan moves c.reply-answer.new.self _ (c.in-Some.port - 1) c.in-Some.due is stands next.first
+    (StandsAfter-moved g.row.N plan moves c.reply-answer.new.self c.in-Some.port c.in-Some.due is stands next budget) in
+    let moved = ap (steps_left plan) c.in_ok-kept.ensures.moved in
+    omega (arith, less, moved)
 
 pub loop-port-preserved : goal.loop-port-preserved
 loop-port-preserved g c =
@@ -147,14 +162,20 @@ loop-port-preserved g c =
     due_later_yet plan o moves from p d up os.runs known
     (sym (os.dues_are p known) ∙ ap (λ (l : LiveData). due_at l p) c.reply-answer.ensures.budget ∙ next.first.is_due)
     next.first.soon in
+    let moved_ports = ap (λ (l : LiveData). l.ports) c.in_ok-kept.ensures.moved in
     rw to_moves (record {
       stands = λ o s.
           let os = c.reply-answer.ensures.stands (o ++ moves) (i.stands o s) in
           let ox : x ≡ port_after plan (o ++ moves) p = os.ports_are p known in
           let oa = c.reply-answer.ensures.known (o ++ moves) (i.stands o s) in
           let same = kept_is_next plan (o ++ moves) port x d a ox oa in
+          let budget = ap (λ (l : LiveData). l.account.budget) c.reply-answer.ensures.budget in
+          let then = StandsAfter-moved g.row.N plan (o ++ moves) live port d c.in-Some.ensures.is_plan os
+          (c.reply-answer.ensures.next next) budget in
           subst (λ (l : List Move). StandsAfter plan l new) (append_assoc o moves (move_of k ∷ []))
-          (subst (λ (z : Move). StandsAfter plan ((o ++ moves) ++ z ∷ []) new) (sym same) (c.in_ok-kept.ensures.stands (o ++ moves) os));
+          (subst (λ (z : Move). StandsAfter plan ((o ++ moves) ++ z ∷ []) new) (sym same)
+          (subst (λ (l : LiveData). StandsAfter plan ((o ++ moves) ++ next_move plan (o ++ moves) p d ∷ []) l)
+          (sym c.in_ok-kept.ensures.moved) then));
       within = c.skip-from.ensures.within;
       passed = λ t q h. before_later c.args.old.now.moves c.skip-from.result d.time t c.skip-from.ensures.before
           (none_later-last t q moves (move_of k) h);
@@ -162,13 +183,13 @@ loop-port-preserved g c =
       begun = λ o s. begins_same g.row.N plan o c.loop-port.span c.push.new.self first (i.begun o s);
       placed = placed_more g.row.N c.args.old.now c.loop-port.places live new p (moved_port live p d) c.in_ok-kept.at
           few (stands.ports_count ∙ c.in-Some.ensures.is_plan.settings_count)
-          (omega (arith, known, c.in-Some.ensures.is_plan.settings_count)) c.in_ok-kept.ensures.ports c.in_ok-kept.ensures.found
+          (omega (arith, known, c.in-Some.ensures.is_plan.settings_count)) moved_ports c.in_ok-kept.ensures.found
           (subst (ArePlaced g.row.N c.args.old.now c.loop-port.places) (sym c.reply-answer.ensures.budget)
           (placed_at_budget g.row.N c.args.old.now c.loop-port.places stood _ i.placed));
       left = left_moved g.row.N c.loop-port.span c.push.new.self live new p k (moved_port live p d)
           (stands.ports_count ∙ c.in-Some.ensures.is_plan.settings_count)
           (omega (arith, known, c.in-Some.ensures.is_plan.settings_count)) refl
-          (kept_is_moved live p port x d a refl c.reply-answer.ensures.answer) c.in_ok-kept.ensures.ports first pushed
+          (kept_is_moved live p port x d a refl c.reply-answer.ensures.answer) moved_ports first pushed
           (subst (AreLeft g.row.N c.loop-port.span) (sym c.reply-answer.ensures.budget) i.left);
       earlier = All-push (IsEarlier c.args.to) moves (move_of k) i.earlier soon;
       later = λ o from s up. All-push (IsLater from) moves (move_of k) (i.later o from s up) (not_before o from s up);

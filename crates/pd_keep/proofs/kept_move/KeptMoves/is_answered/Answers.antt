@@ -2,8 +2,9 @@ use Rattle.std.proofs.Common.{◌≡◌, ◌<◌, List, length, ap, sym, ◌∙�
 use Rattle.std.proofs.lemmas.Option.{slice_get_within}
 use Rattle.pd_ledger.specs.Account.{Account}
 use Rattle.pd_keep.specs.Asked.{IsAsked}
+use Rattle.pd_keep.specs.declared.kept_move.Brief.{Brief}
 use Rattle.pd_keep.specs.Kept.{KeptData, RunData, move_of}
-use Rattle.pd_keep.proofs.Asked.{mark_at, quiet_at, quiet_answered, quiet_held, told_of}
+use Rattle.pd_keep.proofs.Asked.{brief_at, quiet_at, quiet_answered, quiet_held, told_of}
 use Rattle.pd_keep.proofs.kept_move.KeptMoves.is_answered.Goals as goal
 
 pub returns-then-not-index-clause-answered : goal.returns-then-not-index-clause-answered
@@ -15,8 +16,10 @@ returns-then-not-index-clause-answered g c = λ _ past k a.
     let is : moves ≡ c.args.self.now.moves = ap (λ (r : RunData). r.moves) c.self.view_is in
     let asked : IsAsked plan past shared moves i k = subst (λ (l : List KeptData). IsAsked plan past shared l i k) (sym is) a in
     let inside : i < length moves = slice_get_within moves i k asked.there in
-    let none = mark_at moves c.self.inside.stirs.items i c.index.result.now c.self.invariant.2 inside c.index.ensures c.if-not-index.true in
-    let quiet = quiet_at moves c.self.inside.stirs.items i k c.self.invariant.2 asked.there none in
+    let briefs : List Brief = c.self.inside.briefs.items in
+    let read = brief_at moves briefs i c.index.result.now c.self.invariant.2 inside c.index.ensures in
+    let none = sym (ap (λ (b : Brief). b.stirs) read) ∙ c.if-not-index.true in
+    let quiet = quiet_at moves briefs i k c.self.invariant.2 asked.there none in
     quiet_answered plan past shared moves i k asked quiet
 
 pub returns-then-not-index-clause-held : goal.returns-then-not-index-clause-held
@@ -28,8 +31,10 @@ returns-then-not-index-clause-held g c = λ _ past k a.
     let is : moves ≡ c.args.self.now.moves = ap (λ (r : RunData). r.moves) c.self.view_is in
     let asked : IsAsked plan past shared moves i k = subst (λ (l : List KeptData). IsAsked plan past shared l i k) (sym is) a in
     let inside : i < length moves = slice_get_within moves i k asked.there in
-    let none = mark_at moves c.self.inside.stirs.items i c.index.result.now c.self.invariant.2 inside c.index.ensures c.if-not-index.true in
-    let quiet = quiet_at moves c.self.inside.stirs.items i k c.self.invariant.2 asked.there none in
+    let briefs : List Brief = c.self.inside.briefs.items in
+    let read = brief_at moves briefs i c.index.result.now c.self.invariant.2 inside c.index.ensures in
+    let none = sym (ap (λ (b : Brief). b.stirs) read) ∙ c.if-not-index.true in
+    let quiet = quiet_at moves briefs i k c.self.invariant.2 asked.there none in
     quiet_held plan past shared moves i k asked quiet
 
 pub index-requires-2 : goal.index-requires-2

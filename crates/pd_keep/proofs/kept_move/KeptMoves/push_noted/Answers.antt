@@ -1,15 +1,16 @@
-use Rattle.std.proofs.Common.{◌≡◌, ◌-◌, ◌<◌, ◌++◌, ◌∷◌, [], Bool, false, List, length, map, ap, sym, ◌∙◌, subst, slice_index_or, arith}
+use Rattle.std.proofs.Common.{◌≡◌, ◌-◌, ◌<◌, ◌++◌, ◌∷◌, [], List, length, map, ap, sym, ◌∙◌, subst, slice_index_or, arith}
 use Rattle.std.proofs.lemmas.List.{map-append}
 use Rattle.pd_port.specs.Port.{PortData}
 use Rattle.pd_run.specs.declared.note.Marks.{Marks}
+use Rattle.pd_keep.specs.declared.kept_move.Brief.{Brief}
 use Rattle.pd_keep.specs.declared.kept_move.Place.{Place}
 use Rattle.pd_keep.specs.declared.kept_move.Place.TheVariants.{First}
-use Rattle.pd_keep.specs.Kept.{KeptData, RunData, IsLeft, IsQuiet, left_by, marks_kept}
+use Rattle.pd_keep.specs.Kept.{KeptData, RunData, IsLeft, left_by, marks_kept}
 use Rattle.pd_keep.specs.Presence.{AreNoted}
-use Rattle.pd_keep.proofs.Asked.{quiet_more}
+use Rattle.pd_keep.proofs.Asked.{brief_more}
 use Rattle.pd_keep.proofs.Noted.{noted_more}
 use Rattle.pd_keep.proofs.Places.{last_more, linked_more}
-use Rattle.pd_keep.proofs.kept_move.KeptMoves.push.Goals as goal
+use Rattle.pd_keep.proofs.kept_move.KeptMoves.push_noted.Goals as goal
 
 pub invariant_of-self-2 : goal.invariant_of-self-2
 invariant_of-self-2 c =
@@ -31,9 +32,8 @@ invariant_of-self-2 c =
     let stood : IsLeft first moves (k.port - 1) link k.before =
     subst (λ q. IsLeft first moves q link k.before) (sym own)
     (subst (λ (x : PortData). IsLeft first moves p link x) (sym goes) (c.self.invariant.3.last p known)) in
-    let stirs : c.push_reserved-3.new.self.items ≡ c.self.inside.stirs.items ++ c.stirs-stirs.result ∷ [] =
-    c.push_reserved-3.ensures.items ∙ ap (λ (l : List Bool). l ++ c.stirs-stirs.result ∷ []) c.in_ok-reserve-3.ensures.items in
-    let quiet : c.stirs-stirs.result ≡ false → IsQuiet k = λ e. subst IsQuiet c.kept-2.ensures (c.stirs-stirs.ensures e) in
+    let briefs : c.push_reserved-3.new.self.items ≡ c.self.inside.briefs.items ++ c.args.brief ∷ [] =
+    c.push_reserved-3.ensures.items ∙ ap (λ (l : List Brief). l ++ c.args.brief ∷ []) c.in_ok-reserve-3.ensures.items in
     let noted : AreNoted c.with-presence.result c.push_reserved.new.self.items =
     subst (λ (l : List Marks). AreNoted c.with-presence.result l)
     (sym (c.push_reserved.ensures.items ∙ ap (λ (l : List Marks). l ++ c.args.marks ∷ []) c.in_ok-reserve.ensures.items))
@@ -41,10 +41,10 @@ invariant_of-self-2 c =
     c.with-presence.ensures.contract c.with-presence.ensures.fault) in
     rw c.in_ok-push.ensures.items
     (rw links
-    (rw stirs (
+    (rw briefs (
       marks,
       linked_more first moves c.self.inside.links.items k link c.self.invariant.1 stood,
-      quiet_more moves c.self.inside.stirs.items k c.stirs-stirs.result c.self.invariant.2 quiet,
+      brief_more moves c.self.inside.briefs.items k c.args.brief c.self.invariant.2 c.requires.brief,
       last_more first moves lasts k p c.len.result c.self.invariant.3 own known
           (c.len.ensures ∙ ap (λ (r : RunData). length r.moves) (sym c.self.view_is)),
       noted,

@@ -1,0 +1,295 @@
+//! A span of a run beside an older run's, in which ports that stand as the older run's follow it.
+
+ghost use Rattle.std.specs.Prelude.{◌≡◌, ◌⊎◌, ℕ, ◌-◌, ◌<◌, ◌≤◌, ◌++◌, List, IfOk, OnOk, IsTrue, IsFalse, map, length};
+ghost use Rattle.std.specs.Prelude.{All, Bool, MatchOption, None, true, false, slice_index_or};
+ghost use Rattle.pd_port.specs.Port.{PortData};
+ghost use Rattle.pd_scenario.specs.Plan.{Plan as PlanData, count, force};
+ghost use Rattle.pd_run.specs.Live.{LiveData, StandsAfter, StandsBut, at_budget, port_at};
+ghost use Rattle.pd_run.specs.Run.{Move};
+ghost use Rattle.pd_keep.specs.Following.{AreNumbered, CanFollow, ComesAfter, ComesFirst, HasCome, HasCameOn, HasPassed, IsAway};
+ghost use Rattle.pd_keep.specs.Following.{IsFollowedTurn, IsNextFollowed, IsOwnTurn, IsPassing, IsThrough};
+ghost use Rattle.pd_keep.specs.Kept.{KeptData, move_of, IsKnown, IsMade, IsOwn, AreInTime, left_by};
+ghost use Rattle.pd_keep.specs.Places.{StandAs};
+ghost use Rattle.pd_keep.specs.Rerun.{AreThose, Costs, IsNextSpan};
+
+use crate::kept_move::{Brief, KeptMoves, Place};
+use crate::one_span::{make, next_before, skip};
+use pd_port::{Due, Meter};
+use pd_run::{Live, Plan};
+use std::alloc::{AllocError, Global};
+
+/// How far a span has come beside an older one: so many moves of the older one are past; before another of its places all are of earlier
+/// times; these ports follow it, and the others stand at these places in it; and the moves of the span.
+#[derive(Drop)]
+pub struct Course {
+    pub at: usize,
+    pub from: usize,
+    pub away: [bool; 8],
+    pub places: [Option<Place>; 8],
+    pub span: KeptMoves,
+}
+
+// The first move from a place on whose port follows, or the number of moves where there is none.
+fn next_followed(old: &KeptMoves, from: usize, away: &[bool; 8]) -> usize
+    requires numbered { AreNumbered 8 old.now.moves }
+    requires within { from ≤ length old.now.moves }
+    ensures { IsNextFollowed old.now.moves away.now from result }
+{
+    let mut at = from;
+    while at < old.len() && !follows(away, &old.brief(at)) {
+        at += 1;
+    }
+    at
+}
+
+// Whether a move's port follows.
+fn follows(away: &[bool; 8], brief: &Brief) -> bool
+    requires first { 1 ≤ brief.now.port }
+    requires last { brief.now.port ≤ 8 }
+    ensures { result ≡ slice_index_or away.now (brief.now.port - 1) false }
+{
+    away[brief.port - 1]
+}
+
+// Whether there is such a move, and it comes before what is next on the other ports.
+fn comes_first(old: &KeptMoves, at: usize, own: &Option<(usize, Due)>) -> bool
+    ensures first { IsTrue result → (k : KeptData) → (at < length old.now.moves) × ComesFirst (slice_index_or old.now.moves at k) own.now }
+    ensures other { IsFalse result → (k : KeptData) → at < length old.now.moves
+        → MatchOption own.now ⊥ (λ r. ComesAfter (slice_index_or old.now.moves at k) r.0 r.1) }
+{
+    if at >= old.len() {
+        return false;
+    }
+    let brief = old.brief(at);
+    match own {
+        None => true,
+        Some((port, due)) => {
+            brief.time < due.time || brief.time == due.time && brief.port < *port
+        }
+    }
+}
+
+// A port that follows moves as in the older run, where its move has the answer that the shared budget gives.
+fn passes<const N: usize>(plan: &Plan<N>, old: &KeptMoves, at: usize, live: &mut Live<N>) -> bool
+    requires inside { at < length old.now.moves }
+    requires passing { (past : List Move) × (away : List Bool) × (whole : LiveData) × ((k : KeptData)
+        → IsPassing plan.now past away whole live.old (slice_index_or old.now.moves at k)) }
+    ensures passed { IsTrue result → (past : List Move) (away : List Bool) (whole : LiveData) (k : KeptData)
+        → IsPassing plan.now past away whole live.old (slice_index_or old.now.moves at k)
+        → HasPassed plan.now past away whole live.new (slice_index_or old.now.moves at k) }
+    ensures ports { live.new.ports ≡ live.old.ports }
+    ensures other { IsFalse result → (k : KeptData)
+        → live.new ≡ at_budget live.old (force plan.now (slice_index_or old.now.moves at k).due.time) }
+{
+    let _end = plan.end();
+    let brief = old.brief(at);
+    if brief.stirs {
+        let kept = old.kept(at);
+        let left = kept.after.hold();
+        return live.follow(plan, kept.port, &kept.entry, &kept.answer, left);
+    }
+    live.pass(brief.port, brief.is_event);
+    true
+}
+
+// The move of a port that doesn't follow, which is the next one where all ports stand.
+fn move_own<const N: usize>(
+    alloc: Global,
+    old: &KeptMoves,
+    course: &mut Course,
+    plan: &Plan<N>,
+    live: &mut Live<N>,
+    port: usize,
+    due: Due,
+    meter: &mut Meter,
+) -> Result<(), AllocError>
+    requires made { All IsMade old.now.moves }
+    requires in_time { AreInTime old.now.moves }
+    requires next { (a : PlanData) × (all : List Move) × (past : List Move) × (from : ℕ) × (most : ℕ) × (first : ℕ)
+        × IsOwnTurn N a all old.now plan.now past from most first meter.old course.old live.old port due }
+    ensures came { OnOk result ((a : PlanData) (all : List Move) (past : List Move) (from most first : ℕ)
+        → IsOwnTurn N a all old.now plan.now past from most first meter.old course.old live.old port due
+        → HasCameOn N a all old.now plan.now past from most first meter.new course.new live.new (length course.old.span.moves)) }
+    ensures rises { meter.old ≤ meter.new }
+{
+    let answer = live.reply_beside(plan, port, &due);
+    course.from = skip(old, course.from, due.time);
+    let left = course.places[port - 1];
+    let (kept, marks, place) = make(
+        alloc,
+        old,
+        course.from,
+        left,
+        plan,
+        live,
+        port,
+        due,
+        answer,
+        meter,
+    )?;
+    course.span.push(port, kept, marks)?;
+    course.places[port - 1] = place;
+    Ok(())
+}
+
+// A port that followed is answered otherwise than in the older run: from here on it moves for itself.
+fn leave<const N: usize>(
+    alloc: Global,
+    old: &KeptMoves,
+    course: &mut Course,
+    plan: &Plan<N>,
+    live: &mut Live<N>,
+    meter: &mut Meter,
+) -> Result<(), AllocError>
+    requires made { All IsMade old.now.moves }
+    requires in_time { AreInTime old.now.moves }
+    requires inside { course.old.at < length old.now.moves }
+    requires next { (a : PlanData) × (all : List Move) × (past : List Move) × (from : ℕ) × (most : ℕ) × (first : ℕ)
+        × IsFollowedTurn N a all old.now plan.now past from most first meter.old course.old live.old }
+    ensures came { OnOk result ((a : PlanData) (all : List Move) (past : List Move) (from most first : ℕ)
+        → IsFollowedTurn N a all old.now plan.now past from most first meter.old course.old live.old
+        → HasCameOn N a all old.now plan.now past from most first meter.new course.new live.new (length course.old.span.moves)) }
+    ensures rises { meter.old ≤ meter.new }
+{
+    let kept = old.kept(course.at);
+    let port = kept.port;
+    let due = kept.entry.due;
+    live.take_up(plan, port, kept.before.share()?);
+    course.away[port - 1] = false;
+    course.places[port - 1] = Some(old.place_before(course.at));
+    move_own(alloc, old, course, plan, live, port, due, meter)
+}
+
+// The next move of the span, if there is one.
+fn turn<const N: usize>(
+    alloc: Global,
+    old: &KeptMoves,
+    course: &mut Course,
+    plan: &Plan<N>,
+    live: &mut Live<N>,
+    meter: &mut Meter,
+) -> Result<bool, AllocError>
+    requires made { All IsMade old.now.moves }
+    requires in_time { AreInTime old.now.moves }
+    requires numbered { AreNumbered N old.now.moves }
+    requires come { (a : PlanData) × (all : List Move) × (past : List Move) × (from : ℕ) × (most : ℕ) × (first : ℕ)
+        × HasCome N a all old.now plan.now past from most first meter.old course.old live.old }
+    ensures came { IfOk result (λ more. IsTrue more → (a : PlanData) (all : List Move) (past : List Move) (from most first : ℕ)
+        → HasCome N a all old.now plan.now past from most first meter.old course.old live.old
+        → HasCameOn N a all old.now plan.now past from most first meter.new course.new live.new (length course.old.span.moves)) }
+    ensures through { IfOk result (λ more. IsFalse more → (a : PlanData) (all : List Move) (past : List Move) (from most first : ℕ)
+        → HasCome N a all old.now plan.now past from most first meter.old course.old live.old
+        → IsThrough N a all old.now plan.now past from most first meter.new course.new live.new) }
+    ensures rises { meter.old ≤ meter.new }
+{
+    let (_end, _len) = (plan.end(), old.len());
+    course.at = next_followed(old, course.at, &course.away);
+    let own = next_before(live, plan, old.to());
+    if comes_first(old, course.at, &own) {
+        if passes(plan, old, course.at, live) {
+            course.span.push_again(old, course.at)?;
+            course.at += 1;
+        } else {
+            leave(alloc, old, course, plan, live, meter)?;
+        }
+        return Ok(true);
+    }
+    let Some((port, due)) = own else {
+        return Ok(false);
+    };
+    move_own(alloc, old, course, plan, live, port, due, meter)?;
+    Ok(true)
+}
+
+// From here on these ports follow.
+fn set_aside<const N: usize>(live: &mut Live<N>, away: &[bool; 8])
+    requires few { N ≤ 8 }
+    ensures { (plan : PlanData) (past : List Move) → count plan ≡ N → StandsAfter plan past live.old
+        → StandsBut plan past away.now live.old live.new }
+{
+    for port in 0..N {
+        if away[port] {
+            live.set_aside(port + 1);
+        }
+    }
+}
+
+// The ports that have followed to the end of the span stand as it leaves them.
+fn take_up<const N: usize>(
+    old: &KeptMoves,
+    away: &[bool; 8],
+    plan: &Plan<N>,
+    live: &mut Live<N>,
+) -> Result<(), AllocError>
+    requires few { N ≤ 8 }
+    requires count { length old.now.first ≡ N }
+    ensures { OnOk result ((past : List Move) (whole : LiveData) → StandsBut plan.now past away.now whole live.old
+        → ((p : ℕ) → p < N → IsAway away.now p → left_by old.now.first old.now.moves p ≡ port_at whole p)
+        → StandsAfter plan.now past live.new) }
+{
+    let _end = plan.end();
+    for port in 0..N {
+        if away[port] {
+            live.take_up(plan, port + 1, old.last_port(port)?);
+        }
+    }
+    Ok(())
+}
+
+/// The moves of a run up to the end of an older one's span, through which the ports that are marked follow it. Which ports are known to
+/// stand then as the older run's. The meter rises by the moves that the older one doesn't have.
+///
+/// # Errors
+/// There is no memory. The ports stand anywhere.
+pub fn follow_span<const N: usize>(
+    alloc: Global,
+    old: &KeptMoves,
+    alike: &[bool; 8],
+    plan: &Plan<N>,
+    live: &mut Live<N>,
+    meter: &mut Meter,
+) -> Result<(KeptMoves, [bool; 8]), AllocError>
+    requires made { All IsMade old.now.moves }
+    requires in_time { AreInTime old.now.moves }
+    requires numbered { AreNumbered N old.now.moves }
+    requires follows { (a : PlanData) × (all : List Move) × (past : List Move) × (from : ℕ)
+        × CanFollow N a all old.now plan.now past from alike.now live.old }
+    ensures span { IfOk result (λ r. (a : PlanData) (all : List Move) (past : List Move) (from : ℕ)
+        → CanFollow N a all old.now plan.now past from alike.now live.old → IsNextSpan N plan.now past from r.0 × (r.0.to ≡ old.now.to)) }
+    ensures stands { IfOk result (λ r. (a : PlanData) (all : List Move) (past : List Move) (from : ℕ)
+        → CanFollow N a all old.now plan.now past from alike.now live.old
+        → StandsAfter plan.now (past ++ map move_of r.0.moves) live.new) }
+    ensures known { IfOk result (λ r. StandAs N r.1 live.new (left_by old.now.first old.now.moves)) }
+    ensures cost { IfOk result (λ r. (a : PlanData) (all : List Move) (past : List Move) (from : ℕ) (olds : List KeptData)
+        → CanFollow N a all old.now plan.now past from alike.now live.old → All (IsOwn a) olds → AreThose olds from old.now.to old.now.moves
+        → Costs a (map move_of olds) plan.now (map move_of r.0.moves) meter.old meter.new) }
+    ensures rises { meter.old ≤ meter.new }
+{
+    let (_end, _count) = (plan.end(), meter.count());
+    let span = KeptMoves::with_room(alloc, live.ports(alloc)?, old.len())?;
+    set_aside(live, alike);
+    let mut course = Course {
+        at: 0,
+        from: 0,
+        away: *alike,
+        places: [None; 8],
+        span,
+    };
+    while turn(alloc, old, &mut course, plan, live, meter)? {}
+    take_up(old, &course.away, plan, live)?;
+    let alike = stand_alike(old, &course.away, &course.places);
+    Ok((course.span.ended(old.to()), alike))
+}
+
+// Which ports are known to stand as the span leaves them: those that have followed it, and those that stand at a last place.
+fn stand_alike(old: &KeptMoves, away: &[bool; 8], places: &[Option<Place>; 8]) -> [bool; 8]
+    ensures { (p : ℕ) → p < 8 → slice_index_or result p false ≡ true
+        → IsAway away.now p ⊎ ((x : PortData) → IsKnown old.now.first old.now.moves p (slice_index_or places.now p None) x
+        → x ≡ left_by old.now.first old.now.moves p) }
+{
+    let mut alike = [false; 8];
+    for port in 0..8 {
+        alike[port] = away[port] || old.leaves(port, places[port]);
+    }
+    alike
+}
