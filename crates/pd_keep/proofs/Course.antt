@@ -724,6 +724,24 @@ own_is_turn n a all old b past from most first meter course live at port due own
       soon = e.1;
     }
 
+-- what is next on the ports that don't follow stays so where their dues do
+pub own_next_on : (b : Plan) (live on : LiveData) (to : ℕ) (own : Option (ℕ × Due)) → on.dues ≡ live.dues → IsOwnNext b live to own
+    → IsOwnNext b on to own
+own_next_on b live on to None dues h =
+    λ q f lt e soon. h q f lt (ap (λ (l : List (Option Due)). slice_index_or l q None) (sym dues) ∙ e) soon
+own_next_on b live on to (Some r) dues h = (
+  record {
+    from_one = h.0.from_one;
+    first = record {
+      known = h.0.first.known;
+      is_due = ap (λ (l : List (Option Due)). slice_index_or l (r.0 - 1) None) dues ∙ h.0.first.is_due;
+      soon = h.0.first.soon;
+      least = λ q f lt e. h.0.first.least q f lt (ap (λ (l : List (Option Due)). slice_index_or l q None) (sym dues) ∙ e);
+    };
+  },
+  h.1,
+)
+
 -- none is left
 pub none_left_through : (n : ℕ) (a : Plan) (all : List Move) (old : RunData) (b : Plan) (past : List Move) (from most first meter : ℕ)
     (course : Course) (live : LiveData) (at : ℕ) (own : Option (ℕ × Due)) (d : KeptData)

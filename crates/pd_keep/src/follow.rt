@@ -7,7 +7,7 @@ ghost use Rattle.pd_scenario.specs.Plan.{Plan as PlanData, count, force};
 ghost use Rattle.pd_run.specs.Live.{LiveData, StandsAfter, StandsBut, at_budget, port_at};
 ghost use Rattle.pd_run.specs.Run.{Move};
 ghost use Rattle.pd_keep.specs.Following.{AreNumbered, CanFollow, ComesAfter, ComesFirst, HasCome, HasCameOn, HasPassed, IsAway};
-ghost use Rattle.pd_keep.specs.Following.{IsFollowedTurn, IsNextFollowed, IsOwnTurn, IsPassing, IsThrough};
+ghost use Rattle.pd_keep.specs.Following.{IsFollowedTurn, IsNextFollowed, IsOwnNext, IsOwnTurn, IsPassing, IsThrough};
 ghost use Rattle.pd_keep.specs.Kept.{KeptData, move_of, IsKnown, IsMade, IsOwn, AreInTime, left_by};
 ghost use Rattle.pd_keep.specs.Places.{StandAs};
 ghost use Rattle.pd_keep.specs.Rerun.{AreThose, Costs, IsNextSpan};
@@ -78,6 +78,7 @@ fn passes<const N: usize>(plan: &Plan<N>, old: &KeptMoves, at: usize, live: &mut
         → IsPassing plan.now past away whole live.old (slice_index_or old.now.moves at k)
         → HasPassed plan.now past away whole live.new (slice_index_or old.now.moves at k) }
     ensures ports { live.new.ports ≡ live.old.ports }
+    ensures dues { live.new.dues ≡ live.old.dues }
     ensures other { IsFalse result → (k : KeptData)
         → live.new ≡ at_budget live.old (force plan.now (slice_index_or old.now.moves at k).due.time) }
 {
@@ -160,18 +161,20 @@ fn leave<const N: usize>(
     move_own(alloc, old, course, plan, live, port, due, meter)
 }
 
-// The next move of the span, if there is one.
+// The next move of the span, if there is one, beside what is next on the ports that don't follow.
 fn turn<const N: usize>(
     alloc: Global,
     old: &KeptMoves,
     course: &mut Course,
     plan: &Plan<N>,
     live: &mut Live<N>,
+    own: &mut Option<(usize, Due)>,
     meter: &mut Meter,
 ) -> Result<bool, AllocError>
     requires made { All IsMade old.now.moves }
     requires in_time { AreInTime old.now.moves }
     requires numbered { AreNumbered N old.now.moves }
+    requires own { IsOwnNext plan.now live.old old.now.to own.old }
     requires come { (a : PlanData) × (all : List Move) × (past : List Move) × (from : ℕ) × (most : ℕ) × (first : ℕ)
         × HasCome N a all old.now plan.now past from most first meter.old course.old live.old }
     ensures came { IfOk result (λ more. IsTrue more → (a : PlanData) (all : List Move) (past : List Move) (from most first : ℕ)
@@ -180,24 +183,26 @@ fn turn<const N: usize>(
     ensures through { IfOk result (λ more. IsFalse more → (a : PlanData) (all : List Move) (past : List Move) (from most first : ℕ)
         → HasCome N a all old.now plan.now past from most first meter.old course.old live.old
         → IsThrough N a all old.now plan.now past from most first meter.new course.new live.new) }
+    ensures own { IfOk result (λ more. IsTrue more → IsOwnNext plan.now live.new old.now.to own.new) }
     ensures rises { meter.old ≤ meter.new }
 {
     let (_end, _len) = (plan.end(), old.len());
     course.at = next_followed(old, course.at, &course.away);
-    let own = next_before(live, plan, old.to());
-    if comes_first(old, course.at, &own) {
+    if comes_first(old, course.at, own) {
         if passes(plan, old, course.at, live) {
             course.span.push_again(old, course.at)?;
             course.at += 1;
-        } else {
-            leave(alloc, old, course, plan, live, meter)?;
+            return Ok(true);
         }
+        leave(alloc, old, course, plan, live, meter)?;
+        *own = next_before(live, plan, old.to());
         return Ok(true);
     }
-    let Some((port, due)) = own else {
+    let Some((port, due)) = *own else {
         return Ok(false);
     };
     move_own(alloc, old, course, plan, live, port, due, meter)?;
+    *own = next_before(live, plan, old.to());
     Ok(true)
 }
 
@@ -275,7 +280,8 @@ pub fn follow_span<const N: usize>(
         places: [None; 8],
         span,
     };
-    while turn(alloc, old, &mut course, plan, live, meter)? {}
+    let mut own = next_before(live, plan, old.to());
+    while turn(alloc, old, &mut course, plan, live, &mut own, meter)? {}
     take_up(old, &course.away, plan, live)?;
     let alike = stand_alike(old, &course.away, &course.places);
     Ok((course.span.ended(old.to()), alike))

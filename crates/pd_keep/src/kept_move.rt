@@ -423,7 +423,7 @@ impl KeptMoves {
             ≡ kept_of port before.now due.now answer.now) }
     {
         let kept = self.moves[i].kept();
-        kept.port == port
+        self.brief(i).port == port
             && kept.entry.due.same(due)
             && same_answer(&kept.answer, answer)
             && (self.follows(i, left) || same_port(kept.before.port(), before))

@@ -1,6 +1,7 @@
 use Rattle.std.proofs.Common.{◌≡◌, ◌++◌, List, map, ap, sym, ◌∙◌, subst, arith, refl}
 use Rattle.pd_run.specs.Live.{StandsAfter}
 use Rattle.pd_run.specs.StepsLeft.{steps_left}
+use Rattle.pd_keep.specs.Following.{IsOwnNext}
 use Rattle.pd_keep.specs.Kept.{KeptData, RunData, move_of}
 use Rattle.pd_keep.specs.Rerun.{Costs}
 use Rattle.pd_keep.proofs.Course.{come_first, no_places, through_span, known_through, followed_left}
@@ -16,6 +17,7 @@ loop-course-init g c = record {
       refl no_places
       (ap (λ (r : RunData). r.first) c.in_ok-span.ensures ∙ c.in_ok-ports.ensures) (ap (λ (r : RunData). r.moves) c.in_ok-span.ensures)
       (omega arith);
+  own = subst (λ t. IsOwnNext c.args.plan.now c.set_aside.new.live t c.next_before-own.result) c.to.ensures c.next_before-own.ensures.own;
   rises = omega arith;
 }
 
@@ -32,13 +34,16 @@ turn-requires g c =
             (
               c.requires.numbered,
               (
-                r.0,
-                r.1,
-                r.2,
-                r.3,
-                steps_left c.args.plan.now c.args.live.now,
-                c.args.meter.now,
-                c.loop-course.invariant.come r.0 r.1 r.2 r.3 r.4,
+                c.loop-course.invariant.own,
+                (
+                  r.0,
+                  r.1,
+                  r.2,
+                  r.3,
+                  steps_left c.args.plan.now c.args.live.now,
+                  c.args.meter.now,
+                  c.loop-course.invariant.come r.0 r.1 r.2 r.3 r.4,
+                ),
               ),
             ),
           ),
@@ -60,7 +65,7 @@ returns-clause-span g c = λ a all past from h.
     let through = c.in_ok-turn.ensures.through c.if-branch.false a all past from (steps_left c.args.plan.now c.args.live.now)
     c.args.meter.now (c.loop-course.invariant.come a all past from h) in
     let is : c.ended.result ≡ record c.turn.new.course.span { to = c.args.old.now.to } =
-    c.ended.ensures ∙ ap (λ t. record c.turn.new.course.span { to = t }) c.to.ensures in (
+    c.ended.ensures ∙ ap (λ t. record c.turn.new.course.span { to = t }) c.to-2.ensures in (
       through_span g.row.N a all c.args.old.now c.args.plan.now past from (steps_left c.args.plan.now c.args.live.now) c.args.meter.now
           c.turn.new.meter c.turn.new.course c.turn.new.live c.ended.result through is,
       ap (λ (r : RunData). r.to) is,

@@ -1,7 +1,6 @@
-use Rattle.std.proofs.Common.{◌<◌, ◌++◌, map, ap, subst, arith, refl, length, slice_index_or}
-use Rattle.pd_keep.specs.Following.{IsOwnNext}
+use Rattle.std.proofs.Common.{◌<◌, ◌++◌, map, ap, arith, refl, length, slice_index_or}
 use Rattle.pd_keep.specs.Kept.{RunData, move_of}
-use Rattle.pd_keep.proofs.Course.{passing, came_followed, followed_turn, own_is_turn, none_left_through, passing_left}
+use Rattle.pd_keep.proofs.Course.{passing, came_followed, followed_turn, own_is_turn, none_left_through, own_next_on, passing_left}
 use Rattle.pd_keep.proofs.Following.{some_kept}
 use Rattle.pd_keep.proofs.follow.turn.Goals as goal
 
@@ -10,7 +9,6 @@ passes-requires g c =
     let r = c.requires.come in
     let plan = c.args.plan.now in
     let at = c.next_followed-course.result in
-    let own_next = subst (λ t. IsOwnNext plan c.args.live.now t c.next_before-own.result) c.to.ensures c.next_before-own.ensures.own in
     let inside : at < length c.args.old.now.moves = (c.comes_first.ensures.first c.if-comes_first.true some_kept).0 in (
       omega arith,
       (
@@ -24,8 +22,8 @@ passes-requires g c =
             λ k.
                 let numbered = c.requires.numbered at k inside in
                 passing g.row.N r.0 r.1 c.args.old.now plan r.2 r.3 r.4 r.5 c.args.meter.now c.args.course.now c.args.live.now at
-                c.next_before-own.result k r.6 c.next_followed-course.ensures inside (c.comes_first.ensures.first c.if-comes_first.true k).1
-                own_next numbered.0 numbered.1,
+                c.args.own.now k r.6 c.next_followed-course.ensures inside (c.comes_first.ensures.first c.if-comes_first.true k).1
+                c.requires.own numbered.0 numbered.1,
           ),
         ),
       ),
@@ -51,13 +49,12 @@ push_again-requires-clause-goes g c = λ k.
     let r = c.requires.come in
     let plan = c.args.plan.now in
     let at = c.next_followed-course.result in
-    let own_next = subst (λ t. IsOwnNext plan c.args.live.now t c.next_before-own.result) c.to.ensures c.next_before-own.ensures.own in
     let first = c.comes_first.ensures.first c.if-comes_first.true k in
     let numbered = c.requires.numbered at k first.0 in
     passing_left g.row.N r.0 r.1 c.args.old.now plan r.2 r.3 r.4 r.5 c.args.meter.now c.args.course.now c.args.live.now r.6.whole
     (slice_index_or c.args.old.now.moves at k) r.6
     (passing g.row.N r.0 r.1 c.args.old.now plan r.2 r.3 r.4 r.5 c.args.meter.now c.args.course.now c.args.live.now at
-    c.next_before-own.result k r.6 c.next_followed-course.ensures first.0 first.1 own_next numbered.0 numbered.1)
+    c.args.own.now k r.6 c.next_followed-course.ensures first.0 first.1 c.requires.own numbered.0 numbered.1)
 
 pub overflow_add-course : goal.overflow_add-course
 overflow_add-course g c =
@@ -71,7 +68,6 @@ leave-requires g c =
     let r = c.requires.come in
     let plan = c.args.plan.now in
     let at = c.next_followed-course.result in
-    let own_next = subst (λ t. IsOwnNext plan c.args.live.now t c.next_before-own.result) c.to.ensures c.next_before-own.ensures.own in
     let inside : at < length c.args.old.now.moves = (c.comes_first.ensures.first c.if-comes_first.true some_kept).0 in (
       omega arith,
       (
@@ -95,7 +91,7 @@ leave-requires g c =
                     let first = c.comes_first.ensures.first c.if-comes_first.true k in
                     let numbered = c.requires.numbered at k first.0 in
                     passing g.row.N r.0 r.1 c.args.old.now plan r.2 r.3 r.4 r.5 c.args.meter.now c.args.course.now c.args.live.now at
-                    c.next_before-own.result k r.6 c.next_followed-course.ensures first.0 first.1 own_next numbered.0 numbered.1)
+                    c.args.own.now k r.6 c.next_followed-course.ensures first.0 first.1 c.requires.own numbered.0 numbered.1)
                     (c.passes.ensures.other c.if-passes.false some_kept),
               ),
             ),
@@ -104,50 +100,9 @@ leave-requires g c =
       ),
     )
 
-pub returns-in_ok-push_again-clause-came : goal.returns-in_ok-push_again-clause-came
-returns-in_ok-push_again-clause-came g c = λ _ a all past from most first h.
-    let plan = c.args.plan.now in
-    let old : RunData = c.args.old.now in
-    let at = c.next_followed-course.result in
-    let own_next = subst (λ t. IsOwnNext plan c.args.live.now t c.next_before-own.result) c.to.ensures c.next_before-own.ensures.own in
-    let comes = c.comes_first.ensures.first c.if-comes_first.true some_kept in
-    let numbered = c.requires.numbered at some_kept comes.0 in
-    let is = passing g.row.N a all old plan past from most first c.args.meter.now c.args.course.now c.args.live.now at
-    c.next_before-own.result some_kept h c.next_followed-course.ensures comes.0 comes.1 own_next numbered.0 numbered.1 in
-    let pushed = c.in_ok-push_again.ensures some_kept in
-    came_followed g.row.N a all old plan past from most first c.args.meter.now c.args.course.now _ c.args.live.now c.passes.new.live at
-    some_kept h c.next_followed-course.ensures comes.0 is
-    (c.passes.ensures.passed c.if-passes.true (past ++ map move_of c.args.course.now.span.moves) c.args.course.now.away h.whole some_kept
-    is)
-    c.passes.ensures.ports refl refl refl refl (ap (λ (x : RunData). x.first) pushed) (ap (λ (x : RunData). x.moves) pushed)
-
-pub returns-in_ok-leave-clause-came : goal.returns-in_ok-leave-clause-came
-returns-in_ok-leave-clause-came g c = λ _ a all past from most first h.
-    let plan = c.args.plan.now in
-    let at = c.next_followed-course.result in
-    let own_next = subst (λ t. IsOwnNext plan c.args.live.now t c.next_before-own.result) c.to.ensures c.next_before-own.ensures.own in
-    c.in_ok-leave.ensures.came a all past from most first
-    (followed_turn g.row.N a all c.args.old.now plan past from most first c.args.meter.now c.args.course.now c.args.live.now
-    c.passes.new.live at _ some_kept h c.next_followed-course.ensures (λ k.
-    let comes = c.comes_first.ensures.first c.if-comes_first.true k in
-    let numbered = c.requires.numbered at k comes.0 in
-    passing g.row.N a all c.args.old.now plan past from most first c.args.meter.now c.args.course.now c.args.live.now at
-    c.next_before-own.result k h c.next_followed-course.ensures comes.0 comes.1 own_next numbered.0 numbered.1)
-    (c.passes.ensures.other c.if-passes.false some_kept))
-
-pub returns-in_default-clause-through : goal.returns-in_default-clause-through
-returns-in_default-clause-through g c = λ _ a all past from most first h.
-    let own_next = subst (λ t. IsOwnNext c.args.plan.now c.args.live.now t c.next_before-own.result) c.to.ensures
-    c.next_before-own.ensures.own in
-    none_left_through g.row.N a all c.args.old.now c.args.plan.now past from most first c.args.meter.now c.args.course.now c.args.live.now
-    c.next_followed-course.result c.next_before-own.result some_kept h c.next_followed-course.ensures c.in_default.is own_next
-    (c.comes_first.ensures.other c.if-comes_first.false)
-
 pub move_own-requires : goal.move_own-requires
 move_own-requires g c =
-    let r = c.requires.come in
-    let own_next = subst (λ t. IsOwnNext c.args.plan.now c.args.live.now t c.next_before-own.result) c.to.ensures
-    c.next_before-own.ensures.own in (
+    let r = c.requires.come in (
       omega arith,
       (
         omega arith,
@@ -163,20 +118,57 @@ move_own-requires g c =
               r.4,
               r.5,
               own_is_turn g.row.N r.0 r.1 c.args.old.now c.args.plan.now r.2 r.3 r.4 r.5 c.args.meter.now c.args.course.now c.args.live.now
-                  c.next_followed-course.result c.in-Some.port c.in-Some.due c.next_before-own.result some_kept r.6
+                  c.next_followed-course.result c.in-Some.port c.in-Some.due c.args.own.now some_kept r.6
                   c.next_followed-course.ensures
-                  c.in-Some.is own_next (c.comes_first.ensures.other c.if-comes_first.false),
+                  c.in-Some.is c.requires.own (c.comes_first.ensures.other c.if-comes_first.false),
             ),
           ),
         ),
       ),
     )
 
+pub returns-then-passes-clause-came : goal.returns-then-passes-clause-came
+returns-then-passes-clause-came g c = λ _ a all past from most first h.
+    let plan = c.args.plan.now in
+    let old : RunData = c.args.old.now in
+    let at = c.next_followed-course.result in
+    let comes = c.comes_first.ensures.first c.if-comes_first.true some_kept in
+    let numbered = c.requires.numbered at some_kept comes.0 in
+    let is = passing g.row.N a all old plan past from most first c.args.meter.now c.args.course.now c.args.live.now at
+    c.args.own.now some_kept h c.next_followed-course.ensures comes.0 comes.1 c.requires.own numbered.0 numbered.1 in
+    let pushed = c.in_ok-push_again.ensures some_kept in
+    came_followed g.row.N a all old plan past from most first c.args.meter.now c.args.course.now _ c.args.live.now c.passes.new.live at
+    some_kept h c.next_followed-course.ensures comes.0 is
+    (c.passes.ensures.passed c.if-passes.true (past ++ map move_of c.args.course.now.span.moves) c.args.course.now.away h.whole some_kept
+    is)
+    c.passes.ensures.ports refl refl refl refl (ap (λ (x : RunData). x.first) pushed) (ap (λ (x : RunData). x.moves) pushed)
+
+pub returns-then-passes-clause-own : goal.returns-then-passes-clause-own
+returns-then-passes-clause-own g c = λ _.
+    own_next_on c.args.plan.now c.args.live.now c.passes.new.live c.args.old.now.to c.args.own.now c.passes.ensures.dues c.requires.own
+
+pub returns-then-comes_first-clause-came : goal.returns-then-comes_first-clause-came
+returns-then-comes_first-clause-came g c = λ _ a all past from most first h.
+    let plan = c.args.plan.now in
+    let at = c.next_followed-course.result in
+    c.in_ok-leave.ensures.came a all past from most first
+    (followed_turn g.row.N a all c.args.old.now plan past from most first c.args.meter.now c.args.course.now c.args.live.now
+    c.passes.new.live at _ some_kept h c.next_followed-course.ensures (λ k.
+    let comes = c.comes_first.ensures.first c.if-comes_first.true k in
+    let numbered = c.requires.numbered at k comes.0 in
+    passing g.row.N a all c.args.old.now plan past from most first c.args.meter.now c.args.course.now c.args.live.now at
+    c.args.own.now k h c.next_followed-course.ensures comes.0 comes.1 c.requires.own numbered.0 numbered.1)
+    (c.passes.ensures.other c.if-passes.false some_kept))
+
+pub returns-in_default-clause-through : goal.returns-in_default-clause-through
+returns-in_default-clause-through g c = λ _ a all past from most first h.
+    none_left_through g.row.N a all c.args.old.now c.args.plan.now past from most first c.args.meter.now c.args.course.now c.args.live.now
+    c.next_followed-course.result c.args.own.now some_kept h c.next_followed-course.ensures c.in_default.is c.requires.own
+    (c.comes_first.ensures.other c.if-comes_first.false)
+
 pub returns-clause-came : goal.returns-clause-came
 returns-clause-came g c = λ _ a all past from most first h.
-    let own_next = subst (λ t. IsOwnNext c.args.plan.now c.args.live.now t c.next_before-own.result) c.to.ensures
-    c.next_before-own.ensures.own in
     c.in_ok-move_own.ensures.came a all past from most first
     (own_is_turn g.row.N a all c.args.old.now c.args.plan.now past from most first c.args.meter.now c.args.course.now c.args.live.now
-    c.next_followed-course.result c.in-Some.port c.in-Some.due c.next_before-own.result some_kept h c.next_followed-course.ensures
-    c.in-Some.is own_next (c.comes_first.ensures.other c.if-comes_first.false))
+    c.next_followed-course.result c.in-Some.port c.in-Some.due c.args.own.now some_kept h c.next_followed-course.ensures
+    c.in-Some.is c.requires.own (c.comes_first.ensures.other c.if-comes_first.false))
