@@ -1,9 +1,9 @@
 -- How far a span has come of which some ports follow an older run.
 use Rattle.std.proofs.Common.{◌≡◌, ◌≢◌, ◌⊎◌, ⊎_elim, ℕ, ◌+◌, ◌-◌, ◌<◌, ◌≤◌, Bool, true, false, List, [], ◌∷◌, ◌++◌, length, map}
-use Rattle.std.proofs.Common.{All, Option, None, Some, refl, ap, sym, ◌∙◌, subst, arith, get_or, set, take, slice_index_or, option_map}
-use Rattle.std.proofs.Common.{slice_set, append_assoc, zero, suc, MatchOption, replicate}
+use Rattle.std.proofs.Common.{All, Option, None, Some, refl, ap, sym, ◌∙◌, subst, arith, drop, get_or, set, take, slice_index_or, option_map}
+use Rattle.std.proofs.Common.{slice_index, slice_set, append_assoc, zero, suc, MatchOption, replicate}
 use Rattle.std.proofs.lemmas.List.{get_or-set_same, get_or-set_other, length-set, length-map, length_push, map-append, append-nil}
-use Rattle.std.proofs.lemmas.List.{get_or_default, take_all}
+use Rattle.std.proofs.lemmas.List.{get_or_default, length-append, length-drop, length-take-le, take_all}
 use Rattle.std.proofs.lemmas.List.Elements.{All-push}
 use Rattle.std.proofs.Math.ListN as list_map
 use Rattle.std.proofs.lemmas.Bool.{cases_eq, cases_lt, cases_Bool}
@@ -17,7 +17,7 @@ use Rattle.pd_ledger.specs.Offer.{answer_of}
 use Rattle.pd_scenario.specs.Plan.{Plan, count, settings_of, force}
 use Rattle.pd_run.specs.Live.{LiveData, StandsAfter, StandsBut, IsNext, at_budget, due_at, port_at, port_after}
 use Rattle.pd_run.specs.Live.{moved_port, moved_live, next_move}
-use Rattle.pd_run.specs.Live.{IsNextBeside, reply_at, taken_up}
+use Rattle.pd_run.specs.Live.{IsNextBeside, had_with, reply_at, taken_up}
 use Rattle.pd_run.specs.Order.{IsNoLater}
 use Rattle.pd_run.specs.Run.{Move, NoneLater, GoesOn, standing}
 use Rattle.pd_run.specs.Start.{no_port}
@@ -32,23 +32,24 @@ use Rattle.pd_run.proofs.Moves.{no_later-trans}
 use Rattle.pd_run.proofs.Steps.{IsNext-budget, reply_known}
 use Rattle.pd_run.proofs.StepsLeft.{steps_left_less}
 use Rattle.pd_keep.specs.declared.follow.Course.{Course}
+use Rattle.pd_keep.specs.declared.kept_move.Brief.{Brief}
 use Rattle.pd_keep.specs.declared.kept_move.Place.{Place}
 use Rattle.pd_keep.specs.Charge.{Charges}
 use Rattle.pd_keep.specs.Following.{GoBeside, CanFollow, HasCome, HasCameOn, HasPassed, IsAway, IsNextFollowed, IsPassing, IsThrough}
-use Rattle.pd_keep.specs.Following.{AreNumbered, ComesApart, ComesFirst, ComesAfter, IsLate, IsOwnNext, IsOwnTurn, IsFollowedTurn}
+use Rattle.pd_keep.specs.Following.{AreNumbered, ComesApart, ComesFirst, ComesAfter, followed_to, IsLate, IsNextQuiet, IsOwnNext, IsOwnTurn, IsFollowedTurn}
 use Rattle.pd_keep.specs.Fresh.{IsRepeated, AreFresh}
-use Rattle.pd_keep.specs.Kept.{KeptData, RunData, kept_of, move_of, left_by, IsKnown, IsOwn, AreBefore}
+use Rattle.pd_keep.specs.Kept.{KeptData, RunData, kept_of, move_of, left_by, IsKnown, IsOwn, AreBefore, moves_from}
 use Rattle.pd_keep.specs.Places.{StandAs}
 use Rattle.pd_keep.specs.declared.rerun.Standing.{Standing}
 use Rattle.pd_keep.specs.Rerun.{BeginsWithMarked, ComesTo, Costs, IsNextSpan}
 use Rattle.pd_keep.specs.Spans.{BeginsAfter, moves_of}
 use Rattle.pd_keep.proofs.Parted.{in_span}
-use Rattle.pd_keep.proofs.Following.{followed_by, begins_alike, skipped}
+use Rattle.pd_keep.proofs.Following.{followed_by, begins_alike, passed_quiet, skipped}
 use Rattle.pd_keep.proofs.Fresh.{fresh-push_repeated, fresh_step}
 use Rattle.pd_keep.proofs.InTime.{none_later-last, before_later}
 use Rattle.pd_keep.proofs.Later.{due_later_yet}
 use Rattle.pd_keep.proofs.Made.{kept_is_next, kept_is_own, charges_those}
-use Rattle.pd_keep.proofs.Places.{left_after}
+use Rattle.pd_keep.proofs.Places.{left_after, moves_from-more}
 use Rattle.pd_keep.proofs.Shows.{begins_same, begins_with_live}
 
 -- moves of a span are none before its beginning
@@ -282,7 +283,7 @@ came_followed n a all old b past from most first meter course then live on at d 
     subst (λ (m : Move). from ≤ m.due.time) mid_is (later_in n a all old b past from h.beside at (move_of d) inside) in
     let early_k : k.due.time < old.to = subst (λ (m : Move). m.due.time < old.to) mid_is (f.early at (move_of d) inside) in
     record {
-      more = count_more;
+      more = omega arith;
       come = record {
         beside = h.beside;
         whole = passed.then;
@@ -398,7 +399,7 @@ came_own n a all old b past from most first before_it after_it course then live 
     away in
     let f = o.here in cc) in
     record {
-      more = count_more;
+      more = omega arith;
       come = record {
         beside = h.beside;
         whole = moved_live b whole p d;
@@ -683,6 +684,15 @@ come_budget n a all old b past from most first meter course live budget h = reco
   cost = h.cost;
 }
 
+-- where the ports stand as they stood
+pub come_still : (n : ℕ) (a : Plan) (all : List Move) (old : RunData) (b : Plan) (past : List Move) (from most first meter : ℕ)
+    (course : Course) (live on : LiveData) (at : ℕ) (d : KeptData) → HasCome n a all old b past from most first meter course live
+    → IsNextFollowed old.moves course.away course.at at → on ≡ live
+    → HasCome n a all old b past from most first meter (record course { at = at }) on
+come_still n a all old b past from most first meter course live on at d h next same =
+    subst (HasCome n a all old b past from most first meter (record course { at = at })) (sym same)
+    (advanced n a all old b past from most first meter course live at d h next)
+
 -- the turn of a port that follows, whose move isn't answered as before
 pub followed_turn : (n : ℕ) (a : Plan) (all : List Move) (old : RunData) (b : Plan) (past : List Move) (from most first meter : ℕ)
     (course : Course) (live on : LiveData) (at budget : ℕ) (d : KeptData)
@@ -724,6 +734,23 @@ own_is_turn n a all old b past from most first meter course live at port due own
       soon = e.1;
     }
 
+-- the place of the next followed move is that of the next one from there on
+pub followed_here : (moves : List KeptData) (away : List Bool) (from at : ℕ) → IsNextFollowed moves away from at
+    → IsNextFollowed moves away at at
+followed_here moves away from at h = record {
+  from_on = omega arith;
+  within = h.within;
+  none = λ i k le lt. absurd (omega arith);
+  there = h.there;
+}
+
+-- one more of the old run's moves has followed
+pub followed_more : (course : Course) (moves : List KeptData) (at : ℕ) (d : KeptData) → course.at ≤ at → at < length moves
+    → (followed_to course moves (at + 1)).span.moves ≡ (followed_to course moves at).span.moves ++ slice_index_or moves at d ∷ []
+followed_more course moves at d le lt =
+    ap (λ (l : List KeptData). course.span.moves ++ l) (moves_from-more moves course.at at d le lt)
+    ∙ sym (append_assoc course.span.moves (moves_from moves course.at (at - course.at)) (slice_index_or moves at d ∷ []))
+
 -- what is next on the ports that don't follow stays so where their dues do
 pub own_next_on : (b : Plan) (live on : LiveData) (to : ℕ) (own : Option (ℕ × Due)) → on.dues ≡ live.dues → IsOwnNext b live to own
     → IsOwnNext b on to own
@@ -741,6 +768,65 @@ own_next_on b live on to (Some r) dues h = (
   },
   h.1,
 )
+
+-- the place of a quiet move of a port that follows is that of the next followed one
+next_quiet_at : (moves : List KeptData) (away : List Bool) (at : ℕ) (own : Option (ℕ × Due)) (brief : Brief)
+    → IsNextQuiet moves away at own brief → IsNextFollowed moves away at at
+next_quiet_at moves away at own brief q = record {
+  from_on = omega arith;
+  within = (let inside = q.inside in omega arith);
+  none = λ i k le lt. absurd (omega arith);
+  there = λ k _. ap (λ p. slice_index_or away (p - 1) false) (sym (q.brief k).port) ∙ q.there;
+}
+
+-- a quiet move of a port that follows is the next one
+pub quiet_passing : (n : ℕ) (a : Plan) (all : List Move) (old : RunData) (b : Plan) (past : List Move) (from most first meter : ℕ)
+    (course : Course) (begun live : LiveData) (at : ℕ) (own : Option (ℕ × Due)) (brief : Brief) (d : KeptData)
+    → (h : HasCome n a all old b past from most first meter (followed_to course old.moves at) live) → AreNumbered n old.moves
+    → IsNextQuiet old.moves course.away at own brief → IsOwnNext b begun old.to own → live.dues ≡ begun.dues
+    → IsPassing b (past ++ map move_of (followed_to course old.moves at).span.moves) course.away h.whole live
+    (slice_index_or old.moves at d)
+quiet_passing n a all old b past from most first meter course begun live at own brief d h numbered q own_next dues =
+    let there = numbered at d q.inside in
+    passing n a all old b past from most first meter (followed_to course old.moves at) live at own d h (next_quiet_at old.moves course.away at
+    own brief q) q.inside (q.first d) (own_next_on b begun live old.to own dues own_next) there.0 there.1
+
+-- and has passed
+pub quiet_passed : (n : ℕ) (a : Plan) (all : List Move) (old : RunData) (b : Plan) (past : List Move) (from most first meter : ℕ)
+    (course : Course) (begun live : LiveData) (at : ℕ) (own : Option (ℕ × Due)) (brief : Brief) (d : KeptData)
+    → HasCome n a all old b past from most first meter (followed_to course old.moves at) live → AreNumbered n old.moves
+    → IsNextQuiet old.moves course.away at own brief → IsOwnNext b begun old.to own → live.dues ≡ begun.dues → course.at ≤ at
+    → HasCome n a all old b past from most first meter (followed_to course old.moves (at + 1))
+    (record live { taken = slice_set live.taken (brief.port - 1) (had_with (slice_index live.taken (brief.port - 1)) brief.is_event) })
+quiet_passed n a all old b past from most first meter course begun live at own brief d h numbered q own_next dues le =
+    let is = quiet_passing n a all old b past from most first meter course begun live at own brief d h numbered q own_next dues in
+    let passed = passed_quiet n b (past ++ map move_of (followed_to course old.moves at).span.moves) course.away h.whole live
+    (slice_index_or old.moves at d) brief h.beside.is_plan_too is (q.brief d) q.quiet in
+    (came_followed n a all old b past from most first meter (followed_to course old.moves at) (followed_to course old.moves (at + 1)) live _ at
+    d h (next_quiet_at old.moves course.away at own brief q) q.inside is passed refl refl refl refl refl refl
+    (followed_more course old.moves at d le q.inside)).come
+
+-- where none has followed yet
+pub none_followed : (course : Course) (moves : List KeptData)
+    → course.span.moves ++ moves_from moves course.at (course.at - course.at) ≡ course.span.moves
+none_followed course moves =
+    let none : course.at - course.at ≡ 0 = omega arith in
+    ap (λ k. course.span.moves ++ take k (drop course.at moves)) none ∙ append-nil course.span.moves
+
+pub come_here : (n : ℕ) (a : Plan) (all : List Move) (old : RunData) (b : Plan) (past : List Move) (from most first meter : ℕ)
+    (course : Course) (live : LiveData) → HasCome n a all old b past from most first meter course live
+    → HasCome n a all old b past from most first meter (followed_to course old.moves course.at) live
+come_here n a all old b past from most first meter course live h =
+    subst (λ (l : List KeptData). HasCome n a all old b past from most first meter
+    (record course { span = record course.span { moves = l } }) live) (sym (none_followed course old.moves)) h
+
+-- how many the span has then
+pub followed_count : (course : Course) (moves : List KeptData) (at : ℕ) → course.at ≤ at → at ≤ length moves
+    → length (followed_to course moves at).span.moves ≡ length course.span.moves + (at - course.at)
+followed_count course moves at le within =
+    let long = length-drop course.at moves in
+    length-append course.span.moves (take (at - course.at) (drop course.at moves))
+    ∙ ap (λ k. length course.span.moves + k) (length-take-le (at - course.at) (drop course.at moves) (omega arith))
 
 -- none is left
 pub none_left_through : (n : ℕ) (a : Plan) (all : List Move) (old : RunData) (b : Plan) (past : List Move) (from most first meter : ℕ)

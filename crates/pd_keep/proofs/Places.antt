@@ -1,9 +1,10 @@
 -- Where ports stand among the moves of a span.
 use Rattle.std.proofs.Common.{◌≡◌, ◌≢◌, ⊎_elim, ℕ, ◌+◌, ◌-◌, ◌<◌, ◌≤◌, Bool, true, false, cond, eqb, suc, zero}
 use Rattle.std.proofs.Common.{List, [], ◌∷◌, ◌++◌, length, map, All, Option, Some, None, refl}
-use Rattle.std.proofs.Common.{ap, sym, ◌∙◌, arith, subst, slice_index_or, slice_set, replicate}
+use Rattle.std.proofs.Common.{ap, sym, ◌∙◌, arith, subst, drop, get_or, slice_index_or, slice_set, replicate, take}
 use Rattle.std.proofs.Math.ListN.{get_or-append}
 use Rattle.std.proofs.Math.Seq.{get_or-append_seam}
+use Rattle.std.proofs.lemmas.List.{get_or-drop, length-drop, take_more}
 use Rattle.std.proofs.lemmas.List.{get_or-set_same, get_or-set_other, get_or-replicate, get_or_default, length_push, length-set}
 use Rattle.std.proofs.lemmas.Bool.{cases_eq, cases_Bool, cond-true, cond-false, eq-eqb, ne_eqb}
 use Rattle.pd_setup.specs.Settings.{SettingsData}
@@ -14,7 +15,7 @@ use Rattle.pd_run.specs.Run.{Move, Standing, at_start, moved, standing_from}
 use Rattle.pd_run.specs.Start.{no_port}
 use Rattle.pd_keep.specs.declared.kept_move.Place.{Place}
 use Rattle.pd_keep.specs.declared.kept_move.Place.TheVariants.{First, After}
-use Rattle.pd_keep.specs.Kept.{KeptData, RunData, AreLast, AreLinked, IsKnown, IsLeft, IsOwn, left_by, left_from, move_of}
+use Rattle.pd_keep.specs.Kept.{KeptData, RunData, AreLast, AreLinked, IsKnown, IsLeft, IsOwn, left_by, left_from, move_of, moves_from}
 use Rattle.pd_keep.specs.Places.{ArePlaced, StandAs}
 use Rattle.pd_keep.specs.Rerun.{BeginsWithMarked}
 use Rattle.pd_keep.specs.Spans.{BeginsAfter}
@@ -301,3 +302,15 @@ left_after n plan past span p begun own lt =
     left_stands plan span.moves (slice_index_or span.first p no_port) (standing_from plan (at_start plan p) past p) p own
     (begun.ports p lt)
     ∙ ap (port_of (settings_of plan p)) (sym (standing-append plan (at_start plan p) past (map move_of span.moves) p))
+
+-- the moves from a place on, with one more
+pub moves_from-more : (moves : List KeptData) (from at : ℕ) (d : KeptData) → from ≤ at → at < length moves
+    → moves_from moves from ((at + 1) - from) ≡ moves_from moves from (at - from) ++ slice_index_or moves at d ∷ []
+moves_from-more moves from at d le lt =
+    let n = at - from in
+    let there : from + n ≡ at = omega arith in
+    let more : (at + 1) - from ≡ n + 1 = omega arith in
+    let long = length-drop from moves in
+    ap (λ k. take k (drop from moves)) more ∙ take_more (drop from moves) n d (omega arith)
+    ∙ ap (λ (k : KeptData). take n (drop from moves) ++ k ∷ [])
+    (get_or-drop from moves n d ∙ ap (λ i. get_or moves i d) there)

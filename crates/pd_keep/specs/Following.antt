@@ -10,7 +10,8 @@ use Rattle.pd_run.specs.Run.{Move, Run, GoesOn, IsAnswered, NoneLater}
 use Rattle.pd_run.specs.StepsLeft.{steps_left}
 use Rattle.pd_run.specs.UpTo.{before, IsUpTo, AgreeAs, AgreeInScripts, PortIsAlike}
 use Rattle.pd_keep.specs.declared.follow.Course.{Course}
-use Rattle.pd_keep.specs.Kept.{KeptData, RunData, move_of, IsKnown, IsOwn, AreBefore}
+use Rattle.pd_keep.specs.Kept.{KeptData, RunData, move_of, moves_from, IsBrief, IsKnown, IsOwn, AreBefore}
+use Rattle.pd_keep.specs.declared.kept_move.Brief.{Brief}
 use Rattle.pd_keep.specs.Rerun.{AreThose, Costs, BeginsWithMarked, IsSoFar}
 use Rattle.pd_keep.specs.Spans.{BeginsAfter, IsKept, begins_at, moves_of}
 
@@ -47,6 +48,14 @@ pub record IsNextFollowed (moves : List KeptData) (away : List Bool) (from at : 
   pub within : at ≤ length moves
   pub none : (i : ℕ) (k : KeptData) → from ≤ i → i < at → slice_index_or away ((slice_index_or moves i k).port - 1) false ≡ false
   pub there : (k : KeptData) → at < length moves → IsAway away ((slice_index_or moves at k).port - 1)
+
+-- this is the brief of a move that stirs nothing, of a port that follows, and the move comes before what is next on other ports
+pub record IsNextQuiet (moves : List KeptData) (away : List Bool) (at : ℕ) (own : Option (ℕ × Due)) (b : Brief) : Type 0 where
+  pub inside : at < length moves
+  pub brief : (k : KeptData) → IsBrief (slice_index_or moves at k) b
+  pub there : IsAway away (b.port - 1)
+  pub quiet : b.stirs ≡ false
+  pub first : (k : KeptData) → ComesFirst (slice_index_or moves at k) own
 
 -- Moves of an old run and of its ports go from one time to the end of a span, and both plans have the same scripts until then; a run of
 -- the other plan has come up to that time by these moves.
@@ -122,6 +131,13 @@ pub record HasCome (n : ℕ) (a : Plan) (all : List Move) (old : RunData) (b : P
   pub cost : (olds : List KeptData) → All (IsOwn a) olds → AreThose olds from old.to old.moves
       → Costs a (map move_of olds) b (map move_of course.span.moves) first meter
 
+-- the old run's moves have followed up to a place, which the span has then too
+abbrev pub followed_to : Course → List KeptData → ℕ → Course
+followed_to course moves at = record course {
+  at = at;
+  span = record course.span { moves = course.span.moves ++ moves_from moves course.at (at - course.at) };
+}
+
 -- a port that doesn't follow is the next one where all ports stand, before the end of the span
 pub record IsOwnTurn (n : ℕ) (a : Plan) (all : List Move) (old : RunData) (b : Plan) (past : List Move) (from most first meter : ℕ)
     (course : Course) (live : LiveData) (port : ℕ) (d : Due) : Type 0 where
@@ -137,11 +153,11 @@ pub record IsFollowedTurn (n : ℕ) (a : Plan) (all : List Move) (old : RunData)
   pub passing : (k : KeptData) → IsPassing b (past ++ map move_of course.span.moves) course.away come.whole live
       (slice_index_or old.moves course.at k)
 
--- one move more, within the bound
+-- it has more moves
 pub record HasCameOn (n : ℕ) (a : Plan) (all : List Move) (old : RunData) (b : Plan) (past : List Move) (from most first meter : ℕ)
     (course : Course) (live : LiveData) (moves : ℕ) : Type 0 where
   pub come : HasCome n a all old b past from most first meter course live
-  pub more : length course.span.moves ≡ moves + 1
+  pub more : moves < length course.span.moves
 
 -- the span is whole: nothing more is due before its end
 pub record IsThrough (n : ℕ) (a : Plan) (all : List Move) (old : RunData) (b : Plan) (past : List Move) (from most first meter : ℕ)

@@ -1,6 +1,6 @@
 -- Moves that are kept.
 use Rattle.std.specs.Prelude.{◌≡◌, ℕ, ◌-◌, ◌<◌, ◌≤◌, ◌==◌, if◌then◌else◌, true, false, List, [], ◌∷◌, length}
-use Rattle.std.specs.Prelude.{Option, None, Some, slice_index_or}
+use Rattle.std.specs.Prelude.{Option, None, Some, drop, slice_index_or, take}
 use Rattle.pd_objects.specs.declared.query.Answer.{Answer}
 use Rattle.pd_port.specs.declared.due.Due.{Due}
 use Rattle.pd_port.specs.Port.{PortData, record_after, entry_of, hold, is_event}
@@ -56,6 +56,10 @@ AreInTime old = (i j : ℕ) (e : KeptData) → i ≤ j → j < length old → (s
 -- the first n of them are before this time
 abbrev pub AreBefore : List KeptData → ℕ → ℕ → Type 0
 AreBefore old n time = (k : ℕ) (e : KeptData) → k < n → (slice_index_or old k e).due.time < time
+
+-- so many of them, from a place on
+abbrev pub moves_from : List KeptData → ℕ → ℕ → List KeptData
+moves_from moves from n = take n (drop from moves)
 
 -- how a port, numbered from 0 here, stands after these moves, if it stood so before them
 abbrev pub left_from : PortData → List KeptData → ℕ → PortData

@@ -1,14 +1,14 @@
 //! A span of a run beside an older run's, in which ports that stand as the older run's follow it.
 
-ghost use Rattle.std.specs.Prelude.{◌≡◌, ◌⊎◌, ℕ, ◌-◌, ◌<◌, ◌≤◌, ◌++◌, List, IfOk, OnOk, IsTrue, IsFalse, map, length};
+ghost use Rattle.std.specs.Prelude.{◌≡◌, ◌⊎◌, ℕ, ◌-◌, ◌<◌, ◌≤◌, ◌++◌, List, IfOk, IfSome, OnOk, IsTrue, IsFalse, map, length};
 ghost use Rattle.std.specs.Prelude.{All, Bool, MatchOption, None, true, false, slice_index_or};
 ghost use Rattle.pd_port.specs.Port.{PortData};
 ghost use Rattle.pd_scenario.specs.Plan.{Plan as PlanData, count, force};
 ghost use Rattle.pd_run.specs.Live.{LiveData, StandsAfter, StandsBut, at_budget, port_at};
 ghost use Rattle.pd_run.specs.Run.{Move};
 ghost use Rattle.pd_keep.specs.Following.{AreNumbered, CanFollow, ComesAfter, ComesFirst, HasCome, HasCameOn, HasPassed, IsAway};
-ghost use Rattle.pd_keep.specs.Following.{IsFollowedTurn, IsNextFollowed, IsOwnNext, IsOwnTurn, IsPassing, IsThrough};
-ghost use Rattle.pd_keep.specs.Kept.{KeptData, move_of, IsKnown, IsMade, IsOwn, AreInTime, left_by};
+ghost use Rattle.pd_keep.specs.Following.{followed_to, IsFollowedTurn, IsNextFollowed, IsNextQuiet, IsOwnNext, IsOwnTurn, IsPassing, IsThrough};
+ghost use Rattle.pd_keep.specs.Kept.{KeptData, move_of, moves_from, IsKnown, IsMade, IsOwn, AreInTime, left_by};
 ghost use Rattle.pd_keep.specs.Places.{StandAs};
 ghost use Rattle.pd_keep.specs.Rerun.{AreThose, Costs, IsNextSpan};
 
@@ -69,6 +69,56 @@ fn comes_first(old: &KeptMoves, at: usize, own: &Option<(usize, Due)>) -> bool
     }
 }
 
+// Where the moves end, from a place on, that follow, stir nothing, and come before what is next on the other ports. They have passed.
+fn pass_quiet<const N: usize>(
+    old: &KeptMoves,
+    course: &Course,
+    live: &mut Live<N>,
+    own: &Option<(usize, Due)>,
+) -> usize
+    requires numbered { AreNumbered N old.now.moves }
+    requires come { (b : PlanData) × (a : PlanData) × (all : List Move) × (past : List Move) × (from : ℕ) × (most : ℕ) × (first : ℕ)
+        × (meter : ℕ) × HasCome N a all old.now b past from most first meter course.now live.old × IsOwnNext b live.old old.now.to own.now }
+    ensures rising { course.now.at ≤ result }
+    ensures inside { result ≤ length old.now.moves }
+    ensures passed { (b a : PlanData) (all past : List Move) (from most first meter : ℕ)
+        → HasCome N a all old.now b past from most first meter course.now live.old → IsOwnNext b live.old old.now.to own.now
+        → HasCome N a all old.now b past from most first meter (followed_to course.now old.now.moves result) live.new }
+    ensures go { (i : ℕ) (k : KeptData) → course.now.at ≤ i → i < result → (slice_index_or old.now.moves i k).before
+        ≡ left_by course.now.span.first (course.now.span.moves ++ moves_from old.now.moves course.now.at (i - course.now.at))
+        ((slice_index_or old.now.moves i k).port - 1) }
+    ensures dues { live.new.dues ≡ live.old.dues }
+    ensures none { result ≡ course.now.at → live.new ≡ live.old }
+{
+    let _len = old.len();
+    let mut at = course.at;
+    while let Some(brief) = next_quiet(old, at, &course.away, own) {
+        live.pass(brief.port, brief.is_event);
+        at += 1;
+    }
+    at
+}
+
+// The brief of a move, if its port follows, it stirs nothing, and it comes before what is next on the other ports.
+fn next_quiet(
+    old: &KeptMoves,
+    at: usize,
+    away: &[bool; 8],
+    own: &Option<(usize, Due)>,
+) -> Option<Brief>
+    requires few { (i : ℕ) (k : KeptData) → i < length old.now.moves
+        → (1 ≤ (slice_index_or old.now.moves i k).port) × ((slice_index_or old.now.moves i k).port ≤ 8) }
+    ensures { IfSome result (λ brief. IsNextQuiet old.now.moves away.now at own.now brief) }
+{
+    if comes_first(old, at, own) {
+        let brief = old.brief(at);
+        if !brief.stirs && follows(away, &brief) {
+            return Some(brief);
+        }
+    }
+    None
+}
+
 // A port that follows moves as in the older run, where its move has the answer that the shared budget gives.
 fn passes<const N: usize>(plan: &Plan<N>, old: &KeptMoves, at: usize, live: &mut Live<N>) -> bool
     requires inside { at < length old.now.moves }
@@ -83,14 +133,9 @@ fn passes<const N: usize>(plan: &Plan<N>, old: &KeptMoves, at: usize, live: &mut
         → live.new ≡ at_budget live.old (force plan.now (slice_index_or old.now.moves at k).due.time) }
 {
     let _end = plan.end();
-    let brief = old.brief(at);
-    if brief.stirs {
-        let kept = old.kept(at);
-        let left = kept.after.hold();
-        return live.follow(plan, kept.port, &kept.entry, &kept.answer, left);
-    }
-    live.pass(brief.port, brief.is_event);
-    true
+    let kept = old.kept(at);
+    let left = kept.after.hold();
+    live.follow(plan, kept.port, &kept.entry, &kept.answer, left)
 }
 
 // The move of a port that doesn't follow, which is the next one where all ports stand.
@@ -161,7 +206,52 @@ fn leave<const N: usize>(
     move_own(alloc, old, course, plan, live, port, due, meter)
 }
 
-// The next move of the span, if there is one, beside what is next on the ports that don't follow.
+// The next move of the span, if there is one, where the old run has the next move of a port that follows at this place.
+fn turn_at<const N: usize>(
+    alloc: Global,
+    old: &KeptMoves,
+    course: &mut Course,
+    plan: &Plan<N>,
+    live: &mut Live<N>,
+    own: &mut Option<(usize, Due)>,
+    meter: &mut Meter,
+) -> Result<bool, AllocError>
+    requires made { All IsMade old.now.moves }
+    requires in_time { AreInTime old.now.moves }
+    requires numbered { AreNumbered N old.now.moves }
+    requires here { IsNextFollowed old.now.moves course.old.away course.old.at course.old.at }
+    requires own { IsOwnNext plan.now live.old old.now.to own.old }
+    requires come { (a : PlanData) × (all : List Move) × (past : List Move) × (from : ℕ) × (most : ℕ) × (first : ℕ)
+        × HasCome N a all old.now plan.now past from most first meter.old course.old live.old }
+    ensures came { IfOk result (λ more. IsTrue more → (a : PlanData) (all : List Move) (past : List Move) (from most first : ℕ)
+        → HasCome N a all old.now plan.now past from most first meter.old course.old live.old
+        → HasCameOn N a all old.now plan.now past from most first meter.new course.new live.new (length course.old.span.moves)) }
+    ensures through { IfOk result (λ more. IsFalse more → (a : PlanData) (all : List Move) (past : List Move) (from most first : ℕ)
+        → HasCome N a all old.now plan.now past from most first meter.old course.old live.old
+        → IsThrough N a all old.now plan.now past from most first meter.new course.new live.new) }
+    ensures own { IfOk result (λ more. IsTrue more → IsOwnNext plan.now live.new old.now.to own.new) }
+    ensures rises { meter.old ≤ meter.new }
+{
+    let (_end, _len) = (plan.end(), old.len());
+    if comes_first(old, course.at, own) {
+        if passes(plan, old, course.at, live) {
+            course.span.push_again(old, course.at)?;
+            course.at += 1;
+            return Ok(true);
+        }
+        leave(alloc, old, course, plan, live, meter)?;
+        *own = next_before(live, plan, old.to());
+        return Ok(true);
+    }
+    let Some((port, due)) = *own else {
+        return Ok(false);
+    };
+    move_own(alloc, old, course, plan, live, port, due, meter)?;
+    *own = next_before(live, plan, old.to());
+    Ok(true)
+}
+
+// The next moves of the span, if there are any, beside what is next on the ports that don't follow.
 fn turn<const N: usize>(
     alloc: Global,
     old: &KeptMoves,
@@ -188,22 +278,13 @@ fn turn<const N: usize>(
 {
     let (_end, _len) = (plan.end(), old.len());
     course.at = next_followed(old, course.at, &course.away);
-    if comes_first(old, course.at, own) {
-        if passes(plan, old, course.at, live) {
-            course.span.push_again(old, course.at)?;
-            course.at += 1;
-            return Ok(true);
-        }
-        leave(alloc, old, course, plan, live, meter)?;
-        *own = next_before(live, plan, old.to());
+    let quiet = pass_quiet(old, course, live, own);
+    if quiet > course.at {
+        course.span.push_all_again(old, course.at, quiet)?;
+        course.at = quiet;
         return Ok(true);
     }
-    let Some((port, due)) = *own else {
-        return Ok(false);
-    };
-    move_own(alloc, old, course, plan, live, port, due, meter)?;
-    *own = next_before(live, plan, old.to());
-    Ok(true)
+    turn_at(alloc, old, course, plan, live, own, meter)
 }
 
 // From here on these ports follow.

@@ -9,7 +9,7 @@ ghost use Rattle.pd_run.specs.Run.{Move, IsAnswered};
 ghost use Rattle.pd_run.specs.Start.{no_port};
 ghost use Rattle.pd_run.specs.UpTo.{AreAfter};
 ghost use Rattle.pd_keep.specs.Asked.{IsAsked};
-ghost use Rattle.pd_keep.specs.Kept.{KeptData, IsBrief, IsLeft, IsMade, IsKnown, IsQuiet, kept_of, left_by, move_of, marks_kept, shown_of};
+ghost use Rattle.pd_keep.specs.Kept.{KeptData, IsBrief, IsLeft, IsMade, IsKnown, IsQuiet, kept_of, left_by, move_of, moves_from, marks_kept, shown_of};
 
 use crate::presence::Presence;
 use pd_objects::Answer;
@@ -460,6 +460,32 @@ impl KeptMoves {
     {
         let brief = old.brief(i);
         self.push_noted(brief.port, old.share(i)?, old.marks(i), brief)
+    }
+
+    /// Keeps more moves, which an older run has too, from one place to another. Those before each left its port as it was before it.
+    ///
+    /// # Errors
+    /// There is no memory.
+    pub fn push_all_again(
+        &mut self,
+        old: &KeptMoves,
+        from: usize,
+        to: usize,
+    ) -> Result<(), AllocError>
+        requires inside { to ≤ length old.now.moves }
+        requires rising { from ≤ to }
+        requires first { (i : ℕ) (k : KeptData) → from ≤ i → i < to → 1 ≤ (slice_index_or old.now.moves i k).port }
+        requires last { (i : ℕ) (k : KeptData) → from ≤ i → i < to → (slice_index_or old.now.moves i k).port ≤ 8 }
+        requires go { (i : ℕ) (k : KeptData) → from ≤ i → i < to → (slice_index_or old.now.moves i k).before
+            ≡ left_by self.old.first (self.old.moves ++ moves_from old.now.moves from (i - from))
+            ((slice_index_or old.now.moves i k).port - 1) }
+        ensures { OnOk result (self.new
+            ≡ record self.old { moves = self.old.moves ++ moves_from old.now.moves from (to - from) }) }
+    {
+        for i in from..to {
+            self.push_again(old, i)?;
+        }
+        Ok(())
     }
 
     // Keeps one more move with its marks and its brief.

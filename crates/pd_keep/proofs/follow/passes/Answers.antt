@@ -1,44 +1,9 @@
-use Rattle.std.proofs.Common.{◌≡◌, ◌-◌, List, ap, sym, ◌∙◌, subst, arith, slice_index, slice_index_or}
+use Rattle.std.proofs.Common.{◌≡◌, List, sym, ◌∙◌, subst, arith, slice_index_or}
 use Rattle.std.proofs.lemmas.List.{get_or_default}
-use Rattle.pd_run.specs.Live.{LiveData}
 use Rattle.pd_keep.specs.Following.{IsPassing, HasPassed}
 use Rattle.pd_keep.specs.Kept.{KeptData, move_of}
-use Rattle.pd_keep.proofs.Following.{some_kept, passing_few, passing_holds, passed_quiet, passed_answered}
+use Rattle.pd_keep.proofs.Following.{passing_few, passing_holds, passed_answered}
 use Rattle.pd_keep.proofs.follow.passes.Goals as goal
-
-pub pass-requires : goal.pass-requires
-pass-requires g c =
-    let plan = c.args.plan.now in
-    let k : KeptData = slice_index_or c.args.old.now.moves c.args.at some_kept in
-    let past = c.requires.passing.0 in
-    let away = c.requires.passing.1 in
-    let whole = c.requires.passing.2 in
-    let h : IsPassing plan past away whole c.args.live.now k = c.requires.passing.3 some_kept in
-    let brief = c.brief-brief.ensures some_kept in
-    let port = brief.port in
-    let known = h.next.first.known in
-    let from_one = h.next.from_one in
-    let is = c.end-end.ensures.is_plan in
-    let count = is.settings_count in
-    let same = ap (λ q. slice_index c.args.live.now.taken (q - 1)) port in (
-      omega arith,
-      (
-        omega arith,
-        (
-          omega arith,
-          λ e.
-              let few = passing_few g.row.N plan past away whole c.args.live.now k is h (sym brief.event ∙ e) in omega arith,
-        ),
-      ),
-    )
-
-pub returns-clause-passed : goal.returns-clause-passed
-returns-clause-passed g c = λ _ past away whole d h.
-    let plan = c.args.plan.now in
-    let k : KeptData = slice_index_or c.args.old.now.moves c.args.at d in
-    subst (λ (l : LiveData). HasPassed plan past away whole l k) (sym c.pass.ensures)
-    (passed_quiet g.row.N plan past away whole c.args.live.now k c.brief-brief.result c.end-end.ensures.is_plan h (c.brief-brief.ensures d)
-    c.if-brief.false)
 
 pub follow-requires : goal.follow-requires
 follow-requires g c =
@@ -69,8 +34,8 @@ follow-requires g c =
       ),
     )
 
-pub returns-then-brief-clause-passed : goal.returns-then-brief-clause-passed
-returns-then-brief-clause-passed g c = λ told past away whole d passing.
+pub returns-clause-passed : goal.returns-clause-passed
+returns-clause-passed g c = λ told past away whole d passing.
     let plan = c.args.plan.now in
     let moves : List KeptData = c.args.old.now.moves in
     let v : KeptData = record {

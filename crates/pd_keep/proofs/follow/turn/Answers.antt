@@ -1,74 +1,58 @@
-use Rattle.std.proofs.Common.{◌<◌, ◌++◌, map, ap, arith, refl, length, slice_index_or}
-use Rattle.pd_keep.specs.Kept.{RunData, move_of}
-use Rattle.pd_keep.proofs.Course.{passing, came_followed, followed_turn, own_is_turn, none_left_through, own_next_on, passing_left}
+use Rattle.std.proofs.Common.{◌≡◌, ap, sym, subst, arith, length}
+use Rattle.std.proofs.lemmas.Result.{IfOk-weaker}
+use Rattle.pd_keep.specs.Following.{HasCome}
+use Rattle.pd_keep.specs.Kept.{RunData}
+use Rattle.pd_keep.proofs.Course.{advanced, come_still, followed_count, followed_here, own_next_on}
 use Rattle.pd_keep.proofs.Following.{some_kept}
 use Rattle.pd_keep.proofs.follow.turn.Goals as goal
 
-pub passes-requires : goal.passes-requires
-passes-requires g c =
-    let r = c.requires.come in
-    let plan = c.args.plan.now in
-    let at = c.next_followed-course.result in
-    let inside : at < length c.args.old.now.moves = (c.comes_first.ensures.first c.if-comes_first.true some_kept).0 in (
+pub pass_quiet-quiet-requires : goal.pass_quiet-quiet-requires
+pass_quiet-quiet-requires g c =
+    let r = c.requires.come in (
       omega arith,
       (
-        omega arith,
+        c.requires.numbered,
         (
-          inside,
-          (
-            r.2 ++ map move_of c.args.course.now.span.moves,
-            c.args.course.now.away,
-            r.6.whole,
-            λ k.
-                let numbered = c.requires.numbered at k inside in
-                passing g.row.N r.0 r.1 c.args.old.now plan r.2 r.3 r.4 r.5 c.args.meter.now c.args.course.now c.args.live.now at
-                c.args.own.now k r.6 c.next_followed-course.ensures inside (c.comes_first.ensures.first c.if-comes_first.true k).1
-                c.requires.own numbered.0 numbered.1,
-          ),
+          c.args.plan.now,
+          r.0,
+          r.1,
+          r.2,
+          r.3,
+          r.4,
+          r.5,
+          c.args.meter.now,
+          advanced g.row.N r.0 r.1 c.args.old.now c.args.plan.now r.2 r.3 r.4 r.5 c.args.meter.now c.args.course.now c.args.live.now
+              c.next_followed-course.result some_kept r.6 c.next_followed-course.ensures,
+          c.requires.own,
         ),
       ),
     )
 
-pub push_again-requires-clause-inside : goal.push_again-requires-clause-inside
-push_again-requires-clause-inside g c = (c.comes_first.ensures.first c.if-comes_first.true some_kept).0
+pub returns-then-quiet-course-clause-came : goal.returns-then-quiet-course-clause-came
+returns-then-quiet-course-clause-came g c = λ _ a all past from most first h.
+    let old : RunData = c.args.old.now in
+    let begun = advanced g.row.N a all old c.args.plan.now past from most first c.args.meter.now c.args.course.now c.args.live.now
+    c.next_followed-course.result some_kept h c.next_followed-course.ensures in
+    let come = c.pass_quiet-quiet.ensures.passed c.args.plan.now a all past from most first c.args.meter.now begun c.requires.own in
+    let count = followed_count (record c.args.course.now { at = c.next_followed-course.result }) old.moves c.pass_quiet-quiet.result c.pass_quiet-quiet.ensures.rising c.pass_quiet-quiet.ensures.inside in
+    record {
+      come = subst (λ (s : RunData). HasCome g.row.N a all old c.args.plan.now past from most first c.args.meter.now
+          (record c.args.course.now { at = c.pass_quiet-quiet.result; span = s }) c.pass_quiet-quiet.new.live) (sym c.in_ok-push_all_again.ensures)
+          come;
+      more = (let is = ap (λ (s : RunData). length s.moves) c.in_ok-push_all_again.ensures in omega arith);
+    }
 
-pub push_again-requires-clause-first : goal.push_again-requires-clause-first
-push_again-requires-clause-first g c = λ k.
-    let inside = (c.comes_first.ensures.first c.if-comes_first.true some_kept).0 in
-    (c.requires.numbered c.next_followed-course.result k inside).0
+pub returns-then-quiet-course-clause-own : goal.returns-then-quiet-course-clause-own
+returns-then-quiet-course-clause-own g c = λ _.
+    own_next_on c.args.plan.now c.args.live.now c.pass_quiet-quiet.new.live c.args.old.now.to c.args.own.now
+    c.pass_quiet-quiet.ensures.dues c.requires.own
 
-pub push_again-requires-clause-last : goal.push_again-requires-clause-last
-push_again-requires-clause-last g c = λ k.
-    let inside = (c.comes_first.ensures.first c.if-comes_first.true some_kept).0 in
-    let last = (c.requires.numbered c.next_followed-course.result k inside).1 in
-    let few = c.end-end.ensures.is_plan.few_ports in
-    omega arith
-
-pub push_again-requires-clause-goes : goal.push_again-requires-clause-goes
-push_again-requires-clause-goes g c = λ k.
+pub turn_at-requires : goal.turn_at-requires
+turn_at-requires g c =
     let r = c.requires.come in
-    let plan = c.args.plan.now in
-    let at = c.next_followed-course.result in
-    let first = c.comes_first.ensures.first c.if-comes_first.true k in
-    let numbered = c.requires.numbered at k first.0 in
-    passing_left g.row.N r.0 r.1 c.args.old.now plan r.2 r.3 r.4 r.5 c.args.meter.now c.args.course.now c.args.live.now r.6.whole
-    (slice_index_or c.args.old.now.moves at k) r.6
-    (passing g.row.N r.0 r.1 c.args.old.now plan r.2 r.3 r.4 r.5 c.args.meter.now c.args.course.now c.args.live.now at
-    c.args.own.now k r.6 c.next_followed-course.ensures first.0 first.1 c.requires.own numbered.0 numbered.1)
-
-pub overflow_add-course : goal.overflow_add-course
-overflow_add-course g c =
-    let inside : c.next_followed-course.result < length c.args.old.now.moves =
-    (c.comes_first.ensures.first c.if-comes_first.true some_kept).0 in
-    let count = c.len-len.ensures in
-    omega arith
-
-pub leave-requires : goal.leave-requires
-leave-requires g c =
-    let r = c.requires.come in
-    let plan = c.args.plan.now in
-    let at = c.next_followed-course.result in
-    let inside : at < length c.args.old.now.moves = (c.comes_first.ensures.first c.if-comes_first.true some_kept).0 in (
+    let old : RunData = c.args.old.now in
+    let here : c.pass_quiet-quiet.result ≡ c.next_followed-course.result = (
+        let rising = c.pass_quiet-quiet.ensures.rising in omega (arith, c.if-quiet-course.false)) in (
       omega arith,
       (
         omega arith,
@@ -77,22 +61,25 @@ leave-requires g c =
           (
             c.requires.in_time,
             (
-              inside,
+              c.requires.numbered,
               (
-                r.0,
-                r.1,
-                r.2,
-                r.3,
-                r.4,
-                r.5,
-                followed_turn g.row.N r.0 r.1 c.args.old.now plan r.2 r.3 r.4 r.5 c.args.meter.now c.args.course.now c.args.live.now
-                    c.passes.new.live
-                    at _ some_kept r.6 c.next_followed-course.ensures (λ k.
-                    let first = c.comes_first.ensures.first c.if-comes_first.true k in
-                    let numbered = c.requires.numbered at k first.0 in
-                    passing g.row.N r.0 r.1 c.args.old.now plan r.2 r.3 r.4 r.5 c.args.meter.now c.args.course.now c.args.live.now at
-                    c.args.own.now k r.6 c.next_followed-course.ensures first.0 first.1 c.requires.own numbered.0 numbered.1)
-                    (c.passes.ensures.other c.if-passes.false some_kept),
+                followed_here old.moves c.args.course.now.away c.args.course.now.at c.next_followed-course.result
+                    c.next_followed-course.ensures,
+                (
+                  own_next_on c.args.plan.now c.args.live.now c.pass_quiet-quiet.new.live old.to c.args.own.now
+                      c.pass_quiet-quiet.ensures.dues c.requires.own,
+                  (
+                    r.0,
+                    r.1,
+                    r.2,
+                    r.3,
+                    r.4,
+                    r.5,
+                    come_still g.row.N r.0 r.1 old c.args.plan.now r.2 r.3 r.4 r.5 c.args.meter.now c.args.course.now c.args.live.now
+                        c.pass_quiet-quiet.new.live c.next_followed-course.result some_kept r.6 c.next_followed-course.ensures
+                        (c.pass_quiet-quiet.ensures.none here),
+                  ),
+                ),
               ),
             ),
           ),
@@ -100,75 +87,22 @@ leave-requires g c =
       ),
     )
 
-pub move_own-requires : goal.move_own-requires
-move_own-requires g c =
-    let r = c.requires.come in (
-      omega arith,
-      (
-        omega arith,
-        (
-          c.requires.made,
-          (
-            c.requires.in_time,
-            (
-              r.0,
-              r.1,
-              r.2,
-              r.3,
-              r.4,
-              r.5,
-              own_is_turn g.row.N r.0 r.1 c.args.old.now c.args.plan.now r.2 r.3 r.4 r.5 c.args.meter.now c.args.course.now c.args.live.now
-                  c.next_followed-course.result c.in-Some.port c.in-Some.due c.args.own.now some_kept r.6
-                  c.next_followed-course.ensures
-                  c.in-Some.is c.requires.own (c.comes_first.ensures.other c.if-comes_first.false),
-            ),
-          ),
-        ),
-      ),
-    )
-
-pub returns-then-passes-clause-came : goal.returns-then-passes-clause-came
-returns-then-passes-clause-came g c = λ _ a all past from most first h.
-    let plan = c.args.plan.now in
-    let old : RunData = c.args.old.now in
-    let at = c.next_followed-course.result in
-    let comes = c.comes_first.ensures.first c.if-comes_first.true some_kept in
-    let numbered = c.requires.numbered at some_kept comes.0 in
-    let is = passing g.row.N a all old plan past from most first c.args.meter.now c.args.course.now c.args.live.now at
-    c.args.own.now some_kept h c.next_followed-course.ensures comes.0 comes.1 c.requires.own numbered.0 numbered.1 in
-    let pushed = c.in_ok-push_again.ensures some_kept in
-    came_followed g.row.N a all old plan past from most first c.args.meter.now c.args.course.now _ c.args.live.now c.passes.new.live at
-    some_kept h c.next_followed-course.ensures comes.0 is
-    (c.passes.ensures.passed c.if-passes.true (past ++ map move_of c.args.course.now.span.moves) c.args.course.now.away h.whole some_kept
-    is)
-    c.passes.ensures.ports refl refl refl refl (ap (λ (x : RunData). x.first) pushed) (ap (λ (x : RunData). x.moves) pushed)
-
-pub returns-then-passes-clause-own : goal.returns-then-passes-clause-own
-returns-then-passes-clause-own g c = λ _.
-    own_next_on c.args.plan.now c.args.live.now c.passes.new.live c.args.old.now.to c.args.own.now c.passes.ensures.dues c.requires.own
-
-pub returns-then-comes_first-clause-came : goal.returns-then-comes_first-clause-came
-returns-then-comes_first-clause-came g c = λ _ a all past from most first h.
-    let plan = c.args.plan.now in
-    let at = c.next_followed-course.result in
-    c.in_ok-leave.ensures.came a all past from most first
-    (followed_turn g.row.N a all c.args.old.now plan past from most first c.args.meter.now c.args.course.now c.args.live.now
-    c.passes.new.live at _ some_kept h c.next_followed-course.ensures (λ k.
-    let comes = c.comes_first.ensures.first c.if-comes_first.true k in
-    let numbered = c.requires.numbered at k comes.0 in
-    passing g.row.N a all c.args.old.now plan past from most first c.args.meter.now c.args.course.now c.args.live.now at
-    c.args.own.now k h c.next_followed-course.ensures comes.0 comes.1 c.requires.own numbered.0 numbered.1)
-    (c.passes.ensures.other c.if-passes.false some_kept))
-
-pub returns-in_default-clause-through : goal.returns-in_default-clause-through
-returns-in_default-clause-through g c = λ _ a all past from most first h.
-    none_left_through g.row.N a all c.args.old.now c.args.plan.now past from most first c.args.meter.now c.args.course.now c.args.live.now
-    c.next_followed-course.result c.args.own.now some_kept h c.next_followed-course.ensures c.in_default.is c.requires.own
-    (c.comes_first.ensures.other c.if-comes_first.false)
-
 pub returns-clause-came : goal.returns-clause-came
-returns-clause-came g c = λ _ a all past from most first h.
-    c.in_ok-move_own.ensures.came a all past from most first
-    (own_is_turn g.row.N a all c.args.old.now c.args.plan.now past from most first c.args.meter.now c.args.course.now c.args.live.now
-    c.next_followed-course.result c.in-Some.port c.in-Some.due c.args.own.now some_kept h c.next_followed-course.ensures
-    c.in-Some.is c.requires.own (c.comes_first.ensures.other c.if-comes_first.false))
+returns-clause-came g c =
+    let here : c.pass_quiet-quiet.result ≡ c.next_followed-course.result = (
+        let rising = c.pass_quiet-quiet.ensures.rising in omega (arith, c.if-quiet-course.false)) in
+    IfOk-weaker c.turn_at.result _ _ (λ more h yes a all past from most first come.
+    h yes a all past from most first
+    (come_still g.row.N a all c.args.old.now c.args.plan.now past from most first c.args.meter.now c.args.course.now c.args.live.now
+    c.pass_quiet-quiet.new.live c.next_followed-course.result some_kept come c.next_followed-course.ensures
+    (c.pass_quiet-quiet.ensures.none here))) c.turn_at.ensures.came
+
+pub returns-clause-through : goal.returns-clause-through
+returns-clause-through g c =
+    let here : c.pass_quiet-quiet.result ≡ c.next_followed-course.result = (
+        let rising = c.pass_quiet-quiet.ensures.rising in omega (arith, c.if-quiet-course.false)) in
+    IfOk-weaker c.turn_at.result _ _ (λ more h yes a all past from most first come.
+    h yes a all past from most first
+    (come_still g.row.N a all c.args.old.now c.args.plan.now past from most first c.args.meter.now c.args.course.now c.args.live.now
+    c.pass_quiet-quiet.new.live c.next_followed-course.result some_kept come c.next_followed-course.ensures
+    (c.pass_quiet-quiet.ensures.none here))) c.turn_at.ensures.through
