@@ -101,17 +101,18 @@ pub record IsQuiet (k : KeptData) : Type 0 where
   pub unanswered : k.answer ≡ None
   pub same_hold : held_by k.after ≡ held_by k.before
 
--- this is the brief of a move: when it was, of which port, whether for an event; and it is quiet, unless it is marked as one that
--- may not be
+-- this is the brief of a move: when it was, of which port, whether for an event, and what the port held before it; and it is quiet,
+-- unless it is marked as one that may not be
 pub record IsBrief (k : KeptData) (b : Brief) : Type 0 where
   pub time : b.time ≡ k.due.time
   pub port : b.port ≡ k.port
   pub event : b.is_event ≡ is_event k.due.what
   pub quiet : b.stirs ≡ false → IsQuiet k
+  pub held : b.held ≡ held_by k.before
 
 -- stands where there is no move
 abbrev pub no_brief : Brief
-no_brief = record { time = 0; port = 0; is_event = false; stirs = true }
+no_brief = record { time = 0; port = 0; is_event = false; stirs = true; held = 0 }
 
 -- these are the briefs of moves
 pub record AreBrief (moves : List KeptData) (briefs : List Brief) : Type 0 where

@@ -353,6 +353,8 @@ pub fn follow_span<const N: usize>(
 {
     let (_end, _count) = (plan.end(), meter.count());
     let span = KeptMoves::with_room(alloc, live.ports(alloc)?, old.len())?;
+    // The old moves lie far apart in memory: all of them at once are there sooner than one after the other.
+    let _ahead = old.shared_moves(alloc)?;
     set_aside(live, alike);
     let mut course = Course {
         at: 0,

@@ -9,7 +9,8 @@ ghost use Rattle.pd_run.specs.Run.{Move, IsAnswered};
 ghost use Rattle.pd_run.specs.Start.{no_port};
 ghost use Rattle.pd_run.specs.UpTo.{AreAfter};
 ghost use Rattle.pd_keep.specs.Asked.{IsAsked};
-ghost use Rattle.pd_keep.specs.Kept.{KeptData, IsBrief, IsLeft, IsMade, IsKnown, IsQuiet, kept_of, left_by, move_of, moves_from, marks_kept, shown_of};
+ghost use Rattle.pd_keep.specs.Kept.{KeptData, IsBrief, IsLeft, IsMade, IsKnown, IsQuiet, held_by, kept_of, left_by, move_of, moves_from};
+ghost use Rattle.pd_keep.specs.Kept.{marks_kept, shown_of};
 
 use crate::presence::Presence;
 use pd_objects::Answer;
@@ -64,6 +65,7 @@ impl KeptMove {
             port: self.port,
             is_event: is_event(&self.entry.due.what),
             stirs: self.stirs(),
+            held: self.before.hold(),
         }
     }
 }
@@ -116,13 +118,15 @@ impl SharedMove {
 }
 
 /// What of a move is looked at where ports go on as in the run that has it: when it was, in microseconds, its port, numbered from 1,
-/// whether it was for an event, and whether it asked the shared budget or changed what its port holds.
+/// whether it was for an event, whether it asked the shared budget or changed what its port holds, and what that held before it, in
+/// microwatts.
 #[derive(Clone, Copy)]
 pub struct Brief {
     pub time: u64,
     pub port: usize,
     pub is_event: bool,
     pub stirs: bool,
+    pub held: u64,
 }
 
 /// Where a port stands in a span: as at its beginning, or as the move at a place has left it.
@@ -307,6 +311,20 @@ impl KeptMoves {
         self.links[i]
     }
 
+    /// All moves, for one more owner.
+    ///
+    /// # Errors
+    /// There is no memory, as where a move has more owners than can be counted.
+    pub fn shared_moves(&self, alloc: Global) -> Result<Vec<SharedMove>, AllocError>
+        ensures { IfOk result (λ moves. moves.items ≡ self.now.moves) }
+    {
+        let mut moves = Vec::with_capacity(alloc, self.moves.len())?;
+        for kept in &self.moves {
+            moves.push(kept.share()?)?;
+        }
+        Ok(moves)
+    }
+
     /// A port, numbered from 0 here, as the moves leave it, for one more owner.
     ///
     /// # Errors
@@ -405,13 +423,14 @@ impl KeptMoves {
         is_at(left, self.links[i])
     }
 
-    /// Whether a move is the one of such a port for such a due, with such an answer. It was made of its own; the port stands at a
-    /// place, where one is given.
+    /// Whether a move is the one of such a port, which holds so much, in microwatts, for such a due, with such an answer. It was made
+    /// of its own; the port stands at a place, where one is given.
     pub fn repeats(
         &self,
         i: usize,
         left: Option<Place>,
         port: usize,
+        held: u64,
         before: &Port,
         due: &Due,
         answer: &Option<Answer>,
@@ -419,11 +438,14 @@ impl KeptMoves {
         requires inside { i < length self.now.moves }
         requires made { All IsMade self.now.moves }
         requires left { IsKnown self.now.first self.now.moves (port - 1) left before.now }
+        requires held { held ≡ held_by before.now }
         ensures { IsTrue result ↔ (slice_index_or self.now.moves i (kept_of port before.now due.now answer.now)
             ≡ kept_of port before.now due.now answer.now) }
     {
-        let kept = self.moves[i].kept();
-        self.brief(i).port == port
+        let (brief, kept) = (self.brief(i), self.moves[i].kept());
+        // The brief tells most moves apart, and the move, which lies elsewhere in memory, needn't be read then.
+        brief.port == port
+            && brief.held == held
             && kept.entry.due.same(due)
             && same_answer(&kept.answer, answer)
             && (self.follows(i, left) || same_port(kept.before.port(), before))

@@ -10,7 +10,7 @@ ghost use Rattle.pd_run.specs.Run.{Move, NoneLater};
 ghost use Rattle.pd_run.specs.Start.{no_port};
 ghost use Rattle.pd_run.specs.StepsLeft.{steps_left};
 ghost use Rattle.pd_run.specs.UpTo.{IsUpTo};
-ghost use Rattle.pd_keep.specs.Kept.{KeptData, kept_of, move_of, marks_kept, IsMade, IsOwn, IsKnown, AreInTime, AreBefore};
+ghost use Rattle.pd_keep.specs.Kept.{KeptData, held_by, kept_of, move_of, marks_kept, IsMade, IsOwn, IsKnown, AreInTime, AreBefore};
 ghost use Rattle.pd_keep.specs.Charge.{Charges};
 ghost use Rattle.pd_keep.specs.Following.{IsOwnNext};
 ghost use Rattle.pd_keep.specs.Places.{ArePlaced};
@@ -141,7 +141,8 @@ pub fn make<const N: usize>(
     ensures charges { OnOk result (Charges old.now.moves (kept_of port (port_at live.old (port - 1)) due answer) meter.old meter.new) }
     ensures rises { meter.old ≤ meter.new }
 {
-    if let Some(i) = find(old, from, left, port, live.port(port), &due, &answer) {
+    let (held, before) = (live.hold(port), live.port(port));
+    if let Some(i) = find(old, from, left, port, held, before, &due, &answer) {
         let kept = old.share(i)?;
         live.settle(plan, port, &due, kept.kept().after.share()?);
         return Ok((kept, old.marks(i), Some(Place::After(i))));
@@ -203,6 +204,7 @@ fn find(
     from: usize,
     left: Option<Place>,
     port: usize,
+    held: u64,
     before: &Port,
     due: &Due,
     answer: &Option<Answer>,
@@ -211,6 +213,7 @@ fn find(
     requires in_time { AreInTime old.now.moves }
     requires before { AreBefore old.now.moves from due.now.time }
     requires left { IsKnown old.now.first old.now.moves (port - 1) left before.now }
+    requires held { held ≡ held_by before.now }
     ensures found { IfSome result (λ i. i < length old.now.moves
         × slice_index_or old.now.moves i (kept_of port before.now due.now answer.now) ≡ kept_of port before.now due.now answer.now) }
     ensures none { IfNone result (Contains old.now.moves (kept_of port before.now due.now answer.now) → ⊥) }
@@ -219,7 +222,7 @@ fn find(
         if old.time(i) > due.time {
             return None;
         }
-        if old.repeats(i, left, port, before, due, answer) {
+        if old.repeats(i, left, port, held, before, due, answer) {
             return Some(i);
         }
     }

@@ -21,5 +21,6 @@ pub mod Within
 pub mod StepsLeft
 pub mod Plans
 pub mod Taken
+pub mod Timed
 pub mod Until
 pub mod Agree

@@ -1,7 +1,11 @@
 -- What is worked out once after each step of a port: what falls due on it but for events, and whether it asks anything then.
-use Rattle.std.specs.Prelude.{Bool, false, Option, None, Some, is_some}
+use Rattle.std.specs.Prelude.{ℕ, Bool, false, Option, None, Some, is_some}
 use Rattle.pd_port.specs.declared.due.Due.{Due}
+use Rattle.pd_port.specs.declared.due.What.{What}
+use Rattle.pd_port.specs.declared.due.What.TheVariants as what
 use Rattle.pd_port.specs.Port.{PortData, due, ask}
+use Rattle.pd_run.specs.declared.own_due.OwnDue.{OwnDue}
+use Rattle.pd_run.specs.declared.own_due.OwnDue.TheVariants as own
 
 -- what falls due on a port but for events
 abbrev pub own_due : PortData → Option Due
@@ -11,3 +15,19 @@ own_due p = due p.port_record None
 abbrev pub asks_at : PortData → Option Due → Bool
 asks_at p None = false
 asks_at p (Some d) = is_some (ask p.settings p.port_record d)
+
+-- it is kept in this way: an event is none that is a port's own
+abbrev pub own_at : ℕ → What → OwnDue
+own_at time (what.Event e) = own.Nothing
+own_at time what.Line = own.Line time
+own_at time (what.Timer side timer) = own.Timer time side timer
+
+abbrev pub own_of : Option Due → OwnDue
+own_of None = own.Nothing
+own_of (Some d) = own_at d.time d.what
+
+-- and is this due
+abbrev pub told_due : OwnDue → Option Due
+told_due own.Nothing = None
+told_due (own.Line time) = Some (record { time = time; what = what.Line })
+told_due (own.Timer time side timer) = Some (record { time = time; what = what.Timer side timer })

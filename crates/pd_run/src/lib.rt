@@ -6,6 +6,7 @@ mod had;
 pub mod laws;
 mod live;
 mod note;
+mod own_due;
 mod plain;
 mod plan;
 mod runner;

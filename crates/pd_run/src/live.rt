@@ -142,6 +142,15 @@ impl<const N: usize> Live<N> {
         self.shared(port).port()
     }
 
+    /// What a port holds of the shared budget as it stands, in microwatts.
+    pub fn hold(&self, port: usize) -> u64
+        requires first { 1 ≤ port }
+        requires last { port ≤ N }
+        ensures { result ≡ hold (port_at self.now (port - 1)).settings (port_at self.now (port - 1)).port_record }
+    {
+        self.shared(port).hold()
+    }
+
     /// The answer to what a port asks at a due. From now on the shared budget is that of the due's time.
     pub fn reply_beside(&mut self, plan: &Plan<N>, port: usize, due: &Due) -> Option<Answer>
         requires first { 1 ≤ port }

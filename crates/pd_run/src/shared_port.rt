@@ -4,8 +4,9 @@ ghost use Rattle.std.specs.Prelude.{◌≡◌, ◌≤◌, None, IfOk, OnOk, OnEr
 ghost use Rattle.std.specs.Option.{option_copied};
 ghost use Rattle.pd_port.specs.Meter.{raised};
 ghost use Rattle.pd_port.specs.Port.{due as the_due, ask, record_after, entry_of, hold};
-ghost use Rattle.pd_run.specs.Timed.{asks_at};
+ghost use Rattle.pd_run.specs.Timed.{asks_at, own_due};
 
+use crate::own_due::OwnDue;
 use pd_objects::{Answer, Query};
 use pd_port::{Due, Entry, Event, Meter, Port, What};
 use pd_timers::LAST_TIME;
@@ -19,7 +20,7 @@ use std::rc::Rc;
 struct TimedPort {
     hold: u64,
     asks: bool,
-    own: Option<Due>,
+    own: OwnDue,
     port: Port,
 }
 
@@ -27,19 +28,19 @@ impl Model for TimedPort {
     ghost use Rattle.std.specs.Prelude.{◌≡◌};
     ghost use Rattle.std.proofs.Common.{sym};
     ghost use Rattle.pd_port.specs.Port.{PortData, hold as held};
-    ghost use Rattle.pd_run.specs.Timed.{own_due, asks_at};
+    ghost use Rattle.pd_run.specs.Timed.{own_due, own_of, asks_at};
 
     ghost Value = { PortData };
 
     ghost view = { λ p. p.port };
 
-    ghost invariant = { λ p. (p.hold ≡ held p.port.settings p.port.port_record) × (p.own ≡ own_due p.port)
+    ghost invariant = { λ p. (p.hold ≡ held p.port.settings p.port.port_record) × (p.own ≡ own_of (own_due p.port))
         × (p.asks ≡ asks_at p.port (own_due p.port)) };
 
     ghost inverse = { λ v. record {
       hold = held v.settings v.port_record;
       asks = asks_at v (own_due v);
-      own = own_due v;
+      own = own_of (own_due v);
       port = v;
     } };
 
@@ -59,7 +60,7 @@ impl TimedPort {
         TimedPort {
             hold: port.hold(),
             asks: asks_at(&port, &own),
-            own,
+            own: OwnDue::of(&own),
             port,
         }
     }
@@ -78,10 +79,17 @@ impl TimedPort {
     fn is_quiet_at(&self, due: &Due) -> bool
         ensures { IsTrue result → ask self.now.settings self.now.port_record due.now ≡ None }
     {
-        match &self.own {
+        match self.own_due() {
             Some(own) => !self.asks && own.same(due),
             None => false,
         }
+    }
+
+    // What falls due but for events.
+    fn own_due(&self) -> Option<Due>
+        ensures { result ≡ own_due self.now }
+    {
+        self.own.due()
     }
 
     // What falls due next, where this is the next event.
@@ -90,12 +98,12 @@ impl TimedPort {
         ensures { result ≡ the_due self.now.port_record (option_copied next.entry) }
     {
         let Some(event) = next else {
-            return self.own;
+            return self.own_due();
         };
         let time = event.at();
-        if let Some(own) = &self.own {
+        if let Some(own) = self.own_due() {
             if own.time < time {
-                return Some(*own);
+                return Some(own);
             }
         }
         Some(Due {
@@ -114,8 +122,9 @@ impl TimedPort {
     {
         let query = self.ask(due);
         let entry = self.port.step_asking(due, query, answer, meter);
-        self.own = self.port.due(None);
-        self.asks = asks_at(&self.port, &self.own);
+        let own = self.port.due(None);
+        self.own = OwnDue::of(&own);
+        self.asks = asks_at(&self.port, &own);
         self.hold = self.port.hold();
         entry
     }
