@@ -1,7 +1,7 @@
 -- How far a span has come of which some ports follow an older run.
 use Rattle.std.proofs.Common.{◌≡◌, ◌≢◌, ◌⊎◌, ⊎_elim, ℕ, ◌+◌, ◌-◌, ◌<◌, ◌≤◌, Bool, true, false, List, [], ◌∷◌, ◌++◌, length, map}
-use Rattle.std.proofs.Common.{All, Option, None, Some, refl, ap, sym, ◌∙◌, subst, arith, drop, get_or, set, take, slice_index_or, option_map}
-use Rattle.std.proofs.Common.{slice_index, slice_set, append_assoc, zero, suc, MatchOption, replicate}
+use Rattle.std.proofs.Common.{All, Option, None, Some, refl, ap, sym, ◌∙◌, subst, arith, drop, get_or, set, take, slice_index_or}
+use Rattle.std.proofs.Common.{option_map, slice_index, slice_set, append_assoc, zero, suc, MatchOption, replicate}
 use Rattle.std.proofs.lemmas.List.{get_or-set_same, get_or-set_other, length-set, length-map, length_push, map-append, append-nil}
 use Rattle.std.proofs.lemmas.List.{get_or_default, length-append, length-drop, length-take-le, take_all}
 use Rattle.std.proofs.lemmas.List.Elements.{All-push}
@@ -36,7 +36,8 @@ use Rattle.pd_keep.specs.declared.kept_move.Brief.{Brief}
 use Rattle.pd_keep.specs.declared.kept_move.Place.{Place}
 use Rattle.pd_keep.specs.Charge.{Charges}
 use Rattle.pd_keep.specs.Following.{GoBeside, CanFollow, HasCome, HasCameOn, HasPassed, IsAway, IsNextFollowed, IsPassing, IsThrough}
-use Rattle.pd_keep.specs.Following.{AreNumbered, ComesApart, ComesFirst, ComesAfter, followed_to, IsLate, IsNextQuiet, IsOwnNext, IsOwnTurn, IsFollowedTurn}
+use Rattle.pd_keep.specs.Following.{AreNumbered, ComesApart, ComesFirst, ComesAfter, followed_to, IsLate, IsNextQuiet, IsOwnNext}
+use Rattle.pd_keep.specs.Following.{IsOwnTurn, IsFollowedTurn}
 use Rattle.pd_keep.specs.Fresh.{IsRepeated, AreFresh}
 use Rattle.pd_keep.specs.Kept.{KeptData, RunData, kept_of, move_of, left_by, IsKnown, IsOwn, AreBefore, moves_from}
 use Rattle.pd_keep.specs.Places.{StandAs}
@@ -788,8 +789,9 @@ pub quiet_passing : (n : ℕ) (a : Plan) (all : List Move) (old : RunData) (b : 
     (slice_index_or old.moves at d)
 quiet_passing n a all old b past from most first meter course begun live at own brief d h numbered q own_next dues =
     let there = numbered at d q.inside in
-    passing n a all old b past from most first meter (followed_to course old.moves at) live at own d h (next_quiet_at old.moves course.away at
-    own brief q) q.inside (q.first d) (own_next_on b begun live old.to own dues own_next) there.0 there.1
+    passing n a all old b past from most first meter (followed_to course old.moves at) live at own d h
+    (next_quiet_at old.moves course.away at own brief q) q.inside (q.first d) (own_next_on b begun live old.to own dues own_next)
+    there.0 there.1
 
 -- and has passed
 pub quiet_passed : (n : ℕ) (a : Plan) (all : List Move) (old : RunData) (b : Plan) (past : List Move) (from most first meter : ℕ)
@@ -802,8 +804,8 @@ quiet_passed n a all old b past from most first meter course begun live at own b
     let is = quiet_passing n a all old b past from most first meter course begun live at own brief d h numbered q own_next dues in
     let passed = passed_quiet n b (past ++ map move_of (followed_to course old.moves at).span.moves) course.away h.whole live
     (slice_index_or old.moves at d) brief h.beside.is_plan_too is (q.brief d) q.quiet in
-    (came_followed n a all old b past from most first meter (followed_to course old.moves at) (followed_to course old.moves (at + 1)) live _ at
-    d h (next_quiet_at old.moves course.away at own brief q) q.inside is passed refl refl refl refl refl refl
+    (came_followed n a all old b past from most first meter (followed_to course old.moves at) (followed_to course old.moves (at + 1)) live _
+    at d h (next_quiet_at old.moves course.away at own brief q) q.inside is passed refl refl refl refl refl refl
     (followed_more course old.moves at d le q.inside)).come
 
 -- where none has followed yet

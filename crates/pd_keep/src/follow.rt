@@ -7,7 +7,8 @@ ghost use Rattle.pd_scenario.specs.Plan.{Plan as PlanData, count, force};
 ghost use Rattle.pd_run.specs.Live.{LiveData, StandsAfter, StandsBut, at_budget, port_at};
 ghost use Rattle.pd_run.specs.Run.{Move};
 ghost use Rattle.pd_keep.specs.Following.{AreNumbered, CanFollow, ComesAfter, ComesFirst, HasCome, HasCameOn, HasPassed, IsAway};
-ghost use Rattle.pd_keep.specs.Following.{followed_to, IsFollowedTurn, IsNextFollowed, IsNextQuiet, IsOwnNext, IsOwnTurn, IsPassing, IsThrough};
+ghost use Rattle.pd_keep.specs.Following.{followed_to, IsFollowedTurn, IsNextFollowed, IsNextQuiet, IsOwnNext, IsOwnTurn};
+ghost use Rattle.pd_keep.specs.Following.{IsPassing, IsThrough};
 ghost use Rattle.pd_keep.specs.Kept.{KeptData, move_of, moves_from, IsKnown, IsMade, IsOwn, AreInTime, left_by};
 ghost use Rattle.pd_keep.specs.Places.{StandAs};
 ghost use Rattle.pd_keep.specs.Rerun.{AreThose, Costs, IsNextSpan};
@@ -213,14 +214,14 @@ fn turn_at<const N: usize>(
     course: &mut Course,
     plan: &Plan<N>,
     live: &mut Live<N>,
-    own: &mut Option<(usize, Due)>,
+    own: &Option<(usize, Due)>,
     meter: &mut Meter,
 ) -> Result<bool, AllocError>
     requires made { All IsMade old.now.moves }
     requires in_time { AreInTime old.now.moves }
     requires numbered { AreNumbered N old.now.moves }
     requires here { IsNextFollowed old.now.moves course.old.away course.old.at course.old.at }
-    requires own { IsOwnNext plan.now live.old old.now.to own.old }
+    requires own { IsOwnNext plan.now live.old old.now.to own.now }
     requires come { (a : PlanData) × (all : List Move) × (past : List Move) × (from : ℕ) × (most : ℕ) × (first : ℕ)
         × HasCome N a all old.now plan.now past from most first meter.old course.old live.old }
     ensures came { IfOk result (λ more. IsTrue more → (a : PlanData) (all : List Move) (past : List Move) (from most first : ℕ)
@@ -229,7 +230,6 @@ fn turn_at<const N: usize>(
     ensures through { IfOk result (λ more. IsFalse more → (a : PlanData) (all : List Move) (past : List Move) (from most first : ℕ)
         → HasCome N a all old.now plan.now past from most first meter.old course.old live.old
         → IsThrough N a all old.now plan.now past from most first meter.new course.new live.new) }
-    ensures own { IfOk result (λ more. IsTrue more → IsOwnNext plan.now live.new old.now.to own.new) }
     ensures rises { meter.old ≤ meter.new }
 {
     let (_end, _len) = (plan.end(), old.len());
@@ -240,14 +240,12 @@ fn turn_at<const N: usize>(
             return Ok(true);
         }
         leave(alloc, old, course, plan, live, meter)?;
-        *own = next_before(live, plan, old.to());
         return Ok(true);
     }
     let Some((port, due)) = *own else {
         return Ok(false);
     };
     move_own(alloc, old, course, plan, live, port, due, meter)?;
-    *own = next_before(live, plan, old.to());
     Ok(true)
 }
 
@@ -284,7 +282,9 @@ fn turn<const N: usize>(
         course.at = quiet;
         return Ok(true);
     }
-    turn_at(alloc, old, course, plan, live, own, meter)
+    let more = turn_at(alloc, old, course, plan, live, own, meter)?;
+    *own = next_before(live, plan, old.to());
+    Ok(more)
 }
 
 // From here on these ports follow.
@@ -351,10 +351,8 @@ pub fn follow_span<const N: usize>(
         → Costs a (map move_of olds) plan.now (map move_of r.0.moves) meter.old meter.new) }
     ensures rises { meter.old ≤ meter.new }
 {
-    let (_end, _count) = (plan.end(), meter.count());
+    let (_end, _count, _ahead) = (plan.end(), meter.count(), old.shared_moves(alloc)?);
     let span = KeptMoves::with_room(alloc, live.ports(alloc)?, old.len())?;
-    // The old moves lie far apart in memory: all of them at once are there sooner than one after the other.
-    let _ahead = old.shared_moves(alloc)?;
     set_aside(live, alike);
     let mut course = Course {
         at: 0,

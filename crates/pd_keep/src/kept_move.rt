@@ -311,7 +311,7 @@ impl KeptMoves {
         self.links[i]
     }
 
-    /// All moves, for one more owner.
+    /// All moves, for one more owner. They lie far apart in memory: asked for at once they are at hand sooner than one by one.
     ///
     /// # Errors
     /// There is no memory, as where a move has more owners than can be counted.

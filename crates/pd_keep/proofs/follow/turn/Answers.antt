@@ -1,5 +1,4 @@
 use Rattle.std.proofs.Common.{◌≡◌, ap, sym, subst, arith, length}
-use Rattle.std.proofs.lemmas.Result.{IfOk-weaker}
 use Rattle.pd_keep.specs.Following.{HasCome}
 use Rattle.pd_keep.specs.Kept.{RunData}
 use Rattle.pd_keep.proofs.Course.{advanced, come_still, followed_count, followed_here, own_next_on}
@@ -34,11 +33,12 @@ returns-then-quiet-course-clause-came g c = λ _ a all past from most first h.
     let begun = advanced g.row.N a all old c.args.plan.now past from most first c.args.meter.now c.args.course.now c.args.live.now
     c.next_followed-course.result some_kept h c.next_followed-course.ensures in
     let come = c.pass_quiet-quiet.ensures.passed c.args.plan.now a all past from most first c.args.meter.now begun c.requires.own in
-    let count = followed_count (record c.args.course.now { at = c.next_followed-course.result }) old.moves c.pass_quiet-quiet.result c.pass_quiet-quiet.ensures.rising c.pass_quiet-quiet.ensures.inside in
+    let count = followed_count (record c.args.course.now { at = c.next_followed-course.result }) old.moves c.pass_quiet-quiet.result
+    c.pass_quiet-quiet.ensures.rising c.pass_quiet-quiet.ensures.inside in
     record {
       come = subst (λ (s : RunData). HasCome g.row.N a all old c.args.plan.now past from most first c.args.meter.now
-          (record c.args.course.now { at = c.pass_quiet-quiet.result; span = s }) c.pass_quiet-quiet.new.live) (sym c.in_ok-push_all_again.ensures)
-          come;
+          (record c.args.course.now { at = c.pass_quiet-quiet.result; span = s }) c.pass_quiet-quiet.new.live)
+          (sym c.in_ok-push_all_again.ensures) come;
       more = (let is = ap (λ (s : RunData). length s.moves) c.in_ok-push_all_again.ensures in omega arith);
     }
 
@@ -51,8 +51,8 @@ pub turn_at-requires : goal.turn_at-requires
 turn_at-requires g c =
     let r = c.requires.come in
     let old : RunData = c.args.old.now in
-    let here : c.pass_quiet-quiet.result ≡ c.next_followed-course.result = (
-        let rising = c.pass_quiet-quiet.ensures.rising in omega (arith, c.if-quiet-course.false)) in (
+    let rising = c.pass_quiet-quiet.ensures.rising in
+    let here : c.pass_quiet-quiet.result ≡ c.next_followed-course.result = omega (arith, c.if-quiet-course.false) in (
       omega arith,
       (
         omega arith,
@@ -88,21 +88,19 @@ turn_at-requires g c =
     )
 
 pub returns-clause-came : goal.returns-clause-came
-returns-clause-came g c =
-    let here : c.pass_quiet-quiet.result ≡ c.next_followed-course.result = (
-        let rising = c.pass_quiet-quiet.ensures.rising in omega (arith, c.if-quiet-course.false)) in
-    IfOk-weaker c.turn_at.result _ _ (λ more h yes a all past from most first come.
-    h yes a all past from most first
+returns-clause-came g c = λ yes a all past from most first come.
+    let rising = c.pass_quiet-quiet.ensures.rising in
+    let here : c.pass_quiet-quiet.result ≡ c.next_followed-course.result = omega (arith, c.if-quiet-course.false) in
+    c.in_ok-more.ensures.came yes a all past from most first
     (come_still g.row.N a all c.args.old.now c.args.plan.now past from most first c.args.meter.now c.args.course.now c.args.live.now
     c.pass_quiet-quiet.new.live c.next_followed-course.result some_kept come c.next_followed-course.ensures
-    (c.pass_quiet-quiet.ensures.none here))) c.turn_at.ensures.came
+    (c.pass_quiet-quiet.ensures.none here))
 
 pub returns-clause-through : goal.returns-clause-through
-returns-clause-through g c =
-    let here : c.pass_quiet-quiet.result ≡ c.next_followed-course.result = (
-        let rising = c.pass_quiet-quiet.ensures.rising in omega (arith, c.if-quiet-course.false)) in
-    IfOk-weaker c.turn_at.result _ _ (λ more h yes a all past from most first come.
-    h yes a all past from most first
+returns-clause-through g c = λ yes a all past from most first come.
+    let rising = c.pass_quiet-quiet.ensures.rising in
+    let here : c.pass_quiet-quiet.result ≡ c.next_followed-course.result = omega (arith, c.if-quiet-course.false) in
+    c.in_ok-more.ensures.through yes a all past from most first
     (come_still g.row.N a all c.args.old.now c.args.plan.now past from most first c.args.meter.now c.args.course.now c.args.live.now
     c.pass_quiet-quiet.new.live c.next_followed-course.result some_kept come c.next_followed-course.ensures
-    (c.pass_quiet-quiet.ensures.none here))) c.turn_at.ensures.through
+    (c.pass_quiet-quiet.ensures.none here))

@@ -1,6 +1,6 @@
 use Rattle.std.proofs.Common.{◌<◌, ◌++◌, map, ap, arith, refl, length, slice_index_or}
 use Rattle.pd_keep.specs.Kept.{RunData, move_of}
-use Rattle.pd_keep.proofs.Course.{passing, came_followed, followed_turn, own_is_turn, none_left_through, own_next_on, passing_left}
+use Rattle.pd_keep.proofs.Course.{passing, came_followed, followed_turn, own_is_turn, none_left_through, passing_left}
 use Rattle.pd_keep.proofs.Following.{some_kept}
 use Rattle.pd_keep.proofs.follow.turn_at.Goals as goal
 
@@ -142,10 +142,6 @@ returns-then-passes-clause-came g c = λ _ a all past from most first h.
     (c.passes.ensures.passed c.if-passes.true (past ++ map move_of c.args.course.now.span.moves) c.args.course.now.away h.whole some_kept
     is)
     c.passes.ensures.ports refl refl refl refl (ap (λ (x : RunData). x.first) pushed) (ap (λ (x : RunData). x.moves) pushed)
-
-pub returns-then-passes-clause-own : goal.returns-then-passes-clause-own
-returns-then-passes-clause-own g c = λ _.
-    own_next_on c.args.plan.now c.args.live.now c.passes.new.live c.args.old.now.to c.args.own.now c.passes.ensures.dues c.requires.own
 
 pub returns-then-comes_first-clause-came : goal.returns-then-comes_first-clause-came
 returns-then-comes_first-clause-came g c = λ _ a all past from most first h.

@@ -13,7 +13,9 @@ loop-i-preserved c =
       pushed = c.in_ok-push_again.ensures some_kept
           ∙ ap (λ (s : RunData). record s { moves = s.moves ++ slice_index_or moves c.loop-i.i some_kept ∷ [] }) x.pushed
           ∙ ap (λ (l : List KeptData). record self { moves = l })
-          (append_assoc self.moves (moves_from moves c.args.from (c.loop-i.i - c.args.from)) (slice_index_or moves c.loop-i.i some_kept ∷ [])
-          ∙ ap (λ (l : List KeptData). self.moves ++ l) (sym (moves_from-more moves c.args.from c.loop-i.i some_kept (omega arith) (omega arith))));
+          (append_assoc self.moves (moves_from moves c.args.from (c.loop-i.i - c.args.from))
+          (slice_index_or moves c.loop-i.i some_kept ∷ [])
+          ∙ ap (λ (l : List KeptData). self.moves ++ l)
+          (sym (moves_from-more moves c.args.from c.loop-i.i some_kept (omega arith) (omega arith))));
       within = omega arith;
     }
