@@ -1,6 +1,6 @@
 -- What reaches the source tells it of the attached cable alone: each rule of the line keeps this.
 use Rattle.std.proofs.Common.{◌≡◌, ◌⊎◌, inl, inr, ℕ, ◌==◌, ◌%◌, ◌^◌, ◌<◌, Bool, true, false, if◌then◌else◌, Option, Some, None}
-use Rattle.std.proofs.Common.{refl, sym, subst, ◌∙◌, ap, List, [], ◌∷◌}
+use Rattle.std.proofs.Common.{refl, sym, subst, ◌∙◌, ap, List, [], ◌∷◌, arith, lit<}
 use Rattle.std.specs.List.{AllByRecursion}
 use Rattle.pd_symbols.specs.declared.channel.Channel.{Channel}
 use Rattle.pd_header.specs.declared.side.Side.{Side}
@@ -102,13 +102,17 @@ none_line cable (GoodCrc side p a fate end) h = none_on cable side p h
 none_line cable (NoAnswer side p end) h = none_on cable side p h
 none_line cable (HardReset side end) h = tt
 
+-- a number that is less than another isn't equal to it
+apart : {A : Type 0} (m n : ℕ) → m ≡ n → m < n → A
+apart m n e l = absurd (omega arith)
+
 -- no message of the sink's is of the type of Vendor_Defined
 pub sink_tells : (cable : Option Cable) (s : SinkSending) → WaitsToTell cable (waits.Message (sink_message s))
-sink_tells cable (sink_sending.Request object) e = absurd (cc)
-sink_tells cable sink_sending.GetSourceCap e = absurd (cc)
-sink_tells cable (sink_sending.SinkCapabilities objects) e = absurd (cc)
-sink_tells cable sink_sending.Accept e = absurd (cc)
-sink_tells cable sink_sending.SoftReset e = absurd (cc)
+sink_tells cable (sink_sending.Request object) e = apart _ _ e (lit< tt)
+sink_tells cable sink_sending.GetSourceCap e = apart _ _ e (lit< tt)
+sink_tells cable (sink_sending.SinkCapabilities objects) e = apart _ _ e (lit< tt)
+sink_tells cable sink_sending.Accept e = apart _ _ e (lit< tt)
+sink_tells cable sink_sending.SoftReset e = apart _ _ e (lit< tt)
 
 -- the plug's message has what the cable answers that it knows
 pub plug_tells : (cable known : Option Cable) (objects : List ℕ) → (known ≡ None) ⊎ (known ≡ cable) →
