@@ -37,10 +37,10 @@ impl Release for Freed {
     fn release<T: Drop>(_runner: T) {}
 }
 
-// Runs a session with a runner of as many ports as the file has.
+// Runs a session with a runner of so many ports.
 macro_rules! run_by {
-    ($runner:ident, $release:ident, $alloc:ident, $file:ident, $edits:ident, $writer:ident, $meter:ident; $($n:literal)*) => {
-        match $file.port_count().map_err(RunFault::Scenario)? {
+    ($runner:ident, $release:ident, $ports:ident, $alloc:ident, $file:ident, $edits:ident, $writer:ident, $meter:ident; $($n:literal)*) => {
+        match $ports {
             $($n => run_file::<$n, $runner<$n>, $release, W>($alloc, $file, $edits, $writer, $meter),)*
             _ => Err(RunFault::Scenario(ScenarioFault::Limit)),
         }
@@ -64,8 +64,33 @@ pub fn run_plain<W: TextOut>(
     ensures cost { RunCosts CostsAllMoves result text.now edits.now (W.taken writer.old) (W.taken writer.new) meter.old meter.new }
     ensures rises { meter.old ≤ meter.new }
 {
-    let file = ScenarioFile::parse(alloc, text).map_err(RunFault::Scenario)?;
-    run_by!(Plain, Freed, alloc, file, edits, writer, meter; 1 2 3 4 5 6 7 8)
+    let file = match ScenarioFile::parse(alloc, text) {
+        Ok(file) => file,
+        Err(fault) => return Err(RunFault::Scenario(fault)),
+    };
+    match file.port_count() {
+        Ok(ports) => run_plain_file(alloc, file, ports, edits, writer, meter),
+        Err(fault) => Err(RunFault::Scenario(fault)),
+    }
+}
+
+// Runs a session for the scenario of a file of so many ports. Each edit is run from the start.
+fn run_plain_file<W: TextOut>(
+    alloc: Global,
+    file: ScenarioFile,
+    ports: usize,
+    edits: &[u8],
+    writer: &mut W,
+    meter: &mut Meter,
+) -> Result<Tally, RunFault>
+    requires { counted (members_of file) ≡ Ok ports }
+    ensures text { ForTexts file (λ text. RunsText result text edits.now (W.taken writer.old) (W.taken writer.new)) }
+    ensures counts { CountsWrites result (W.failures writer.old) (W.failures writer.new) }
+    ensures cost { ForTexts file (λ text. RunCosts CostsAllMoves result text edits.now (W.taken writer.old) (W.taken writer.new)
+        meter.old meter.new) }
+    ensures rises { meter.old ≤ meter.new }
+{
+    run_by!(Plain, Freed, ports, alloc, file, edits, writer, meter; 1 2 3 4 5 6 7 8)
 }
 
 /// Runs a session over an edit script for the scenario of a text, which has 1 to 8 ports. The moves of each run are kept
@@ -105,8 +130,33 @@ pub fn run_kept_releasing<R: Release, W: TextOut>(
     ensures cost { RunCosts CostsFreshMoves result text.now edits.now (W.taken writer.old) (W.taken writer.new) meter.old meter.new }
     ensures rises { meter.old ≤ meter.new }
 {
-    let file = ScenarioFile::parse(alloc, text).map_err(RunFault::Scenario)?;
-    run_by!(Kept, R, alloc, file, edits, writer, meter; 1 2 3 4 5 6 7 8)
+    let file = match ScenarioFile::parse(alloc, text) {
+        Ok(file) => file,
+        Err(fault) => return Err(RunFault::Scenario(fault)),
+    };
+    match file.port_count() {
+        Ok(ports) => run_kept_file::<R, W>(alloc, file, ports, edits, writer, meter),
+        Err(fault) => Err(RunFault::Scenario(fault)),
+    }
+}
+
+// Runs a session for the scenario of a file of so many ports. The moves of each run are kept for the next.
+fn run_kept_file<R: Release, W: TextOut>(
+    alloc: Global,
+    file: ScenarioFile,
+    ports: usize,
+    edits: &[u8],
+    writer: &mut W,
+    meter: &mut Meter,
+) -> Result<Tally, RunFault>
+    requires { counted (members_of file) ≡ Ok ports }
+    ensures text { ForTexts file (λ text. RunsText result text edits.now (W.taken writer.old) (W.taken writer.new)) }
+    ensures counts { CountsWrites result (W.failures writer.old) (W.failures writer.new) }
+    ensures cost { ForTexts file (λ text. RunCosts CostsFreshMoves result text edits.now (W.taken writer.old) (W.taken writer.new)
+        meter.old meter.new) }
+    ensures rises { meter.old ≤ meter.new }
+{
+    run_by!(Kept, R, ports, alloc, file, edits, writer, meter; 1 2 3 4 5 6 7 8)
 }
 
 // Runs a session for the scenario of a file of N ports.
