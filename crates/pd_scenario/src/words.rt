@@ -1,37 +1,44 @@
 //! The words and the number by which files and edit scripts write a kind of event, a plug, a mode and a rating.
 
-ghost use Rattle.std.specs.Prelude.{◌≡◌};
+ghost use Rattle.std.specs.Prelude.{◌≡◌, bytes_eq};
 ghost use Rattle.pd_scenario.specs.Words.{kind_of, mode_of, plug_of, rating_of};
 
 use pd_identity::{CablePlug, Rating};
 use pd_setup::{EventKind, KindWord, SinkMode};
 
+/// Whether a word is another.
+fn is_word(word: &[u8], other: &[u8]) -> bool
+    ensures { result ≡ bytes_eq word.now other.now }
+{
+    word == other
+}
+
 /// The kind of event that a word stands for.
 pub fn kind_of(word: &[u8]) -> Option<KindWord>
     ensures { result ≡ kind_of word.now }
 {
-    if word == b"attach".as_slice() {
+    if is_word(word, b"attach") {
         return Some(EventKind::Attach {
             cable: (),
             sink: (),
         });
     }
-    if word == b"detach".as_slice() {
+    if is_word(word, b"detach") {
         return Some(EventKind::Detach);
     }
-    if word == b"demand".as_slice() {
+    if is_word(word, b"demand") {
         return Some(EventKind::Demand(()));
     }
-    if word == b"lose".as_slice() {
+    if is_word(word, b"lose") {
         return Some(EventKind::Lose);
     }
-    if word == b"damage".as_slice() {
+    if is_word(word, b"damage") {
         return Some(EventKind::Damage(()));
     }
-    if word == b"get_source".as_slice() {
+    if is_word(word, b"get_source") {
         return Some(EventKind::GetSource);
     }
-    if word == b"get_sink".as_slice() {
+    if is_word(word, b"get_sink") {
         return Some(EventKind::GetSink);
     }
     None
@@ -41,19 +48,19 @@ pub fn kind_of(word: &[u8]) -> Option<KindWord>
 pub fn plug_of(word: &[u8]) -> Option<CablePlug>
     ensures { result ≡ plug_of word.now }
 {
-    if word == b"none".as_slice() {
+    if is_word(word, b"none") {
         return Some(CablePlug::Absent);
     }
-    if word == b"ack".as_slice() {
+    if is_word(word, b"ack") {
         return Some(CablePlug::Ack);
     }
-    if word == b"nak".as_slice() {
+    if is_word(word, b"nak") {
         return Some(CablePlug::Nak);
     }
-    if word == b"busy".as_slice() {
+    if is_word(word, b"busy") {
         return Some(CablePlug::Busy);
     }
-    if word == b"silent".as_slice() {
+    if is_word(word, b"silent") {
         return Some(CablePlug::Silent);
     }
     None
@@ -63,13 +70,13 @@ pub fn plug_of(word: &[u8]) -> Option<CablePlug>
 pub fn mode_of(word: &[u8]) -> Option<SinkMode>
     ensures { result ≡ mode_of word.now }
 {
-    if word == b"pd".as_slice() {
+    if is_word(word, b"pd") {
         return Some(SinkMode::PowerDelivery);
     }
-    if word == b"plain".as_slice() {
+    if is_word(word, b"plain") {
         return Some(SinkMode::Plain);
     }
-    if word == b"greedy".as_slice() {
+    if is_word(word, b"greedy") {
         return Some(SinkMode::Greedy);
     }
     None
