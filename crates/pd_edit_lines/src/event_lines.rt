@@ -7,6 +7,7 @@ ghost use Rattle.pd_edit_lines.specs.Grammar.{one_number, two_numbers};
 ghost use Rattle.pd_edit_lines.specs.declared.edit.EditHappening.TheVariants as happenings;
 ghost use Rattle.pd_edit_lines.specs.declared.edit.Edit.TheVariants as edits;
 
+use crate::keywords::is_word;
 use crate::words::{end_of, name_at, next, number, number_at};
 use crate::{Edit, EditHappening, EditKind, WrittenDamage};
 use pd_scenario::kind_of;
@@ -78,7 +79,7 @@ fn happening_of(line: &[u8]) -> Option<EditHappening>
     ensures { result ≡ happening_of (words line.now) }
 {
     let (word, line) = next(line)?;
-    if word == b"budget".as_slice() {
+    if is_word(word, b"budget") {
         return budget_change_of(line);
     }
     on_port_of(word, line)

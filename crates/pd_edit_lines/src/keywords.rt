@@ -1,6 +1,6 @@
 //! The words that a command, what is shown and a revision are written by.
 
-ghost use Rattle.std.specs.Prelude.{◌≡◌};
+ghost use Rattle.std.specs.Prelude.{◌≡◌, bytes_eq};
 ghost use Rattle.pd_edit_lines.specs.Keywords.{command_word, show_word, revision_word};
 
 use pd_setup::SinkRevision;
@@ -30,40 +30,47 @@ pub(crate) enum ShowWord {
     Margins,
 }
 
+/// Whether a word is another.
+pub(crate) fn is_word(word: &[u8], other: &[u8]) -> bool
+    ensures { result ≡ bytes_eq word.now other.now }
+{
+    word == other
+}
+
 pub(crate) fn command_word(word: &[u8]) -> Option<Command>
     ensures { result ≡ command_word word.now }
 {
-    if word == b"insert".as_slice() {
+    if is_word(word, b"insert") {
         return Some(Command::Insert);
     }
-    if word == b"remove".as_slice() {
+    if is_word(word, b"remove") {
         return Some(Command::Remove);
     }
-    if word == b"move".as_slice() {
+    if is_word(word, b"move") {
         return Some(Command::Move);
     }
-    if word == b"change".as_slice() {
+    if is_word(word, b"change") {
         return Some(Command::Change);
     }
-    if word == b"cable".as_slice() {
+    if is_word(word, b"cable") {
         return Some(Command::Cable);
     }
-    if word == b"sink".as_slice() {
+    if is_word(word, b"sink") {
         return Some(Command::Sink);
     }
-    if word == b"caps".as_slice() {
+    if is_word(word, b"caps") {
         return Some(Command::Caps);
     }
-    if word == b"floor".as_slice() {
+    if is_word(word, b"floor") {
         return Some(Command::Floor);
     }
-    if word == b"budget".as_slice() {
+    if is_word(word, b"budget") {
         return Some(Command::Budget);
     }
-    if word == b"end".as_slice() {
+    if is_word(word, b"end") {
         return Some(Command::End);
     }
-    if word == b"show".as_slice() {
+    if is_word(word, b"show") {
         return Some(Command::Show);
     }
     None
@@ -72,16 +79,16 @@ pub(crate) fn command_word(word: &[u8]) -> Option<Command>
 pub(crate) fn show_word(word: &[u8]) -> Option<ShowWord>
     ensures { result ≡ show_word word.now }
 {
-    if word == b"transcript".as_slice() {
+    if is_word(word, b"transcript") {
         return Some(ShowWord::Transcript);
     }
-    if word == b"contracts".as_slice() {
+    if is_word(word, b"contracts") {
         return Some(ShowWord::Contracts);
     }
-    if word == b"faults".as_slice() {
+    if is_word(word, b"faults") {
         return Some(ShowWord::Faults);
     }
-    if word == b"margins".as_slice() {
+    if is_word(word, b"margins") {
         return Some(ShowWord::Margins);
     }
     None
@@ -91,10 +98,10 @@ pub(crate) fn show_word(word: &[u8]) -> Option<ShowWord>
 pub(crate) fn revision_word(word: &[u8]) -> Option<SinkRevision>
     ensures { result ≡ revision_word word.now }
 {
-    if word == b"rev2".as_slice() {
+    if is_word(word, b"rev2") {
         return Some(SinkRevision::Revision2);
     }
-    if word == b"rev3".as_slice() {
+    if is_word(word, b"rev3") {
         return Some(SinkRevision::Revision3);
     }
     None

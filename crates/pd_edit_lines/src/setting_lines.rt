@@ -6,7 +6,7 @@ ghost use Rattle.pd_edit_lines.specs.Grammar.{cable_from, cable_of, revision_of,
 ghost use Rattle.pd_edit_lines.specs.Grammar.{two_numbers};
 ghost use Rattle.pd_edit_lines.specs.declared.edit.Edit.TheVariants as edits;
 
-use crate::keywords::revision_word;
+use crate::keywords::{is_word, revision_word};
 use crate::words::{end_of, name_at, next, number, number_at};
 use crate::{Edit, WrittenSupply};
 use arrayvec::ArrayVec;
@@ -27,7 +27,7 @@ pub(crate) fn cable_of(line: &[u8]) -> Option<Edit>
 {
     let (name, line) = name_at(line)?;
     let (word, line) = next(line)?;
-    if word == b"drop".as_slice() {
+    if is_word(word, b"drop") {
         end_of(line)?;
         return Some(Edit::DropCable { name });
     }
@@ -66,7 +66,7 @@ pub(crate) fn sink_of(line: &[u8]) -> Option<Edit>
 {
     let (name, line) = name_at(line)?;
     let (word, line) = next(line)?;
-    if word == b"drop".as_slice() {
+    if is_word(word, b"drop") {
         end_of(line)?;
         return Some(Edit::DropSink { name });
     }
