@@ -1,3 +1,5 @@
+use Rattle.std.proofs.lemmas.List.{take_all}
+use Rattle.std.proofs.lemmas.Result.{err_from_is_err_and}
 use Rattle.std.proofs.lemmas.List.Elements.{All-get_or}
 use Rattle.toml.specs.View.{table_view}
 use Rattle.pd_scenario_tables.specs.declared.schema.TableKind.TheVariants.{Cable}
@@ -16,3 +18,9 @@ loop-table-preserved c =
     mapped_more (λ t. table_view t.now) cable_of c.args.tables.now c.loop-table.table-index c.table-item.result c.loop-table.all.items
     c.push.new.self.items c.cable_of.result c.loop-table-test.true c.table-item.is c.cable_of.ensures c.loop-table.invariant
     c.in_ok-push.ensures.items
+
+pub returns-in_err-push : goal.returns-in_err-push
+returns-in_err-push c = let p = err_from_is_err_and c.from_residual.result c.from_residual.ensures.1 in rw p.1 tt
+
+pub returns : goal.returns
+returns c = rw (take_all c.loop-table.table-index c.args.tables.now c.loop-table-test.false) at c.loop-table.invariant
