@@ -1,5 +1,4 @@
-use Rattle.std.proofs.Common.{ℕ, ◌<◌, sym, subst, arith}
-use Rattle.std.specs.Prelude.{slice_get}
+use Rattle.std.proofs.Common.{refl, sym, subst, arith}
 use Rattle.std.proofs.lemmas.Option.{slice_get_within}
 use Rattle.pd_report.specs.Walk.{IsWalk}
 use Rattle.pd_report.proofs.MarginLemmas.{Moves, in-order, on-port}
@@ -29,3 +28,31 @@ returns-then-entry-walk-clause-walk g c plan is =
     subst (IsWalk plan moves) (sym c.note.ensures)
     (walk-noted plan moves c.args.walk.now (c.in-Some.port, c.in-Some.entry.now) is (sym c.in-Some.ensures.entry)
     (in-order _ _ _ c.entry.ensures.run) c.if-entry-walk.true)
+
+pub returns-then-entry-walk-clause-still : goal.returns-then-entry-walk-clause-still
+returns-then-entry-walk-clause-still g c = rw c.note.ensures refl
+
+pub returns-then-entry-walk-clause-seen : goal.returns-then-entry-walk-clause-seen
+returns-then-entry-walk-clause-seen g c =
+    let within =
+    slice_get_within (g.T.Runner.entries c.args.run.now) c.args.walk.now.seen (c.in-Some.port, c.in-Some.entry.now)
+    (sym c.in-Some.ensures.entry) in
+    rw c.note.ensures (refl, omega (arith, within))
+
+pub returns-else-entry-walk-clause-walk : goal.returns-else-entry-walk-clause-walk
+returns-else-entry-walk-clause-walk g c plan is = is
+
+pub returns-else-entry-walk-clause-still : goal.returns-else-entry-walk-clause-still
+returns-else-entry-walk-clause-still g c = refl
+
+pub returns-else-entry-walk-clause-seen : goal.returns-else-entry-walk-clause-seen
+returns-else-entry-walk-clause-seen g c = (refl, rw (sym c.in-Some.ensures.entry) c.if-entry-walk.false)
+
+pub returns-in_default-clause-walk : goal.returns-in_default-clause-walk
+returns-in_default-clause-walk g c plan is = is
+
+pub returns-in_default-clause-still : goal.returns-in_default-clause-still
+returns-in_default-clause-still g c = refl
+
+pub returns-in_default-clause-seen : goal.returns-in_default-clause-seen
+returns-in_default-clause-seen g c = (refl, rw (sym c.in_default.ensures.entry) tt)
