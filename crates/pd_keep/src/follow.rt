@@ -135,8 +135,7 @@ fn passes<const N: usize>(plan: &Plan<N>, old: &KeptMoves, at: usize, live: &mut
 {
     let _end = plan.end();
     let kept = old.kept(at);
-    let left = kept.after.hold();
-    live.follow(plan, kept.port, &kept.entry, &kept.answer, left)
+    live.follow(plan, kept.port(), kept.entry(), kept.answer(), kept.left())
 }
 
 // The move of a port that doesn't follow, which is the next one where all ports stand.
@@ -199,9 +198,9 @@ fn leave<const N: usize>(
     ensures rises { meter.old ≤ meter.new }
 {
     let kept = old.kept(course.at);
-    let port = kept.port;
-    let due = kept.entry.due;
-    live.take_up(plan, port, kept.before.share()?);
+    let port = kept.port();
+    let due = kept.entry().due;
+    live.take_up(plan, port, kept.before().share()?);
     course.away[port - 1] = false;
     course.places[port - 1] = Some(old.place_before(course.at));
     move_own(alloc, old, course, plan, live, port, due, meter)

@@ -1,20 +1,24 @@
 //! The runner that keeps its moves.
 
-ghost use Rattle.std.specs.Prelude.{◌≡◌, ℕ, ◌≤◌, List, [], Option, Some, None, OnOk, OnErr, map, length, slice_get, option_map};
+ghost use Rattle.std.specs.Prelude.{◌≡◌, ℕ, ◌≤◌, List, [], Option, Some, None, IfOk, OnOk, OnErr, map, length, slice_get, option_map};
 ghost use Rattle.pd_scenario.specs.Plans.{plan_of};
 ghost use Rattle.pd_run.specs.Cost.{IsPaid};
 ghost use Rattle.pd_run.specs.Shown.{Shows, SafeRun, IsShown};
 ghost use Rattle.pd_run.specs.Run.{shown};
 ghost use Rattle.pd_keep.specs.Cost.{CostsFreshMoves};
 ghost use Rattle.pd_keep.specs.Fresh.{IsCharged};
+ghost use Rattle.pd_keep.specs.Running.{running, Keeps};
+ghost use Rattle.pd_keep.specs.Spans.{IsKept, moves_of};
 
 use crate::rerun::rerun;
 use crate::spans::Spans;
 use pd_port::{Entry, Meter};
 use pd_run::{Note, Plan, Runner};
 use pd_scenario::Scenario;
+use pd_steps::SpareSteps;
 use std::alloc::{AllocError, Global};
 use std::marker::Model;
+use std::mem;
 
 /// What is kept of a run: its plan, and in spans its moves with the ports before and after them.
 #[derive(Drop)]
@@ -28,6 +32,7 @@ pub struct KeptRun<const N: usize> {
 #[derive(Drop)]
 pub struct Kept<const N: usize> {
     run: Option<KeptRun<N>>,
+    spare: SpareSteps,
 }
 
 impl<const N: usize> Model for Kept<N> {
@@ -49,8 +54,10 @@ impl<const N: usize> Runner<N> for Kept<N> {
     ghost costs = { CostsFreshMoves };
 
     fn empty(alloc: Global) -> Kept<N> {
-        let _alloc = alloc;
-        Kept { run: None }
+        Kept {
+            run: None,
+            spare: SpareSteps::new(alloc),
+        }
     }
 
     fn replace(
@@ -70,11 +77,9 @@ impl<const N: usize> Runner<N> for Kept<N> {
         ensures rises { meter.old ≤ meter.new }
     {
         let plan = Plan::of_scenario(alloc, scenario)?;
-        let spans = match &self.run {
-            Some(old) => rerun(alloc, &old.plan, &old.spans, &plan, meter)?,
-            None => rerun(alloc, &plan, &Spans::new(alloc), &plan, meter)?,
-        };
-        self.run = Some(KeptRun { plan, spans });
+        let spans = spans_of(alloc, &self.run, &plan, &mut self.spare, meter)?;
+        let old = mem::replace(&mut self.run, Some(KeptRun { plan, spans }));
+        take_back(old, &mut self.spare);
         Ok(())
     }
 
@@ -95,5 +100,31 @@ impl<const N: usize> Runner<N> for Kept<N> {
             Some(run) => run.spans.next_with(note, from),
             None => 0,
         }
+    }
+}
+
+// The run of a plan, beside what is kept of another.
+fn spans_of<const N: usize>(
+    alloc: Global,
+    run: &Option<KeptRun<N>>,
+    plan: &Plan<N>,
+    spare: &mut SpareSteps,
+    meter: &mut Meter,
+) -> Result<Spans, AllocError>
+    requires { Keeps N run.now }
+    ensures kept { IfOk result (λ spans. IsKept N plan.now spans) }
+    ensures charge { IfOk result (λ spans. IsCharged (running N run.now) plan.now (moves_of spans) meter.old meter.new) }
+    ensures rises { meter.old ≤ meter.new }
+{
+    match run {
+        Some(old) => rerun(alloc, &old.plan, &old.spans, plan, spare, meter),
+        None => rerun(alloc, plan, &Spans::new(alloc), plan, spare, meter),
+    }
+}
+
+// Takes back the room of a run that isn't kept any more.
+fn take_back<const N: usize>(old: Option<KeptRun<N>>, spare: &mut SpareSteps) {
+    if let Some(old) = old {
+        old.spans.take_back(spare);
     }
 }

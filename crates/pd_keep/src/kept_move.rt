@@ -1,6 +1,6 @@
 //! Moves that are kept, which runs share.
 
-ghost use Rattle.std.specs.Prelude.{◌≡◌, ◌↔◌, ◌<◌, ◌≤◌, ◌-◌, ◌++◌, ◌∷◌, ℕ, [], List, All, IsTrue, IfOk, OnOk, length, map};
+ghost use Rattle.std.specs.Prelude.{◌≡◌, ◌↔◌, ◌<◌, ◌≤◌, ◌+◌, ◌-◌, ◌++◌, ◌∷◌, ℕ, [], List, All, IsTrue, IfOk, OnOk, length, map};
 ghost use Rattle.std.specs.Prelude.{false, option_map, slice_get, slice_index_or};
 ghost use Rattle.pd_run.specs.Notes.{IsNextWith};
 ghost use Rattle.pd_port.specs.Port.{PortData, is_event};
@@ -15,20 +15,18 @@ ghost use Rattle.pd_keep.specs.Kept.{marks_kept, shown_of};
 use crate::presence::Presence;
 use pd_objects::Answer;
 use pd_port::{Due, Entry, Port, What};
-use pd_run::{Marks, Note, Plan, SharedBudget, SharedPort};
+use pd_run::{Marks, Note, Plan, SharedBudget};
+use pd_steps::{SharedPort, SharedStep, SpareSteps};
 use std::alloc::{AllocError, Global};
 use std::marker::Model;
-use std::rc::Rc;
 
-/// What is kept of a move: its port, numbered from 1; the port before it; the answer to what the port asked; the port after it; and
-/// what the move left to be read, with what fell due.
+/// What is kept of a move: its port, numbered from 1; the port before it; and its step, which is the port after it, the answer to what
+/// the port asked, and what the move left to be read, with what fell due. Runs share the port and the step.
 #[derive(Drop)]
 pub struct KeptMove {
-    pub port: usize,
-    pub before: SharedPort,
-    pub answer: Option<Answer>,
-    pub after: SharedPort,
-    pub entry: Entry,
+    port: usize,
+    before: SharedPort,
+    step: SharedStep,
 }
 
 impl Model for KeptMove {
@@ -39,81 +37,116 @@ impl Model for KeptMove {
     ghost view = { λ m. record {
       port = m.port;
       before = m.before;
-      due = m.entry.due;
-      answer = m.answer;
-      after = m.after;
-      entry = m.entry;
+      due = m.step.entry.due;
+      answer = m.step.answer;
+      after = m.step.after;
+      entry = m.step.entry;
     } };
 }
 
 impl KeptMove {
-    // Whether the move asked anything of the shared budget, or its port holds more or less of it than before.
-    fn stirs(&self) -> bool
-        ensures { result ≡ false → IsQuiet self.now }
+    /// What is kept of a move that no run has yet: its port, numbered from 1, before it, and its step.
+    pub fn new(port: usize, before: SharedPort, step: SharedStep) -> KeptMove
+        ensures { result ≡ record {
+          port = port;
+          before = before;
+          due = step.entry.due;
+          answer = step.answer;
+          after = step.after;
+          entry = step.entry;
+        } }
     {
-        self.entry.query.is_some()
-            || self.answer.is_some()
-            || self.after.hold() != self.before.hold()
-    }
-
-    // Its brief.
-    fn brief(&self) -> Brief
-        ensures { IsBrief self.now result }
-    {
-        Brief {
-            time: self.entry.due.time,
-            port: self.port,
-            is_event: is_event(&self.entry.due.what),
-            stirs: self.stirs(),
-            held: self.before.hold(),
-        }
-    }
-}
-
-/// What is kept of a move, which runs share.
-#[derive(Drop)]
-pub struct SharedMove {
-    kept: Rc<KeptMove>,
-}
-
-impl Model for SharedMove {
-    ghost use Rattle.pd_keep.specs.Kept.{KeptData};
-
-    ghost Value = { KeptData };
-
-    ghost view = { λ m. m.kept.value };
-}
-
-impl SharedMove {
-    /// What is kept of a move that no run has yet.
-    ///
-    /// # Errors
-    /// There is no memory.
-    pub fn new(alloc: Global, kept: KeptMove) -> Result<SharedMove, AllocError>
-        ensures { IfOk result (λ shared. shared ≡ kept) }
-    {
-        Ok(SharedMove {
-            kept: Rc::new(alloc, kept)?,
-        })
+        KeptMove { port, before, step }
     }
 
     /// The same for one more run.
     ///
     /// # Errors
     /// More runs have it than can be counted.
-    pub fn share(&self) -> Result<SharedMove, AllocError>
+    pub fn share(&self) -> Result<KeptMove, AllocError>
         ensures { IfOk result (λ shared. shared ≡ self.now) }
     {
-        Ok(SharedMove {
-            kept: self.kept.clone()?,
+        Ok(KeptMove {
+            port: self.port,
+            before: self.before.share()?,
+            step: self.step.share()?,
         })
     }
 
-    /// What is kept of the move.
-    pub fn kept(&self) -> &KeptMove
-        ensures { result.now ≡ self.now }
+    /// Takes its room back, and that of the port before it, where no other run has them.
+    pub fn take_back(self, spare: &mut SpareSteps)
+        ensures { spare.new ≤ spare.old + 2 }
     {
-        &self.kept
+        let KeptMove { before, step, .. } = self;
+        spare.take_port(before);
+        spare.take_step(step);
+    }
+
+    /// Its port, numbered from 1.
+    pub fn port(&self) -> usize
+        ensures { result ≡ self.now.port }
+    {
+        self.port
+    }
+
+    /// The port before it.
+    pub fn before(&self) -> &SharedPort
+        ensures { result.now ≡ self.now.before }
+    {
+        &self.before
+    }
+
+    /// The port after it, for one more owner.
+    ///
+    /// # Errors
+    /// It has more owners than can be counted.
+    pub fn after(&self) -> Result<SharedPort, AllocError>
+        ensures { IfOk result (λ shared. shared ≡ self.now.after) }
+    {
+        self.step.after()
+    }
+
+    /// The answer to what the port asked.
+    pub fn answer(&self) -> &Option<Answer>
+        ensures { result.now ≡ self.now.answer }
+    {
+        self.step.answer()
+    }
+
+    /// What the move left to be read.
+    pub fn entry(&self) -> &Entry
+        ensures entry { result.now ≡ self.now.entry }
+        ensures due { result.now.due ≡ self.now.due }
+    {
+        self.step.entry()
+    }
+
+    /// What its port holds of the shared budget after it, in microwatts.
+    pub fn left(&self) -> u64
+        ensures { result ≡ held_by self.now.after }
+    {
+        self.step.hold()
+    }
+
+    // Whether the move asked anything of the shared budget, or its port holds more or less of it than before.
+    fn stirs(&self) -> bool
+        ensures { result ≡ false → IsQuiet self.now }
+    {
+        self.entry().query.is_some() || self.answer().is_some() || self.left() != self.before.hold()
+    }
+
+    // Its brief.
+    fn brief(&self) -> Brief
+        ensures { IsBrief self.now result }
+    {
+        let due = self.entry().due;
+        Brief {
+            time: due.time,
+            port: self.port,
+            is_event: matches!(due.what, What::Event(_)),
+            stirs: self.stirs(),
+            held: self.before.hold(),
+        }
     }
 }
 
@@ -144,7 +177,7 @@ pub enum Place {
 pub struct KeptMoves {
     to: u64,
     first: Vec<SharedPort>,
-    moves: Vec<SharedMove>,
+    moves: Vec<KeptMove>,
     marks: Vec<Marks>,
     links: Vec<Place>,
     briefs: Vec<Brief>,
@@ -167,23 +200,7 @@ impl Model for KeptMoves {
 }
 
 impl KeptMoves {
-    /// No moves yet, and the ports as they are.
-    pub fn new(alloc: Global, first: Vec<SharedPort>) -> KeptMoves
-        ensures { result ≡ record { to = 0; first = first.items; moves = [] } }
-    {
-        KeptMoves {
-            to: 0,
-            first,
-            moves: Vec::new(alloc),
-            marks: Vec::new(alloc),
-            links: Vec::new(alloc),
-            briefs: Vec::new(alloc),
-            lasts: [Place::First; 8],
-            presence: Presence::nothing(),
-        }
-    }
-
-    /// The same, with room for so many moves from the start.
+    /// No moves yet, with room for so many, and the ports as they are.
     ///
     /// # Errors
     /// There is no memory.
@@ -222,6 +239,17 @@ impl KeptMoves {
         ended
     }
 
+    /// Takes back the room of the moves and ports that no other run has.
+    pub fn take_back(self, spare: &mut SpareSteps) {
+        let KeptMoves { first, moves, .. } = self;
+        for port in first {
+            spare.take_port(port);
+        }
+        for kept in moves {
+            kept.take_back(spare);
+        }
+    }
+
     /// The number of moves.
     pub fn len(&self) -> usize
         ensures { result ≡ length self.now.moves }
@@ -233,8 +261,8 @@ impl KeptMoves {
     pub fn entry(&self, i: usize) -> Option<(usize, &Entry)>
         ensures { option_map (λ r. (r.0, r.1.now)) result ≡ option_map shown_of (slice_get self.now.moves i) }
     {
-        let kept = self.moves.get(i)?.kept();
-        Some((kept.port, &kept.entry))
+        let kept = self.moves.get(i)?;
+        Some((kept.port, kept.entry()))
     }
 
     /// The place of the first move from one on whose entry leaves a note, or the number of moves where none does.
@@ -259,7 +287,7 @@ impl KeptMoves {
         ensures { IsTrue result ↔ (place < length self.now.first) × (slice_index_or self.now.first place no_port ≡ port.now) }
     {
         match self.first.get(place) {
-            Some(first) => same_port(first.port(), port),
+            Some(first) => first.stands_as(port),
             None => false,
         }
     }
@@ -299,7 +327,7 @@ impl KeptMoves {
         requires { i < length self.now.moves }
         ensures { (k : KeptData) → result.now ≡ slice_index_or self.now.moves i k }
     {
-        self.moves[i].kept()
+        &self.moves[i]
     }
 
     /// Where a move's port stood before it.
@@ -315,7 +343,7 @@ impl KeptMoves {
     ///
     /// # Errors
     /// There is no memory, as where a move has more owners than can be counted.
-    pub fn shared_moves(&self, alloc: Global) -> Result<Vec<SharedMove>, AllocError>
+    pub fn shared_moves(&self, alloc: Global) -> Result<Vec<KeptMove>, AllocError>
         ensures { IfOk result (λ moves. moves.items ≡ self.now.moves) }
     {
         let mut moves = Vec::with_capacity(alloc, self.moves.len())?;
@@ -337,7 +365,7 @@ impl KeptMoves {
         match self.lasts[port] {
             Place::First => self.first[port].share(),
             Place::After(i) => match self.moves.get(i) {
-                Some(last) => last.kept().after.share(),
+                Some(last) => last.after(),
                 None => Err(AllocError),
             },
         }
@@ -349,17 +377,6 @@ impl KeptMoves {
         ensures { (k : KeptData) → result ≡ marks_kept (slice_index_or self.now.moves i k) }
     {
         self.marks[i]
-    }
-
-    /// A move, for one more run.
-    ///
-    /// # Errors
-    /// More runs have it than can be counted.
-    pub fn share(&self, i: usize) -> Result<SharedMove, AllocError>
-        requires { i < length self.now.moves }
-        ensures { IfOk result (λ shared. (k : KeptData) → shared ≡ slice_index_or self.now.moves i k) }
-    {
-        self.moves[i].share()
     }
 
     /// What the ports hold of the shared budget of a plan before the moves.
@@ -394,14 +411,8 @@ impl KeptMoves {
         if !self.briefs[i].stirs {
             return true;
         }
-        let kept = self.moves[i].kept();
-        shared.answers(
-            plan,
-            kept.port,
-            &kept.entry,
-            &kept.answer,
-            kept.after.hold(),
-        )
+        let kept = &self.moves[i];
+        shared.answers(plan, kept.port(), kept.entry(), kept.answer(), kept.left())
     }
 
     /// Whether a port, numbered from 0 here, is known to stand as the moves leave it. It stands at a place, where one is given.
@@ -442,20 +453,20 @@ impl KeptMoves {
         ensures { IsTrue result ↔ (slice_index_or self.now.moves i (kept_of port before.now due.now answer.now)
             ≡ kept_of port before.now due.now answer.now) }
     {
-        let (brief, kept) = (self.brief(i), self.moves[i].kept());
+        let (brief, kept) = (self.brief(i), &self.moves[i]);
         // The brief tells most moves apart, and the move, which lies elsewhere in memory, needn't be read then.
         brief.port == port
             && brief.held == held
-            && kept.entry.due.same(due)
-            && same_answer(&kept.answer, answer)
-            && (self.follows(i, left) || same_port(kept.before.port(), before))
+            && kept.entry().due.same(due)
+            && kept.step.has_answer(answer)
+            && (self.follows(i, left) || kept.before.stands_as(before))
     }
 
     /// Keeps one more move of a port with its marks. The moves before it left the port as it was before this one.
     ///
     /// # Errors
     /// There is no memory.
-    pub fn push(&mut self, port: usize, kept: SharedMove, marks: Marks) -> Result<(), AllocError>
+    pub fn push(&mut self, port: usize, kept: KeptMove, marks: Marks) -> Result<(), AllocError>
         requires first { 1 ≤ port }
         requires last { port ≤ 8 }
         requires port { port ≡ kept.port }
@@ -463,7 +474,7 @@ impl KeptMoves {
         requires goes { kept.before ≡ left_by self.old.first self.old.moves (port - 1) }
         ensures { OnOk result (self.new ≡ record self.old { moves = self.old.moves ++ kept ∷ [] }) }
     {
-        let brief = kept.kept().brief();
+        let brief = kept.brief();
         self.push_noted(port, kept, marks, brief)
     }
 
@@ -481,7 +492,7 @@ impl KeptMoves {
             → self.new ≡ record self.old { moves = self.old.moves ++ slice_index_or old.now.moves i k ∷ [] }) }
     {
         let brief = old.brief(i);
-        self.push_noted(brief.port, old.share(i)?, old.marks(i), brief)
+        self.push_noted(brief.port, old.kept(i).share()?, old.marks(i), brief)
     }
 
     /// Keeps more moves, which an older run has too, from one place to another. Those before each left its port as it was before it.
@@ -514,7 +525,7 @@ impl KeptMoves {
     fn push_noted(
         &mut self,
         port: usize,
-        kept: SharedMove,
+        kept: KeptMove,
         marks: Marks,
         brief: Brief,
     ) -> Result<(), AllocError>
@@ -541,12 +552,6 @@ impl KeptMoves {
     }
 }
 
-fn is_event(what: &What) -> bool
-    ensures { result ≡ is_event what.now }
-{
-    matches!(what, What::Event(_))
-}
-
 // Whether a place is given, and is this one.
 fn is_at(left: Option<Place>, place: Place) -> bool
     ensures { IsTrue result ↔ (left ≡ Some place) }
@@ -556,30 +561,4 @@ fn is_at(left: Option<Place>, place: Place) -> bool
         (Some(Place::After(i)), Place::After(j)) => i == j,
         _ => false,
     }
-}
-
-pub fn copy_answer(answer: &Option<Answer>) -> Option<Answer>
-    ensures { result ≡ answer.now }
-{
-    match answer {
-        None => None,
-        Some(answer) => Some(answer.copy()),
-    }
-}
-
-fn same_answer(answer: &Option<Answer>, other: &Option<Answer>) -> bool
-    ensures { IsTrue result ↔ (answer.now ≡ other.now) }
-{
-    match (answer, other) {
-        (None, None) => true,
-        (Some(answer), Some(other)) => answer.same(other),
-        _ => false,
-    }
-}
-
-// Whether both ports are set to the same and have the same record.
-fn same_port(port: &Port, other: &Port) -> bool
-    ensures { IsTrue result ↔ (port.now ≡ other.now) }
-{
-    port.settings().same(other.settings()) && port.same(other)
 }

@@ -16,7 +16,7 @@ ghost use Rattle.pd_keep.specs.Following.{IsOwnNext};
 ghost use Rattle.pd_keep.specs.Places.{ArePlaced};
 ghost use Rattle.pd_keep.specs.Rerun.{AreThose, Costs, IsNextSpan};
 
-use crate::kept_move::{KeptMove, KeptMoves, Place, SharedMove, copy_answer};
+use crate::kept_move::{KeptMove, KeptMoves, Place};
 use pd_objects::Answer;
 use pd_port::{Due, Meter, Port};
 use pd_run::{Live, Marks, Plan};
@@ -125,7 +125,7 @@ pub fn make<const N: usize>(
     due: Due,
     answer: Option<Answer>,
     meter: &mut Meter,
-) -> Result<(SharedMove, Marks, Option<Place>), AllocError>
+) -> Result<(KeptMove, Marks, Option<Place>), AllocError>
     requires made { All IsMade old.now.moves }
     requires in_time { AreInTime old.now.moves }
     requires before { AreBefore old.now.moves from due.time }
@@ -143,12 +143,12 @@ pub fn make<const N: usize>(
 {
     let (held, before) = (live.hold(port), live.port(port));
     if let Some(i) = find(old, from, left, port, held, before, &due, &answer) {
-        let kept = old.share(i)?;
-        live.settle(plan, port, &due, kept.kept().after.share()?);
+        let kept = old.kept(i).share()?;
+        live.settle(plan, port, &due, kept.after()?);
         return Ok((kept, old.marks(i), Some(Place::After(i))));
     }
     let kept = step(alloc, plan, live, port, due, answer, meter)?;
-    let marks = Marks::of(port, &kept.kept().entry);
+    let marks = Marks::of(port, kept.entry());
     Ok((kept, marks, None))
 }
 
@@ -161,7 +161,7 @@ fn step<const N: usize>(
     due: Due,
     answer: Option<Answer>,
     meter: &mut Meter,
-) -> Result<SharedMove, AllocError>
+) -> Result<KeptMove, AllocError>
     requires plan { IsPlan N plan.now }
     requires room { length live.old.ports ≡ N }
     requires next { (past : List Move) × (whole : LiveData) × IsNextBeside plan.now past whole port due live.old }
@@ -172,16 +172,8 @@ fn step<const N: usize>(
     ensures rises { meter.old ≤ meter.new }
 {
     let before = live.share(port)?;
-    let entry = live.step_beside(alloc, plan, port, &due, copy_answer(&answer), meter)?;
-    let after = live.share(port)?;
-    let kept = KeptMove {
-        port,
-        before,
-        answer,
-        after,
-        entry,
-    };
-    SharedMove::new(alloc, kept)
+    let step = live.step_beside(alloc, plan, port, &due, answer, meter)?;
+    Ok(KeptMove::new(port, before, step))
 }
 
 // The first place from `from` on whose move isn't before this time.

@@ -25,6 +25,7 @@ use crate::one_span::{STRIDE, run_span};
 use crate::spans::Spans;
 use pd_port::Meter;
 use pd_run::{Agreement, Beside, Live, Plan};
+use pd_steps::SpareSteps;
 use std::alloc::{AllocError, Global};
 use std::rc::Rc;
 
@@ -45,6 +46,7 @@ pub fn rerun<const N: usize>(
     old: &Plan<N>,
     old_spans: &Spans,
     plan: &Plan<N>,
+    spare: &mut SpareSteps,
     meter: &mut Meter,
 ) -> Result<Spans, AllocError>
     requires old { IsOld N old.now old_spans.now }
@@ -55,9 +57,10 @@ pub fn rerun<const N: usize>(
     let _end = plan.end();
     let _count = meter.count();
     let mut spans = Spans::new(alloc);
-    let (at, standing) = run_beside(alloc, old, old_spans, plan, &mut spans, meter)?;
+    let (at, standing) = run_beside(alloc, old, old_spans, plan, &mut spans, spare, meter)?;
     if let Standing::Apart(mut live, _) = standing {
         finish(alloc, plan, at, &mut live, &mut spans, meter)?;
+        *spare = live.into_spare();
     }
     Ok(spans)
 }
@@ -69,6 +72,7 @@ fn run_beside<const N: usize>(
     old_spans: &Spans,
     plan: &Plan<N>,
     spans: &mut Spans,
+    spare: &mut SpareSteps,
     meter: &mut Meter,
 ) -> Result<(u64, Standing<N>), AllocError>
     requires old { IsOld N old.now old_spans.now }
@@ -84,7 +88,8 @@ fn run_beside<const N: usize>(
     let _count = meter.count();
     let _places = old_spans.count();
     let mut beside = Beside::new(alloc, old, plan)?;
-    let mut standing = Standing::Apart(Live::new(alloc, plan)?, [false; 8]);
+    let live = Live::new(alloc, plan)?.with_spare(spare.take_all(alloc));
+    let mut standing = Standing::Apart(live, [false; 8]);
     let mut at = 0;
     let mut place = 0;
     while at <= plan.end() {
@@ -92,7 +97,7 @@ fn run_beside<const N: usize>(
             return Ok((at, standing));
         };
         let agree = beside.advance(old, plan, span.to());
-        standing = next_spans(alloc, span, plan, at, agree, standing, spans, meter)?;
+        standing = next_spans(alloc, span, plan, at, agree, standing, spans, spare, meter)?;
         at = span.to();
         place += 1;
     }
@@ -108,6 +113,7 @@ fn next_spans<const N: usize>(
     agree: Agreement,
     standing: Standing<N>,
     spans: &mut Spans,
+    spare: &mut SpareSteps,
     meter: &mut Meter,
 ) -> Result<Standing<N>, AllocError>
     requires comes { (old_plan : PlanData) × (old_spans : List RunData)
@@ -127,9 +133,12 @@ fn next_spans<const N: usize>(
     let shared = is_shared(alloc, old, plan, agree, &standing)?;
     if shared {
         spans.push(old.clone()?)?;
+        if let Standing::Apart(live, _) = standing {
+            *spare = live.into_spare();
+        }
         return Ok(Standing::Alike);
     }
-    let (mut live, alike) = standing_live(alloc, old, plan, at, standing)?;
+    let (mut live, alike) = standing_live(alloc, old, plan, at, standing, spare)?;
     let alike = go_on(alloc, old, plan, at, agree, &mut live, alike, spans, meter)?;
     Ok(Standing::Apart(live, alike))
 }
@@ -168,6 +177,7 @@ fn standing_live<const N: usize>(
     plan: &Plan<N>,
     at: u64,
     standing: Standing<N>,
+    spare: &mut SpareSteps,
 ) -> Result<(Live<N>, [bool; 8]), AllocError>
     requires comes { (old_plan : PlanData) × (old_spans : List RunData) × (spans : List RunData) × (agree : AgreementData)
         × ComesTo N old_plan old_spans old.now plan.now spans at agree standing }
@@ -180,7 +190,7 @@ fn standing_live<const N: usize>(
         Standing::Alike => {
             let ports = old.first_ports(alloc)?;
             let live = Live::resume(alloc, plan, ports, at)?;
-            Ok((live, [true; 8]))
+            Ok((live.with_spare(spare.take_all(alloc)), [true; 8]))
         }
         Standing::Apart(live, alike) => Ok((live, alike)),
     }
@@ -379,7 +389,7 @@ fn finish<const N: usize>(
     if end < from {
         return Ok(());
     }
-    let nothing = KeptMoves::new(alloc, Vec::new(alloc));
+    let nothing = KeptMoves::with_room(alloc, Vec::new(alloc), 0)?;
     // Beyond the end, so that a later end leaves no boundary of its own.
     let to = (end / STRIDE + 1) * STRIDE;
     run_on(

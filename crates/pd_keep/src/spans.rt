@@ -9,6 +9,7 @@ ghost use Rattle.pd_keep.specs.Spans.{kept_of_spans};
 use crate::kept_move::KeptMoves;
 use pd_port::Entry;
 use pd_run::Note;
+use pd_steps::SpareSteps;
 use std::alloc::{AllocError, Global};
 use std::marker::Model;
 use std::rc::Rc;
@@ -71,6 +72,15 @@ impl Spans {
     {
         let span = self.spans.get(k)?;
         Some(&span.kept)
+    }
+
+    /// Takes back the room of the moves that no other run has.
+    pub fn take_back(self, spare: &mut SpareSteps) {
+        for span in self.spans {
+            if let Some(kept) = Rc::into_inner(span.kept) {
+                kept.take_back(spare);
+            }
+        }
     }
 
     /// Adds a span at the end.

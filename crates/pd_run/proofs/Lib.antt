@@ -21,6 +21,5 @@ pub mod Within
 pub mod StepsLeft
 pub mod Plans
 pub mod Taken
-pub mod Timed
 pub mod Until
 pub mod Agree

@@ -11,5 +11,4 @@ pub mod Shown
 pub mod Sound
 pub mod Start
 pub mod StepsLeft
-pub mod Timed
 pub mod UpTo

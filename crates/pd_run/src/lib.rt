@@ -6,12 +6,10 @@ mod had;
 pub mod laws;
 mod live;
 mod note;
-mod own_due;
 mod plain;
 mod plan;
 mod runner;
 mod shared_budget;
-mod shared_port;
 
 pub use beside::{Agreement, Beside};
 pub use live::Live;
@@ -20,4 +18,3 @@ pub use plain::Plain;
 pub use plan::Plan;
 pub use runner::Runner;
 pub use shared_budget::SharedBudget;
-pub use shared_port::SharedPort;

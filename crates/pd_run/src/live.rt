@@ -4,7 +4,7 @@ ghost use Rattle.std.specs.Prelude.{◌≡◌, ℕ, ◌+◌, ◌-◌, ◌<◌, �
 ghost use Rattle.std.specs.Prelude.{IfOk, OnOk, OnErr, IfSome, IfNone, MatchOption, IsTrue, IsFalse, ⊤};
 ghost use Rattle.std.specs.Prelude.{option_map, slice_get, slice_index, slice_index_or, slice_set};
 ghost use Rattle.pd_port.specs.Meter.{raised};
-ghost use Rattle.pd_port.specs.Port.{is_event, due, entry_of, hold};
+ghost use Rattle.pd_port.specs.Port.{is_event, due, hold};
 ghost use Rattle.pd_port.specs.declared.due.Due.{Due as DueData};
 ghost use Rattle.pd_ledger.specs.Offer.{answer_of};
 ghost use Rattle.pd_scenario.specs.Plan.{IsPlan, count, floors_of, force, script_of};
@@ -16,13 +16,15 @@ ghost use Rattle.pd_run.specs.Shown.{SafeRun};
 ghost use Rattle.pd_run.specs.Start.{no_port};
 ghost use Rattle.pd_run.specs.StepsLeft.{steps_left};
 ghost use Rattle.pd_run.specs.UpTo.{IsUpTo, AreAfter, had_by};
+ghost use Rattle.pd_steps.specs.Stepped.{step_of};
 
+use crate::Plan;
 use crate::had::had_by;
 use crate::shared_budget::gives;
-use crate::{Plan, SharedPort};
 use pd_ledger::Ledger;
 use pd_objects::{Answer, Query};
 use pd_port::{Due, Entry, Meter, Port, What};
+use pd_steps::{SharedPort, SharedStep, SpareSteps};
 use std::alloc::{AllocError, Global};
 use std::marker::Model;
 
@@ -35,6 +37,7 @@ pub struct Live<const N: usize> {
     // A port's due changes only when the port moves, so it is asked then and kept.
     dues: Vec<Option<Due>>,
     ledger: Ledger<N>,
+    spare: SpareSteps,
 }
 
 impl<const N: usize> Model for Live<N> {
@@ -90,7 +93,23 @@ impl<const N: usize> Live<N> {
             taken,
             dues,
             ledger: Ledger::with_holds(budget, floors.as_slice(), holds.as_slice()),
+            spare: SpareSteps::new(alloc),
         })
+    }
+
+    /// The same ports, whose steps are put in this room.
+    pub fn with_spare(self, spare: SpareSteps) -> Live<N>
+        ensures { result ≡ self.entry }
+    {
+        let mut live = self;
+        live.spare = spare;
+        live
+    }
+
+    /// The room that is left for steps, of ports that aren't needed any more.
+    pub fn into_spare(self) -> SpareSteps {
+        let Live { spare, .. } = self;
+        spare
     }
 
     /// The port that moves next, with what falls due on it, if that isn't after the end. Where nothing is, the run is whole.
@@ -194,20 +213,19 @@ impl<const N: usize> Live<N> {
         due: &Due,
         answer: Option<Answer>,
         meter: &mut Meter,
-    ) -> Result<Entry, AllocError>
+    ) -> Result<SharedStep, AllocError>
         requires plan { IsPlan N plan.now }
         requires next { (past : List Move) × (whole : LiveData) × IsNextBeside plan.now past whole port due.now self.old }
         requires answer { answer ≡ reply_at self.old (port - 1) due.now }
-        ensures entry { IfOk result (λ entry. entry ≡ entry_of (port_at self.old (port - 1)).settings
-            (port_at self.old (port - 1)).port_record due.now answer) }
+        ensures step { IfOk result (λ step. step ≡ step_of (port_at self.old (port - 1)) due.now answer) }
         ensures moved { OnOk result (self.new ≡ moved_live plan.now self.old (port - 1) due.now) }
         ensures meter { OnOk result (meter.new ≡ raised meter.old 1) }
         ensures rises { meter.old ≤ meter.new }
         ensures same { OnErr result (self.new ≡ self.old) }
     {
-        let entry = self.ports[port - 1].step(alloc, due, answer, meter)?;
+        let step = self.ports[port - 1].step(alloc, &mut self.spare, due, answer, meter)?;
         self.renew(plan, port, due);
-        Ok(entry)
+        Ok(step)
     }
 
     /// The same, where all ports stand as moves have left them.
@@ -238,7 +256,8 @@ impl<const N: usize> Live<N> {
         ensures rises { meter.old ≤ meter.new }
         ensures same { OnErr result (self.new ≡ self.old) }
     {
-        self.step_beside(alloc, plan, port, due, answer, meter)
+        let step = self.step_beside(alloc, plan, port, due, answer, meter)?;
+        Ok(step.entry().copy())
     }
 
     /// Puts the port that moves next to where its move for what falls due has left it; the other ports needn't stand where theirs have

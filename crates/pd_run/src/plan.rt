@@ -6,10 +6,10 @@ ghost use Rattle.pd_scenario.specs.Plan.{IsPlan, settings_of, script_of, floors_
 ghost use Rattle.pd_scenario.specs.Plans.{plan_of};
 ghost use Rattle.pd_run.specs.Start.{start_of};
 
-use crate::SharedPort;
 use pd_port::Port;
 use pd_scenario::{BudgetChange, Scenario, last_change_by};
 use pd_setup::{Event, Settings};
+use pd_steps::SharedPort;
 use std::alloc::{AllocError, Global};
 use std::marker::Model;
 

@@ -8,15 +8,24 @@ use Rattle.pd_keep.proofs.follow.leave.Goals as goal
 
 pub take_up-requires : goal.take_up-requires
 take_up-requires g c =
+    let k : KeptData = c.kept-kept.result.now in
     let v : KeptData = record {
-      port = c.kept.inside.port;
-      before = c.kept.inside.before;
-      due = c.kept.inside.entry.due;
-      answer = c.kept.inside.answer;
-      after = c.kept.inside.after;
-      entry = c.kept.inside.entry;
+      port = c.port-port.result;
+      before = c.before-2.result.now;
+      due = c.entry.result.now.due;
+      answer = k.answer;
+      after = k.after;
+      entry = k.entry;
     } in
-    let read : v ≡ slice_index_or c.args.old.now.moves c.args.course.now.at v = c.kept.view_is ∙ c.kept-kept.ensures v in
+    let is_kept : v ≡ k = λ i. record {
+      port = c.port-port.ensures i;
+      before = c.before-2.ensures i;
+      due = c.entry.ensures.due i;
+      answer = k.answer;
+      after = k.after;
+      entry = k.entry;
+    } in
+    let read : v ≡ slice_index_or c.args.old.now.moves c.args.course.now.at v = is_kept ∙ c.kept-kept.ensures v in
     let r = c.requires.next in
     let in_range = turn_port g.row.N r.0 r.1 c.args.old.now c.args.plan.now r.2 r.3 r.4 r.5 c.args.meter.now c.args.course.now
     c.args.live.now v r.6 (sym read) in
@@ -27,15 +36,24 @@ take_up-requires g c =
 
 pub overflow_sub-course : goal.overflow_sub-course
 overflow_sub-course g c =
+    let k : KeptData = c.kept-kept.result.now in
     let v : KeptData = record {
-      port = c.kept.inside.port;
-      before = c.kept.inside.before;
-      due = c.kept.inside.entry.due;
-      answer = c.kept.inside.answer;
-      after = c.kept.inside.after;
-      entry = c.kept.inside.entry;
+      port = c.port-port.result;
+      before = c.before-2.result.now;
+      due = c.entry.result.now.due;
+      answer = k.answer;
+      after = k.after;
+      entry = k.entry;
     } in
-    let read : v ≡ slice_index_or c.args.old.now.moves c.args.course.now.at v = c.kept.view_is ∙ c.kept-kept.ensures v in
+    let is_kept : v ≡ k = λ i. record {
+      port = c.port-port.ensures i;
+      before = c.before-2.ensures i;
+      due = c.entry.ensures.due i;
+      answer = k.answer;
+      after = k.after;
+      entry = k.entry;
+    } in
+    let read : v ≡ slice_index_or c.args.old.now.moves c.args.course.now.at v = is_kept ∙ c.kept-kept.ensures v in
     let r = c.requires.next in
     let in_range = turn_port g.row.N r.0 r.1 c.args.old.now c.args.plan.now r.2 r.3 r.4 r.5 c.args.meter.now c.args.course.now
     c.args.live.now v r.6 (sym read) in
@@ -46,15 +64,24 @@ overflow_sub-course g c =
 
 pub bounds-course-port : goal.bounds-course-port
 bounds-course-port g c =
+    let k : KeptData = c.kept-kept.result.now in
     let v : KeptData = record {
-      port = c.kept.inside.port;
-      before = c.kept.inside.before;
-      due = c.kept.inside.entry.due;
-      answer = c.kept.inside.answer;
-      after = c.kept.inside.after;
-      entry = c.kept.inside.entry;
+      port = c.port-port.result;
+      before = c.before-2.result.now;
+      due = c.entry.result.now.due;
+      answer = k.answer;
+      after = k.after;
+      entry = k.entry;
     } in
-    let read : v ≡ slice_index_or c.args.old.now.moves c.args.course.now.at v = c.kept.view_is ∙ c.kept-kept.ensures v in
+    let is_kept : v ≡ k = λ i. record {
+      port = c.port-port.ensures i;
+      before = c.before-2.ensures i;
+      due = c.entry.ensures.due i;
+      answer = k.answer;
+      after = k.after;
+      entry = k.entry;
+    } in
+    let read : v ≡ slice_index_or c.args.old.now.moves c.args.course.now.at v = is_kept ∙ c.kept-kept.ensures v in
     let r = c.requires.next in
     let in_range = turn_port g.row.N r.0 r.1 c.args.old.now c.args.plan.now r.2 r.3 r.4 r.5 c.args.meter.now c.args.course.now
     c.args.live.now v r.6 (sym read) in
@@ -65,15 +92,24 @@ bounds-course-port g c =
 
 pub overflow_sub-port : goal.overflow_sub-port
 overflow_sub-port g c =
+    let k : KeptData = c.kept-kept.result.now in
     let v : KeptData = record {
-      port = c.kept.inside.port;
-      before = c.kept.inside.before;
-      due = c.kept.inside.entry.due;
-      answer = c.kept.inside.answer;
-      after = c.kept.inside.after;
-      entry = c.kept.inside.entry;
+      port = c.port-port.result;
+      before = c.before-2.result.now;
+      due = c.entry.result.now.due;
+      answer = k.answer;
+      after = k.after;
+      entry = k.entry;
     } in
-    let read : v ≡ slice_index_or c.args.old.now.moves c.args.course.now.at v = c.kept.view_is ∙ c.kept-kept.ensures v in
+    let is_kept : v ≡ k = λ i. record {
+      port = c.port-port.ensures i;
+      before = c.before-2.ensures i;
+      due = c.entry.ensures.due i;
+      answer = k.answer;
+      after = k.after;
+      entry = k.entry;
+    } in
+    let read : v ≡ slice_index_or c.args.old.now.moves c.args.course.now.at v = is_kept ∙ c.kept-kept.ensures v in
     let r = c.requires.next in
     let in_range = turn_port g.row.N r.0 r.1 c.args.old.now c.args.plan.now r.2 r.3 r.4 r.5 c.args.meter.now c.args.course.now
     c.args.live.now v r.6 (sym read) in
@@ -84,15 +120,24 @@ overflow_sub-port g c =
 
 pub offset_bounds-course-port : goal.offset_bounds-course-port
 offset_bounds-course-port g c =
+    let k : KeptData = c.kept-kept.result.now in
     let v : KeptData = record {
-      port = c.kept.inside.port;
-      before = c.kept.inside.before;
-      due = c.kept.inside.entry.due;
-      answer = c.kept.inside.answer;
-      after = c.kept.inside.after;
-      entry = c.kept.inside.entry;
+      port = c.port-port.result;
+      before = c.before-2.result.now;
+      due = c.entry.result.now.due;
+      answer = k.answer;
+      after = k.after;
+      entry = k.entry;
     } in
-    let read : v ≡ slice_index_or c.args.old.now.moves c.args.course.now.at v = c.kept.view_is ∙ c.kept-kept.ensures v in
+    let is_kept : v ≡ k = λ i. record {
+      port = c.port-port.ensures i;
+      before = c.before-2.ensures i;
+      due = c.entry.ensures.due i;
+      answer = k.answer;
+      after = k.after;
+      entry = k.entry;
+    } in
+    let read : v ≡ slice_index_or c.args.old.now.moves c.args.course.now.at v = is_kept ∙ c.kept-kept.ensures v in
     let r = c.requires.next in
     let in_range = turn_port g.row.N r.0 r.1 c.args.old.now c.args.plan.now r.2 r.3 r.4 r.5 c.args.meter.now c.args.course.now
     c.args.live.now v r.6 (sym read) in
@@ -103,15 +148,24 @@ offset_bounds-course-port g c =
 
 pub bounds-course-port-2 : goal.bounds-course-port-2
 bounds-course-port-2 g c =
+    let k : KeptData = c.kept-kept.result.now in
     let v : KeptData = record {
-      port = c.kept.inside.port;
-      before = c.kept.inside.before;
-      due = c.kept.inside.entry.due;
-      answer = c.kept.inside.answer;
-      after = c.kept.inside.after;
-      entry = c.kept.inside.entry;
+      port = c.port-port.result;
+      before = c.before-2.result.now;
+      due = c.entry.result.now.due;
+      answer = k.answer;
+      after = k.after;
+      entry = k.entry;
     } in
-    let read : v ≡ slice_index_or c.args.old.now.moves c.args.course.now.at v = c.kept.view_is ∙ c.kept-kept.ensures v in
+    let is_kept : v ≡ k = λ i. record {
+      port = c.port-port.ensures i;
+      before = c.before-2.ensures i;
+      due = c.entry.ensures.due i;
+      answer = k.answer;
+      after = k.after;
+      entry = k.entry;
+    } in
+    let read : v ≡ slice_index_or c.args.old.now.moves c.args.course.now.at v = is_kept ∙ c.kept-kept.ensures v in
     let r = c.requires.next in
     let in_range = turn_port g.row.N r.0 r.1 c.args.old.now c.args.plan.now r.2 r.3 r.4 r.5 c.args.meter.now c.args.course.now
     c.args.live.now v r.6 (sym read) in
@@ -122,15 +176,24 @@ bounds-course-port-2 g c =
 
 pub move_own-requires : goal.move_own-requires
 move_own-requires g c =
+    let k : KeptData = c.kept-kept.result.now in
     let v : KeptData = record {
-      port = c.kept.inside.port;
-      before = c.kept.inside.before;
-      due = c.kept.inside.entry.due;
-      answer = c.kept.inside.answer;
-      after = c.kept.inside.after;
-      entry = c.kept.inside.entry;
+      port = c.port-port.result;
+      before = c.before-2.result.now;
+      due = c.entry.result.now.due;
+      answer = k.answer;
+      after = k.after;
+      entry = k.entry;
     } in
-    let read : v ≡ slice_index_or c.args.old.now.moves c.args.course.now.at v = c.kept.view_is ∙ c.kept-kept.ensures v in
+    let is_kept : v ≡ k = λ i. record {
+      port = c.port-port.ensures i;
+      before = c.before-2.ensures i;
+      due = c.entry.ensures.due i;
+      answer = k.answer;
+      after = k.after;
+      entry = k.entry;
+    } in
+    let read : v ≡ slice_index_or c.args.old.now.moves c.args.course.now.at v = is_kept ∙ c.kept-kept.ensures v in
     let r = c.requires.next in
     let in_range = turn_port g.row.N r.0 r.1 c.args.old.now c.args.plan.now r.2 r.3 r.4 r.5 c.args.meter.now c.args.course.now
     c.args.live.now v r.6 (sym read) in
@@ -166,15 +229,24 @@ move_own-requires g c =
 
 pub returns-clause-came : goal.returns-clause-came
 returns-clause-came g c =
+    let k : KeptData = c.kept-kept.result.now in
     let v : KeptData = record {
-      port = c.kept.inside.port;
-      before = c.kept.inside.before;
-      due = c.kept.inside.entry.due;
-      answer = c.kept.inside.answer;
-      after = c.kept.inside.after;
-      entry = c.kept.inside.entry;
+      port = c.port-port.result;
+      before = c.before-2.result.now;
+      due = c.entry.result.now.due;
+      answer = k.answer;
+      after = k.after;
+      entry = k.entry;
     } in
-    let read : v ≡ slice_index_or c.args.old.now.moves c.args.course.now.at v = c.kept.view_is ∙ c.kept-kept.ensures v in
+    let is_kept : v ≡ k = λ i. record {
+      port = c.port-port.ensures i;
+      before = c.before-2.ensures i;
+      due = c.entry.ensures.due i;
+      answer = k.answer;
+      after = k.after;
+      entry = k.entry;
+    } in
+    let read : v ≡ slice_index_or c.args.old.now.moves c.args.course.now.at v = is_kept ∙ c.kept-kept.ensures v in
     let r = c.requires.next in
     let in_range = turn_port g.row.N r.0 r.1 c.args.old.now c.args.plan.now r.2 r.3 r.4 r.5 c.args.meter.now c.args.course.now
     c.args.live.now v r.6 (sym read) in

@@ -8,21 +8,30 @@ use Rattle.pd_keep.proofs.follow.passes.Goals as goal
 pub follow-requires : goal.follow-requires
 follow-requires g c =
     let plan = c.args.plan.now in
+    let k : KeptData = c.kept-kept.result.now in
     let v : KeptData = record {
-      port = c.kept.inside.port;
-      before = c.kept.inside.before;
-      due = c.kept.inside.entry.due;
-      answer = c.kept.inside.answer;
-      after = c.kept.inside.after;
-      entry = c.kept.inside.entry;
+      port = c.port.result;
+      before = k.before;
+      due = c.entry.result.now.due;
+      answer = c.answer.result.now;
+      after = k.after;
+      entry = c.entry.result.now;
     } in
-    let read : v ≡ slice_index_or c.args.old.now.moves c.args.at v = c.kept.view_is ∙ c.kept-kept.ensures v in
+    let is_kept : v ≡ k = λ i. record {
+      port = c.port.ensures i;
+      before = k.before;
+      due = c.entry.ensures.due i;
+      answer = c.answer.ensures i;
+      after = k.after;
+      entry = c.entry.ensures.entry i;
+    } in
+    let read : v ≡ slice_index_or c.args.old.now.moves c.args.at v = is_kept ∙ c.kept-kept.ensures v in
     let past = c.requires.passing.0 in
     let away = c.requires.passing.1 in
     let whole = c.requires.passing.2 in
     let h : IsPassing plan past away whole c.args.live.now v =
     subst (λ (m : KeptData). IsPassing plan past away whole c.args.live.now m) (sym read) (c.requires.passing.3 v) in
-    let holds = passing_holds plan past away whole c.args.live.now v c.hold-left.result h c.hold-left.ensures in (
+    let holds = passing_holds plan past away whole c.args.live.now v c.left.result h c.left.ensures in (
       omega arith,
       (
         omega arith,
@@ -38,20 +47,29 @@ pub returns-clause-passed : goal.returns-clause-passed
 returns-clause-passed g c = λ told past away whole d passing.
     let plan = c.args.plan.now in
     let moves : List KeptData = c.args.old.now.moves in
+    let k : KeptData = c.kept-kept.result.now in
     let v : KeptData = record {
-      port = c.kept.inside.port;
-      before = c.kept.inside.before;
-      due = c.kept.inside.entry.due;
-      answer = c.kept.inside.answer;
-      after = c.kept.inside.after;
-      entry = c.kept.inside.entry;
+      port = c.port.result;
+      before = k.before;
+      due = c.entry.result.now.due;
+      answer = c.answer.result.now;
+      after = k.after;
+      entry = c.entry.result.now;
     } in
-    let read : v ≡ slice_index_or moves c.args.at v = c.kept.view_is ∙ c.kept-kept.ensures v in
+    let is_kept : v ≡ k = λ i. record {
+      port = c.port.ensures i;
+      before = k.before;
+      due = c.entry.ensures.due i;
+      answer = c.answer.ensures i;
+      after = k.after;
+      entry = c.entry.ensures.entry i;
+    } in
+    let read : v ≡ slice_index_or moves c.args.at v = is_kept ∙ c.kept-kept.ensures v in
     let is : slice_index_or moves c.args.at d ≡ v = get_or_default moves c.args.at d v c.requires.inside ∙ sym read in
     let h : IsPassing plan past away whole c.args.live.now v =
     subst (λ (m : KeptData). IsPassing plan past away whole c.args.live.now m) is passing in
-    let holds = passing_holds plan past away whole c.args.live.now v c.hold-left.result h c.hold-left.ensures in
+    let holds = passing_holds plan past away whole c.args.live.now v c.left.result h c.left.ensures in
     let answered = (c.follow.ensures.answered past (move_of v) holds).0 told in
     subst (λ (m : KeptData). HasPassed plan past away whole c.follow.new.self m) (sym is)
-    (passed_answered g.row.N plan past away whole c.args.live.now c.follow.new.self v c.hold-left.result c.end-end.ensures.is_plan h
-    answered c.hold-left.ensures (c.follow.ensures.followed told))
+    (passed_answered g.row.N plan past away whole c.args.live.now c.follow.new.self v c.left.result c.end-end.ensures.is_plan h
+    answered c.left.ensures (c.follow.ensures.followed told))

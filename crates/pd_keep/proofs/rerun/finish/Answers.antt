@@ -12,12 +12,12 @@ use Rattle.pd_keep.proofs.rerun.finish.Goals as goal
 
 pub run_on-requires : goal.run_on-requires
 run_on-requires g c =
-    let none : c.new-nothing.result.moves ≡ [] = ap (λ (r : RunData). r.moves) c.new-nothing.ensures in
-    let made : All IsMade c.new-nothing.result.moves = subst (λ (l : List KeptData). All IsMade l) (sym none) (All-nil IsMade) in
-    let in_time : AreInTime c.new-nothing.result.moves =
+    let none : c.in_ok-nothing.nothing.moves ≡ [] = ap (λ (r : RunData). r.moves) c.in_ok-nothing.ensures in
+    let made : All IsMade c.in_ok-nothing.nothing.moves = subst (λ (l : List KeptData). All IsMade l) (sym none) (All-nil IsMade) in
+    let in_time : AreInTime c.in_ok-nothing.nothing.moves =
     subst (λ (l : List KeptData). AreInTime l) (sym none) (λ a b e le lt. absurd (omega arith)) in
     let few = c.requires.so_far.is_plan.few_ports in
-    let known : BeginsWithMarked g.row.N c.new-nothing.result c.args.live.now (replicate 8 false) =
+    let known : BeginsWithMarked g.row.N c.in_ok-nothing.nothing c.args.live.now (replicate 8 false) =
     λ p lt yes. absurd (unmarked p (omega arith) yes) in
     (omega arith, (omega arith, (made, (in_time, (omega arith, (omega arith, (known, (c.requires.so_far, c.requires.stands))))))))
 
@@ -33,8 +33,8 @@ returns-clause-kept g c =
 
 pub returns-clause-cost : goal.returns-clause-cost
 returns-clause-cost g c = λ old old_spans first over own so_far.
-    let none : c.new-nothing.result.moves ≡ [] = ap (λ (r : RunData). r.moves) c.new-nothing.ensures in
-    let those : AreThose (kept_of_spans old_spans) c.args.from ((c.end-end.result / 131072 + 1) * 131072) c.new-nothing.result.moves =
+    let none : c.in_ok-nothing.nothing.moves ≡ [] = ap (λ (r : RunData). r.moves) c.in_ok-nothing.ensures in
+    let those : AreThose (kept_of_spans old_spans) c.args.from ((c.end-end.result / 131072 + 1) * 131072) c.in_ok-nothing.nothing.moves =
     subst (λ (l : List KeptData). AreThose (kept_of_spans old_spans) c.args.from ((c.end-end.result / 131072 + 1) * 131072) l) (sym none)
     (over_those old_spans c.args.from ((c.end-end.result / 131072 + 1) * 131072) (over (omega arith))) in
     c.in_ok-run_on.ensures.cost old (kept_of_spans old_spans) first own those so_far

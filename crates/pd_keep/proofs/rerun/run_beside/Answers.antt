@@ -5,7 +5,7 @@ use Rattle.pd_run.specs.UpTo.{AgreeAs}
 use Rattle.pd_keep.specs.Kept.{RunData}
 use Rattle.pd_keep.specs.Rerun.{ComesTo}
 use Rattle.pd_keep.specs.Spans.{moves_of, end_of, begins_at}
-use Rattle.pd_keep.proofs.Beside.{so_far_none, done_alike, over_from, past_all, comes_to}
+use Rattle.pd_keep.proofs.Beside.{so_far_none, done_alike, over_from, past_all, comes_to, is_kept_of}
 use Rattle.pd_keep.proofs.Parted.{end_next}
 use Rattle.pd_keep.proofs.Places.{unmarked}
 use Rattle.pd_keep.proofs.rerun.run_beside.Goals as goal
@@ -15,7 +15,7 @@ loop-at-init g c =
     rw c.requires.none (record {
       so_far = so_far_none g.row.N c.args.plan.now c.end-end.ensures.is_plan;
       stands = record {
-        stands = c.in_ok-new.ensures;
+        stands = rw c.with_spare-live.ensures c.in_ok-new.ensures;
         known = λ p lt yes. absurd (let few = c.end-end.ensures.is_plan.few_ports in unmarked p (omega arith) yes);
       };
       begins = refl;
@@ -96,3 +96,25 @@ returns-in_default-clause-done g c =
     i.begins ∙ ap (end_of 0) (take_all c.loop-at.place old_spans (past_all old_spans c.loop-at.place none)) in
     done_alike g.row.N c.args.old.now old_spans c.args.plan.now (moves_of c.loop-at.spans) c.loop-at.at c.loop-at.standing i.stands
     (omega (arith, time))
+
+pub advance-agree-requires : goal.advance-agree-requires
+advance-agree-requires g c =
+    let i = c.loop-at.invariant in
+    let old_spans : List RunData = c.args.old_spans.now in
+    let place = c.loop-at.place in
+    let s : RunData = c.in-Some.span.now.value in
+    let there : slice_get old_spans place ≡ Some s = sym c.in-Some.ensures in
+    let to_is : c.to.result ≡ s.to = c.to.ensures ∙ ap (λ (r : RunData). r.to) c.deref.ensures in
+    let kept = is_kept_of g.row.N c.args.old.now old_spans place s c.requires.old there in
+    let rising = kept.spanned.rising place s there in
+    let now = i.now in
+    let begins = i.begins in
+    (omega arith, (omega arith, (i.beside, omega (arith, rising, now, begins, to_is))))
+
+pub overflow_add-place : goal.overflow_add-place
+overflow_add-place g c =
+    let s : RunData = c.in-Some.span.now.value in
+    let there : slice_get c.args.old_spans.now c.loop-at.place ≡ Some s = sym c.in-Some.ensures in
+    let within = slice_get_within c.args.old_spans.now c.loop-at.place s there in
+    let count = c.count-places.ensures in
+    omega (arith, within, count)

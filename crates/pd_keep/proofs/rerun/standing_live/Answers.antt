@@ -25,8 +25,8 @@ returns-in_ok-live-in-Alike-clause-stands g c = λ old_plan old_spans spans agre
     let k : ComesTo g.row.N old_plan old_spans old plan spans c.args.at agree standing.Alike =
     subst (λ (st : Standing g.row.N). ComesTo g.row.N old_plan old_spans old plan spans c.args.at agree st) c.in-Alike.is h in
     let after = (resumes g.row.N old_plan old_spans old plan spans c.args.at agree k).1 in
-    c.in_ok-live-in-Alike.ensures (moves_of spans) k.far.up
-    (subst (λ (l : List PortData). AreAfter plan (moves_of spans) l) (sym c.in_ok-ports-in-Alike.ensures) after)
+    rw c.with_spare.ensures (c.in_ok-live-in-Alike.ensures (moves_of spans) k.far.up
+    (subst (λ (l : List PortData). AreAfter plan (moves_of spans) l) (sym c.in_ok-ports-in-Alike.ensures) after))
 
 pub returns-in_ok-live-in-Alike-clause-known : goal.returns-in_ok-live-in-Alike-clause-known
 returns-in_ok-live-in-Alike-clause-known g c = λ old_plan old_spans spans agree h.
@@ -38,7 +38,8 @@ returns-in_ok-live-in-Alike-clause-known g c = λ old_plan old_spans spans agree
     let stands : StandsAfter plan (moves_of spans) c.in_ok-live-in-Alike.live =
     c.in_ok-live-in-Alike.ensures (moves_of spans) k.far.up
     (subst (λ (l : List PortData). AreAfter plan (moves_of spans) l) (sym c.in_ok-ports-in-Alike.ensures) after) in
-    known_all g.row.N old_plan old_spans old plan spans c.args.at agree c.in_ok-live-in-Alike.live (replicate 8 true) k stands
+    rw c.with_spare.ensures
+    (known_all g.row.N old_plan old_spans old plan spans c.args.at agree c.in_ok-live-in-Alike.live (replicate 8 true) k stands)
 
 pub returns-in-Apart-clause-known : goal.returns-in-Apart-clause-known
 returns-in-Apart-clause-known g c = λ old_plan old_spans spans agree h.

@@ -37,8 +37,8 @@ returns-then-not-index-clause-held g c = λ _ past k a.
     let quiet = quiet_at moves briefs i k c.self.invariant.2 asked.there none in
     quiet_held plan past shared moves i k asked quiet
 
-pub index-requires-2 : goal.index-requires-2
-index-requires-2 g c =
+pub index-kept-requires : goal.index-kept-requires
+index-kept-requires g c =
     let plan = c.args.plan.now in
     let shared : Account = c.args.shared.now in
     let i = c.args.i in
@@ -61,18 +61,26 @@ answers-requires g c =
     let k = c.requires.1 in
     let a = c.requires.2 in
     let asked : IsAsked plan past shared moves i k = subst (λ (l : List KeptData). IsAsked plan past shared l i k) (sym is) a in
+    let m : KeptData = c.index-kept.result.now in
     let v : KeptData = record {
-      port = c.kept.inside.port;
-      before = c.kept.inside.before;
-      due = c.kept.inside.entry.due;
-      answer = c.kept.inside.answer;
-      after = c.kept.inside.after;
-      entry = c.kept.inside.entry;
+      port = c.port.result;
+      before = m.before;
+      due = c.entry.result.now.due;
+      answer = c.answer.result.now;
+      after = m.after;
+      entry = c.entry.result.now;
     } in
-    let to_is : v ≡ c.index-2.result.now = c.kept.view_is ∙ c.kept-kept.ensures in
+    let is_kept : v ≡ m = λ j. record {
+      port = c.port.ensures j;
+      before = m.before;
+      due = c.entry.ensures.due j;
+      answer = c.answer.ensures j;
+      after = m.after;
+      entry = c.entry.ensures.entry j;
+    } in
     let read : v ≡ slice_index_or moves i v =
-    to_is ∙ c.index-2.ensures ∙ ap (λ (x : KeptData). slice_index_or moves i x) (sym to_is) in
-    let told = told_of plan past shared moves i k v c.hold.result asked read c.hold.ensures in
+    is_kept ∙ c.index-kept.ensures ∙ ap (λ (x : KeptData). slice_index_or moves i x) (sym is_kept) in
+    let told = told_of plan past shared moves i k v c.left.result asked read c.left.ensures in
     (omega arith, (omega arith, (past, move_of k, told)))
 
 pub returns-clause-answered : goal.returns-clause-answered
@@ -83,18 +91,26 @@ returns-clause-answered g c = λ yes past k a.
     let moves : List KeptData = c.self.inside.moves.items in
     let is : moves ≡ c.args.self.now.moves = ap (λ (r : RunData). r.moves) c.self.view_is in
     let asked : IsAsked plan past shared moves i k = subst (λ (l : List KeptData). IsAsked plan past shared l i k) (sym is) a in
+    let m : KeptData = c.index-kept.result.now in
     let v : KeptData = record {
-      port = c.kept.inside.port;
-      before = c.kept.inside.before;
-      due = c.kept.inside.entry.due;
-      answer = c.kept.inside.answer;
-      after = c.kept.inside.after;
-      entry = c.kept.inside.entry;
+      port = c.port.result;
+      before = m.before;
+      due = c.entry.result.now.due;
+      answer = c.answer.result.now;
+      after = m.after;
+      entry = c.entry.result.now;
     } in
-    let to_is : v ≡ c.index-2.result.now = c.kept.view_is ∙ c.kept-kept.ensures in
+    let is_kept : v ≡ m = λ j. record {
+      port = c.port.ensures j;
+      before = m.before;
+      due = c.entry.ensures.due j;
+      answer = c.answer.ensures j;
+      after = m.after;
+      entry = c.entry.ensures.entry j;
+    } in
     let read : v ≡ slice_index_or moves i v =
-    to_is ∙ c.index-2.ensures ∙ ap (λ (x : KeptData). slice_index_or moves i x) (sym to_is) in
-    let told = told_of plan past shared moves i k v c.hold.result asked read c.hold.ensures in
+    is_kept ∙ c.index-kept.ensures ∙ ap (λ (x : KeptData). slice_index_or moves i x) (sym is_kept) in
+    let told = told_of plan past shared moves i k v c.left.result asked read c.left.ensures in
     (c.answers.ensures.answered past (move_of k) told).0 yes
 
 pub returns-clause-held : goal.returns-clause-held
@@ -105,16 +121,24 @@ returns-clause-held g c = λ yes past k a.
     let moves : List KeptData = c.self.inside.moves.items in
     let is : moves ≡ c.args.self.now.moves = ap (λ (r : RunData). r.moves) c.self.view_is in
     let asked : IsAsked plan past shared moves i k = subst (λ (l : List KeptData). IsAsked plan past shared l i k) (sym is) a in
+    let m : KeptData = c.index-kept.result.now in
     let v : KeptData = record {
-      port = c.kept.inside.port;
-      before = c.kept.inside.before;
-      due = c.kept.inside.entry.due;
-      answer = c.kept.inside.answer;
-      after = c.kept.inside.after;
-      entry = c.kept.inside.entry;
+      port = c.port.result;
+      before = m.before;
+      due = c.entry.result.now.due;
+      answer = c.answer.result.now;
+      after = m.after;
+      entry = c.entry.result.now;
     } in
-    let to_is : v ≡ c.index-2.result.now = c.kept.view_is ∙ c.kept-kept.ensures in
+    let is_kept : v ≡ m = λ j. record {
+      port = c.port.ensures j;
+      before = m.before;
+      due = c.entry.ensures.due j;
+      answer = c.answer.ensures j;
+      after = m.after;
+      entry = c.entry.ensures.entry j;
+    } in
     let read : v ≡ slice_index_or moves i v =
-    to_is ∙ c.index-2.ensures ∙ ap (λ (x : KeptData). slice_index_or moves i x) (sym to_is) in
-    let told = told_of plan past shared moves i k v c.hold.result asked read c.hold.ensures in
+    is_kept ∙ c.index-kept.ensures ∙ ap (λ (x : KeptData). slice_index_or moves i x) (sym is_kept) in
+    let told = told_of plan past shared moves i k v c.left.result asked read c.left.ensures in
     c.answers.ensures.held yes past (move_of k) told

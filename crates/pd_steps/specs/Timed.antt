@@ -4,8 +4,8 @@ use Rattle.pd_port.specs.declared.due.Due.{Due}
 use Rattle.pd_port.specs.declared.due.What.{What}
 use Rattle.pd_port.specs.declared.due.What.TheVariants as what
 use Rattle.pd_port.specs.Port.{PortData, due, ask}
-use Rattle.pd_run.specs.declared.own_due.OwnDue.{OwnDue}
-use Rattle.pd_run.specs.declared.own_due.OwnDue.TheVariants as own
+use Rattle.pd_steps.specs.declared.own_due.OwnDue.{OwnDue}
+use Rattle.pd_steps.specs.declared.own_due.OwnDue.TheVariants as own
 
 -- what falls due on a port but for events
 abbrev pub own_due : PortData → Option Due

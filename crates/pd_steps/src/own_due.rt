@@ -1,7 +1,7 @@
 //! What falls due on a port but for events.
 
 ghost use Rattle.std.specs.Prelude.{◌≡◌};
-ghost use Rattle.pd_run.specs.Timed.{own_of, told_due};
+ghost use Rattle.pd_steps.specs.Timed.{own_of, told_due};
 
 use pd_header::Side;
 use pd_port::{Due, What};

@@ -7,7 +7,7 @@ use Rattle.pd_timers.specs.Deadlines.{first_of}
 use Rattle.pd_line.specs.Later.{line_end}
 use Rattle.pd_port.specs.declared.due.Due.{Due}
 use Rattle.pd_port.specs.Port.{PortData, due, earlier, is_before, line_due, timer_due}
-use Rattle.pd_run.specs.Timed.{own_due, own_of, told_due}
+use Rattle.pd_steps.specs.Timed.{own_due, own_of, told_due}
 
 -- it can be kept as a port's own
 abbrev IsOwn : Option Due → Type 0

@@ -1,0 +1,155 @@
+//! A port with what is worked out of it.
+
+ghost use Rattle.std.specs.Prelude.{◌≡◌, ◌≤◌, None, IsTrue};
+ghost use Rattle.std.specs.Option.{option_copied};
+ghost use Rattle.pd_port.specs.Meter.{raised};
+ghost use Rattle.pd_port.specs.Port.{due as the_due, ask, record_after, entry_of, hold};
+ghost use Rattle.pd_steps.specs.Timed.{asks_at, own_due};
+
+use crate::own_due::OwnDue;
+use pd_objects::{Answer, Query};
+use pd_port::{Due, Entry, Event, Meter, Port, What};
+use pd_timers::LAST_TIME;
+use std::marker::Model;
+
+/// A port, and what is worked out once after each of its steps: what falls due on it but for events, whether it asks anything then,
+/// and what it holds.
+#[derive(Clone, Copy)]
+pub(crate) struct TimedPort {
+    hold: u64,
+    asks: bool,
+    own: OwnDue,
+    port: Port,
+}
+
+impl Model for TimedPort {
+    ghost use Rattle.std.specs.Prelude.{◌≡◌};
+    ghost use Rattle.std.proofs.Common.{sym};
+    ghost use Rattle.pd_port.specs.Port.{PortData, hold as held};
+    ghost use Rattle.pd_steps.specs.Timed.{own_due, own_of, asks_at};
+
+    ghost Value = { PortData };
+
+    ghost view = { λ p. p.port };
+
+    ghost invariant = { λ p. (p.hold ≡ held p.port.settings p.port.port_record) × (p.own ≡ own_of (own_due p.port))
+        × (p.asks ≡ asks_at p.port (own_due p.port)) };
+
+    ghost inverse = { λ v. record {
+      hold = held v.settings v.port_record;
+      asks = asks_at v (own_due v);
+      own = own_of (own_due v);
+      port = v;
+    } };
+
+    ghost inverse_ok = { λ p h i. record {
+      hold = sym h.0 i;
+      asks = sym h.2 i;
+      own = sym h.1 i;
+      port = p.port;
+    } };
+}
+
+impl TimedPort {
+    /// A port that stands so.
+    pub(crate) fn new(port: Port) -> TimedPort
+        ensures { result ≡ port }
+    {
+        let own = port.due(None);
+        TimedPort {
+            hold: port.hold(),
+            asks: asks_at(&port, &own),
+            own: OwnDue::of(&own),
+            port,
+        }
+    }
+
+    /// The port as it stands.
+    pub(crate) fn port(&self) -> &Port
+        ensures { result.now ≡ self.now }
+    {
+        &self.port
+    }
+
+    /// What the port holds of the shared budget, in microwatts.
+    pub(crate) fn hold(&self) -> u64
+        ensures { result ≡ hold self.now.settings self.now.port_record }
+    {
+        self.hold
+    }
+
+    /// What the port asks before the step for this due. Most dues ask nothing, and then the port itself isn't read.
+    pub(crate) fn ask(&self, due: &Due) -> Option<Query>
+        ensures { result ≡ ask self.now.settings self.now.port_record due.now }
+    {
+        if self.is_quiet_at(due) {
+            return None;
+        }
+        self.port.ask(due)
+    }
+
+    // Whether it is known that the port asks nothing then.
+    fn is_quiet_at(&self, due: &Due) -> bool
+        ensures { IsTrue result → ask self.now.settings self.now.port_record due.now ≡ None }
+    {
+        match self.own_due() {
+            Some(own) => !self.asks && own.same(due),
+            None => false,
+        }
+    }
+
+    // What falls due but for events.
+    fn own_due(&self) -> Option<Due>
+        ensures { result ≡ own_due self.now }
+    {
+        self.own.due()
+    }
+
+    /// What falls due next, where this is the next event.
+    #[tactic(auto, unfolding(pd_port::specs::Port::due, pd_port::specs::Port::is_before))]
+    pub(crate) fn due(&self, next: Option<&Event>) -> Option<Due>
+        ensures { result ≡ the_due self.now.port_record (option_copied next.entry) }
+    {
+        let Some(event) = next else {
+            return self.own_due();
+        };
+        let time = event.at();
+        if let Some(own) = self.own_due() {
+            if own.time < time {
+                return Some(own);
+            }
+        }
+        Some(Due {
+            time,
+            what: What::Event(*event),
+        })
+    }
+
+    /// The step for this due, with the answer to what the port asked. The meter rises by one.
+    pub(crate) fn step(&mut self, due: &Due, answer: Option<Answer>, meter: &mut Meter) -> Entry
+        requires { due.now.time ≤ LAST_TIME }
+        ensures after { self.new ≡ record self.old {
+          port_record = record_after self.old.settings self.old.port_record due.now answer;
+        } }
+        ensures entry { result ≡ entry_of self.old.settings self.old.port_record due.now answer }
+        ensures meter { meter.new ≡ raised meter.old 1 }
+    {
+        let query = self.ask(due);
+        let entry = self.port.step_asking(due, query, answer, meter);
+        let own = self.port.due(None);
+        self.own = OwnDue::of(&own);
+        self.asks = asks_at(&self.port, &own);
+        self.hold = self.port.hold();
+        entry
+    }
+}
+
+// Whether a port asks anything of the shared budget at a due, where there is one.
+fn asks_at(port: &Port, due: &Option<Due>) -> bool
+    ensures { result ≡ asks_at port.now due.now }
+{
+    match due {
+        Some(due) => port.ask(due).is_some(),
+        None => false,
+    }
+}
