@@ -350,8 +350,8 @@ pub fn follow_span<const N: usize>(
         → Costs a (map move_of olds) plan.now (map move_of r.0.moves) meter.old meter.new) }
     ensures rises { meter.old ≤ meter.new }
 {
-    let (_end, _count, _ahead) = (plan.end(), meter.count(), old.shared_moves(alloc)?);
-    let span = KeptMoves::with_room(alloc, live.ports(alloc)?, old.len())?;
+    let (_end, _count) = (plan.end(), meter.count());
+    let span = KeptMoves::with_room(alloc, live.ports(alloc)?, old.shareable()?)?;
     set_aside(live, alike);
     let mut course = Course {
         at: 0,

@@ -79,7 +79,9 @@ impl<const N: usize> Runner<N> for Kept<N> {
         let plan = Plan::of_scenario(alloc, scenario)?;
         let spans = spans_of(alloc, &self.run, &plan, &mut self.spare, meter)?;
         let old = mem::replace(&mut self.run, Some(KeptRun { plan, spans }));
-        take_back(old, &mut self.spare);
+        if let Some(old) = old {
+            old.spans.take_back(&mut self.spare);
+        }
         Ok(())
     }
 
@@ -119,12 +121,5 @@ fn spans_of<const N: usize>(
     match run {
         Some(old) => rerun(alloc, &old.plan, &old.spans, plan, spare, meter),
         None => rerun(alloc, plan, &Spans::new(alloc), plan, spare, meter),
-    }
-}
-
-// Takes back the room of a run that isn't kept any more.
-fn take_back<const N: usize>(old: Option<KeptRun<N>>, spare: &mut SpareSteps) {
-    if let Some(old) = old {
-        old.spans.take_back(spare);
     }
 }

@@ -241,12 +241,16 @@ impl KeptMoves {
 
     /// Takes back the room of the moves and ports that no other run has.
     pub fn take_back(self, spare: &mut SpareSteps) {
+        // A step that this run alone has is owned by its move and by the next one of its port.
+        let shared = self.owned_beyond(2);
         let KeptMoves { first, moves, .. } = self;
         for port in first {
             spare.take_port(port);
         }
-        for kept in moves {
-            kept.take_back(spare);
+        if shared < moves.len() {
+            for kept in moves {
+                kept.take_back(spare);
+            }
         }
     }
 
@@ -339,18 +343,32 @@ impl KeptMoves {
         self.links[i]
     }
 
-    /// All moves, for one more owner. They lie far apart in memory: asked for at once they are at hand sooner than one by one.
+    /// The number of moves, each of which can have one more owner.
     ///
     /// # Errors
-    /// There is no memory, as where a move has more owners than can be counted.
-    pub fn shared_moves(&self, alloc: Global) -> Result<Vec<KeptMove>, AllocError>
-        ensures { IfOk result (λ moves. moves.items ≡ self.now.moves) }
+    /// A step has as many owners as can be counted.
+    pub fn shareable(&self) -> Result<usize, AllocError>
+        ensures { IfOk result (λ count. count ≡ length self.now.moves) }
     {
-        let mut moves = Vec::with_capacity(alloc, self.moves.len())?;
-        for kept in &self.moves {
-            moves.push(kept.share()?)?;
+        if self.owned_beyond(usize::MAX - 2) > 0 {
+            return Err(AllocError);
         }
-        Ok(moves)
+        Ok(self.moves.len())
+    }
+
+    // How many of the steps have more owners than so many. Steps lie far apart in memory: looked at one right after the other, all of
+    // them are at hand sooner than each by itself.
+    fn owned_beyond(&self, owners: usize) -> usize
+        ensures few { result ≤ length self.now.moves }
+        ensures all { owners ≡ 0 → result ≡ length self.now.moves }
+    {
+        let mut count = 0;
+        for kept in &self.moves {
+            if kept.step.owners() > owners {
+                count += 1;
+            }
+        }
+        count
     }
 
     /// A port, numbered from 0 here, as the moves leave it, for one more owner.

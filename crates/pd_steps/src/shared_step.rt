@@ -1,6 +1,6 @@
 //! A step that runs share.
 
-ghost use Rattle.std.specs.Prelude.{◌≡◌, ◌↔◌, IfOk, IsTrue};
+ghost use Rattle.std.specs.Prelude.{◌≡◌, ◌↔◌, ◌<◌, IfOk, IsTrue};
 ghost use Rattle.pd_port.specs.Port.{hold};
 
 use crate::SharedPort;
@@ -37,6 +37,13 @@ impl SharedStep {
         Ok(SharedStep {
             stepped: self.stepped.clone()?,
         })
+    }
+
+    /// How many owners it has.
+    pub fn owners(&self) -> usize
+        ensures { 0 < result }
+    {
+        Rc::strong_count(&self.stepped)
     }
 
     /// The port as the step has left it, for one more owner.
