@@ -4,6 +4,7 @@ pub mod Changes
 pub mod Happens
 pub mod Laws
 pub mod Meter
+pub mod OwnDue
 pub mod Packets
 pub mod Port
 pub mod Sheds

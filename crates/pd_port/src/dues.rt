@@ -1,14 +1,12 @@
 //! Which due comes first.
 
-ghost use Rattle.std.specs.Prelude.{◌≡◌, ℕ, ◌<◌, ◌≤◌, Option};
+ghost use Rattle.std.specs.Prelude.{◌≡◌, ℕ, ◌<◌, ◌==◌, ◌&&◌, ◌||◌, nat_lt};
 ghost use Rattle.std.specs.Option.{option_copied};
-ghost use Rattle.pd_line.specs.Later.{line_end};
-ghost use Rattle.pd_port.specs.Port.{side_place, rank, is_before, earlier, line_due, timer_due, event_due};
+ghost use Rattle.pd_port.specs.Port.{side_place, rank, earlier, event_due};
 
 use crate::{Due, Event, What};
 use pd_header::Side;
-use pd_line::stepping::Line;
-use pd_timers::{Timer, place_of};
+use pd_timers::place_of;
 
 /// The place of a side among those whose same timer ends at one time.
 fn place_of_side(side: Side) -> usize
@@ -23,7 +21,7 @@ fn place_of_side(side: Side) -> usize
 }
 
 /// The place of what falls due among all that falls due at one time.
-fn rank_of(what: &What) -> usize
+pub(crate) fn rank_of(what: &What) -> usize
     ensures { result ≡ rank what.now }
 {
     match what {
@@ -33,16 +31,22 @@ fn rank_of(what: &What) -> usize
     }
 }
 
-/// Whether something falls due before something else.
-#[tactic(auto, unfolding(crate::specs::Port::is_before))]
-fn comes_before(first: &Due, second: &Due) -> bool
-    ensures { result ≡ is_before first.now second.now }
+/// Whether something falls due before something else, where each has its time and its place among all that falls due then.
+pub(crate) fn comes_before(first: (u64, usize), second: (u64, usize)) -> bool
+    ensures { result ≡ (nat_lt first.0 second.0 || (first.0 == second.0 && nat_lt first.1 second.1)) }
 {
-    first.time < second.time
-        || (first.time == second.time && rank_of(&first.what) < rank_of(&second.what))
+    first.0 < second.0 || (first.0 == second.0 && first.1 < second.1)
+}
+
+/// A due's time, and its place among all that falls due then.
+fn placed(due: &Due) -> (u64, usize)
+    ensures { result ≡ (due.now.time, rank due.now.what) }
+{
+    (due.time, rank_of(&due.what))
 }
 
 /// The earlier of two dues, the first where neither is.
+#[tactic(auto, unfolding(crate::specs::Port::is_before))]
 pub(crate) fn earlier_of(first: Option<Due>, second: Option<Due>) -> Option<Due>
     ensures { result ≡ earlier first second }
 {
@@ -50,42 +54,13 @@ pub(crate) fn earlier_of(first: Option<Due>, second: Option<Due>) -> Option<Due>
         (None, second) => second,
         (Some(first), None) => Some(first),
         (Some(first), Some(second)) => {
-            if comes_before(&second, &first) {
+            if comes_before(placed(&second), placed(&first)) {
                 Some(second)
             } else {
                 Some(first)
             }
         }
     }
-}
-
-/// The line's due: the end of what is on it.
-pub(crate) fn due_of_line(line: &Line) -> Option<Due>
-    ensures { result ≡ line_due (line_end line.now) }
-{
-    let end = match line {
-        Line::Idle => return None,
-        Line::Message { end, .. } => *end,
-        Line::Pause { end, .. } => *end,
-        Line::GoodCrc { end, .. } => *end,
-        Line::NoAnswer { end, .. } => *end,
-        Line::HardReset { end, .. } => *end,
-    };
-    Some(Due {
-        time: end,
-        what: What::Line,
-    })
-}
-
-/// A side's due: the end of its engine's first timer.
-pub(crate) fn due_of_timer(side: Side, first: Option<(u64, Timer)>) -> Option<Due>
-    ensures { result ≡ timer_due side first }
-{
-    let (time, timer) = first?;
-    Some(Due {
-        time,
-        what: What::Timer { side, timer },
-    })
 }
 
 /// The next event, as a due.

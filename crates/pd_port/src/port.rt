@@ -1,15 +1,17 @@
 //! A port: what falls due on it, and its step.
 
-ghost use Rattle.std.specs.Prelude.{◌≡◌, ℕ, ◌+◌, ◌<◌, ◌≤◌, length, IsTrue, ◌↔◌};
+ghost use Rattle.std.specs.Prelude.{◌≡◌, ℕ, ◌+◌, ◌<◌, ◌≤◌, length, None, IsTrue, ◌↔◌};
 ghost use Rattle.std.specs.Option.{option_copied};
 ghost use Rattle.pd_line.specs.Record.{without_settings};
+ghost use Rattle.pd_port.specs.OwnDue.{told_due};
 ghost use Rattle.pd_port.specs.Port.{due as the_due, detached, happens, portstep, source_settings};
 
 use crate::asks::{is_budget, source_told};
-use crate::dues::{due_of_event, due_of_line, due_of_timer, earlier_of};
+use crate::dues::{due_of_event, earlier_of};
 use crate::entry::change_of;
 use crate::happens::event_happens;
-use crate::{Due, Entry, Event, Meter, Settings, What};
+use crate::own_due::{earlier_own_due, own_due_of_line, own_due_of_timer};
+use crate::{Due, Entry, Event, Meter, OwnDue, Settings, What};
 use pd_header::Side;
 use pd_line::stepping::{PortParts, PortStep};
 use pd_objects::{Answer, Contract, Query};
@@ -42,17 +44,26 @@ impl Model for Port {
     ghost inverse_ok = { λ p h i. record { settings = p.settings; parts = with_settings (sym h i) (without_settings p.parts) } };
 }
 
-/// The earliest of the next event, the line's end and each engine's first timer.
+/// The earliest of the line's end and each engine's first timer.
 #[tactic(auto, unfolding(crate::specs::Port::due))]
-fn due_of(port: &PortParts, next: Option<&Event>) -> Option<Due>
-    ensures { result ≡ the_due (without_settings port.now) (option_copied next.entry) }
+fn own_due_of(port: &PortParts) -> OwnDue
+    ensures { told_due result ≡ the_due (without_settings port.now) None }
 {
-    let plug = due_of_timer(Side::Plug, port.plug.first());
-    let sink = due_of_timer(Side::Sink, port.sink.first());
-    let source = due_of_timer(Side::Source, port.source.first());
-    let timers = earlier_of(source, earlier_of(sink, plug));
-    let line = due_of_line(&port.line);
-    earlier_of(due_of_event(next), earlier_of(line, timers))
+    let plug = own_due_of_timer(Side::Plug, port.plug.first());
+    let sink = own_due_of_timer(Side::Sink, port.sink.first());
+    let source = own_due_of_timer(Side::Source, port.source.first());
+    let timers = earlier_own_due(source, earlier_own_due(sink, plug));
+    earlier_own_due(own_due_of_line(&port.line), timers)
+}
+
+/// A step that begins is given an answer, where there is any: most steps have none, and then nothing is copied.
+fn give(step: &mut PortStep, answer: &Option<Answer>)
+    requires { step.old.answer ≡ None }
+    ensures { step.new ≡ record step.old { answer = answer.now } }
+{
+    if let Some(answer) = answer {
+        step.answer = Some(answer.copy());
+    }
 }
 
 /// What falls due happens.
@@ -105,10 +116,18 @@ impl Port {
     }
 
     /// What falls due next on the port, whose next event is given.
+    #[tactic(auto, unfolding(crate::specs::Port::due))]
     pub fn due(&self, next: Option<&Event>) -> Option<Due>
         ensures { result ≡ the_due self.now.port_record (option_copied next.entry) }
     {
-        due_of(&self.parts, next)
+        earlier_of(due_of_event(next), self.own_due().due())
+    }
+
+    /// The same where no event is given.
+    pub fn own_due(&self) -> OwnDue
+        ensures { told_due result ≡ the_due self.now.port_record None }
+    {
+        own_due_of(&self.parts)
     }
 
     /// What the port asks of the shared budget before the step for this due.
@@ -131,38 +150,41 @@ impl Port {
         ensures entry { result ≡ entry_of self.old.settings self.old.port_record due.now answer }
         ensures meter { meter.new ≡ raised meter.old 1 }
     {
-        let query = self.ask(due);
-        self.step_asking(due, query, answer, meter)
+        let before = self.copy();
+        self.step_from(&before, due, before.ask(due), &answer, meter)
     }
 
-    /// The same where it is known already what the port asks.
+    /// The port becomes what the step of another one for this due leaves, where it is known what that one asks. The meter rises by one.
     #[tactic(auto, unfolding(crate::specs::Port::portstep))]
-    pub fn step_asking(
+    pub fn step_from(
         &mut self,
+        before: &Port,
         due: &Due,
         query: Option<Query>,
-        answer: Option<Answer>,
+        answer: &Option<Answer>,
         meter: &mut Meter,
     ) -> Entry
         requires time { due.now.time ≤ LAST_TIME }
-        requires asks { query ≡ ask self.old.settings self.old.port_record due.now }
-        ensures after { self.new ≡ record self.old { port_record = record_after self.old.settings self.old.port_record due.now answer } }
-        ensures entry { result ≡ entry_of self.old.settings self.old.port_record due.now answer }
+        requires asks { query ≡ ask before.now.settings before.now.port_record due.now }
+        ensures after { self.new ≡ record before.now {
+          port_record = record_after before.now.settings before.now.port_record due.now answer.now;
+        } }
+        ensures entry { result ≡ entry_of before.now.settings before.now.port_record due.now answer.now }
         ensures meter { meter.new ≡ raised meter.old 1 }
     {
-        let before = self.contract();
         meter.rise();
-        let mut step = PortStep::at_rest(self.parts);
-        step.answer = answer;
-        happens(&mut step, &self.settings, &due.what, due.time);
+        let mut step = PortStep::at_rest(before.parts);
+        give(&mut step, answer);
+        happens(&mut step, &before.settings, &due.what, due.time);
         step.line_starts(due.time);
+        self.settings = before.settings;
         self.parts = step.port;
         Entry {
             at: due.time,
             due: *due,
             query,
             faults: step.faults,
-            contract: change_of(before, self.contract()),
+            contract: change_of(before.contract(), self.contract()),
             start: step.start,
         }
     }

@@ -1,11 +1,13 @@
 -- What is worked out once after each step of a port: what falls due on it but for events, and whether it asks anything then.
-use Rattle.std.specs.Prelude.{ℕ, Bool, false, Option, None, Some, is_some}
+use Rattle.std.specs.Prelude.{◌≡◌, ℕ, Bool, false, Option, None, Some, is_some}
+use Rattle.std.proofs.Common.{refl, ap, sym, ◌∙◌}
 use Rattle.pd_port.specs.declared.due.Due.{Due}
 use Rattle.pd_port.specs.declared.due.What.{What}
 use Rattle.pd_port.specs.declared.due.What.TheVariants as what
 use Rattle.pd_port.specs.Port.{PortData, due, ask}
-use Rattle.pd_steps.specs.declared.own_due.OwnDue.{OwnDue}
-use Rattle.pd_steps.specs.declared.own_due.OwnDue.TheVariants as own
+use Rattle.pd_port.specs.OwnDue.{told_due}
+use Rattle.pd_port.specs.declared.own_due.OwnDue.{OwnDue}
+use Rattle.pd_port.specs.declared.own_due.OwnDue.TheVariants as own
 
 -- what falls due on a port but for events
 abbrev pub own_due : PortData → Option Due
@@ -26,8 +28,11 @@ abbrev pub own_of : Option Due → OwnDue
 own_of None = own.Nothing
 own_of (Some d) = own_at d.time d.what
 
--- and is this due
-abbrev pub told_due : OwnDue → Option Due
-told_due own.Nothing = None
-told_due (own.Line time) = Some (record { time = time; what = what.Line })
-told_due (own.Timer time side timer) = Some (record { time = time; what = what.Timer side timer })
+-- and what is kept tells it
+own_of_told : (own : OwnDue) → own_of (told_due own) ≡ own
+own_of_told own.Nothing = refl
+own_of_told (own.Line time) = refl
+own_of_told (own.Timer time side timer) = refl
+
+pub own_is : (own : OwnDue) (d : Option Due) → told_due own ≡ d → own_of d ≡ own
+own_is own d h = ap own_of (sym h) ∙ own_of_told own

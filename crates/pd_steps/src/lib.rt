@@ -1,7 +1,6 @@
 //! The steps of ports, which runs share: each leaves its port and an entry.
 #![tactic(auto)]
 
-mod own_due;
 mod shared_port;
 mod shared_step;
 mod spare_steps;

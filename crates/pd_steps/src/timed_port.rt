@@ -4,11 +4,11 @@ ghost use Rattle.std.specs.Prelude.{◌≡◌, ◌≤◌, None, IsTrue};
 ghost use Rattle.std.specs.Option.{option_copied};
 ghost use Rattle.pd_port.specs.Meter.{raised};
 ghost use Rattle.pd_port.specs.Port.{due as the_due, ask, record_after, entry_of, hold};
+ghost use Rattle.pd_port.specs.OwnDue.{told_due};
 ghost use Rattle.pd_steps.specs.Timed.{asks_at, own_due};
 
-use crate::own_due::OwnDue;
 use pd_objects::{Answer, Query};
-use pd_port::{Due, Entry, Event, Meter, Port, What};
+use pd_port::{Due, Entry, Event, Meter, OwnDue, Port, What};
 use pd_timers::LAST_TIME;
 use std::marker::Model;
 
@@ -26,13 +26,14 @@ impl Model for TimedPort {
     ghost use Rattle.std.specs.Prelude.{◌≡◌};
     ghost use Rattle.std.proofs.Common.{sym};
     ghost use Rattle.pd_port.specs.Port.{PortData, hold as held};
-    ghost use Rattle.pd_steps.specs.Timed.{own_due, own_of, asks_at};
+    ghost use Rattle.pd_port.specs.OwnDue.{told_due};
+    ghost use Rattle.pd_steps.specs.Timed.{own_due, own_of, own_is, asks_at};
 
     ghost Value = { PortData };
 
     ghost view = { λ p. p.port };
 
-    ghost invariant = { λ p. (p.hold ≡ held p.port.settings p.port.port_record) × (p.own ≡ own_of (own_due p.port))
+    ghost invariant = { λ p. (p.hold ≡ held p.port.settings p.port.port_record) × (told_due p.own ≡ own_due p.port)
         × (p.asks ≡ asks_at p.port (own_due p.port)) };
 
     ghost inverse = { λ v. record {
@@ -45,7 +46,7 @@ impl Model for TimedPort {
     ghost inverse_ok = { λ p h i. record {
       hold = sym h.0 i;
       asks = sym h.2 i;
-      own = sym h.1 i;
+      own = own_is p.own (own_due p.port) h.1 i;
       port = p.port;
     } };
 }
@@ -55,11 +56,11 @@ impl TimedPort {
     pub(crate) fn new(port: Port) -> TimedPort
         ensures { result ≡ port }
     {
-        let own = port.due(None);
+        let own = port.own_due();
         TimedPort {
             hold: port.hold(),
             asks: asks_at(&port, &own),
-            own: OwnDue::of(&own),
+            own,
             port,
         }
     }
@@ -125,31 +126,37 @@ impl TimedPort {
         })
     }
 
-    /// The step for this due, with the answer to what the port asked. The meter rises by one.
-    pub(crate) fn step(&mut self, due: &Due, answer: Option<Answer>, meter: &mut Meter) -> Entry
+    /// The port becomes what the step of another one for this due leaves, with the answer to what that one asked. The meter rises by one.
+    pub(crate) fn step_from(
+        &mut self,
+        before: &TimedPort,
+        due: &Due,
+        answer: &Option<Answer>,
+        meter: &mut Meter,
+    ) -> Entry
         requires { due.now.time ≤ LAST_TIME }
-        ensures after { self.new ≡ record self.old {
-          port_record = record_after self.old.settings self.old.port_record due.now answer;
+        ensures after { self.new ≡ record before.now {
+          port_record = record_after before.now.settings before.now.port_record due.now answer.now;
         } }
-        ensures entry { result ≡ entry_of self.old.settings self.old.port_record due.now answer }
+        ensures entry { result ≡ entry_of before.now.settings before.now.port_record due.now answer.now }
         ensures meter { meter.new ≡ raised meter.old 1 }
     {
-        let query = self.ask(due);
-        let entry = self.port.step_asking(due, query, answer, meter);
-        let own = self.port.due(None);
-        self.own = OwnDue::of(&own);
+        let query = before.ask(due);
+        let entry = self.port.step_from(&before.port, due, query, answer, meter);
+        let own = self.port.own_due();
+        self.own = own;
         self.asks = asks_at(&self.port, &own);
         self.hold = self.port.hold();
         entry
     }
 }
 
-// Whether a port asks anything of the shared budget at a due, where there is one.
-fn asks_at(port: &Port, due: &Option<Due>) -> bool
-    ensures { result ≡ asks_at port.now due.now }
+// Whether a port asks anything of the shared budget at what falls due on it but for events, where anything does.
+fn asks_at(port: &Port, own: &OwnDue) -> bool
+    ensures { result ≡ asks_at port.now (told_due own.now) }
 {
-    match due {
-        Some(due) => port.ask(due).is_some(),
+    match own.due() {
+        Some(due) => port.ask(&due).is_some(),
         None => false,
     }
 }

@@ -1,7 +1,7 @@
 use Rattle.std.proofs.Common.{rules}
 use Rattle.pd_port.specs.Port.{due}
 use Rattle.pd_port.proofs.Steps.{earlier-None}
-use Rattle.pd_port.proofs.port.due_of.Goals as goal
+use Rattle.pd_port.proofs.port.own_due_of.Goals as goal
 
 pub returns : goal.returns
 unfolding due
