@@ -11,7 +11,7 @@ use Rattle.pd_plug.specs.Laws.{SendOf, StepsSendOfTheirCables}
 
 cable-after : (d : Deed) (now : ℕ) (r : PlugRecord) → (after d now r).cable ≡ r.cable
 cable-after (deed.Enter s) now r = refl
-cable-after (deed.Start t) now r = refl
+cable-after deed.StartDelay now r = refl
 cable-after deed.SendIdentity now r = refl
 
 cable-all_after : (ds : List Deed) (now : ℕ) (r : PlugRecord) → (all_after ds now r).cable ≡ r.cable
@@ -25,7 +25,7 @@ cable-stepped now x r = cable-all_after (deeds_at x (before_row x r)) now (befor
 
 wants_of : (d : Deed) (r : PlugRecord) (acts : List Act) → SendOf r.cable acts → SendOf r.cable (wants d r ++ acts)
 wants_of (deed.Enter s) r acts h = h
-wants_of (deed.Start t) r acts h = h
+wants_of deed.StartDelay r acts h = h
 wants_of deed.SendIdentity r acts h = (refl, h)
 
 all_wants_of : (ds : List Deed) (now : ℕ) (r : PlugRecord) → SendOf r.cable (all_wants ds now r)

@@ -1,5 +1,6 @@
 -- Each deadline that a step sets is later than the step.
 use Rattle.std.proofs.Common.{ℕ, List, [], ◌∷◌}
+use Rattle.pd_timers.specs.declared.Timer.TheVariants.{Delay}
 use Rattle.pd_timers.specs.Deadlines.{SetsLater}
 use Rattle.pd_timers.proofs.LaterLemmas.{SetsLater-started, SetsLater-idle, SetsLater-same, SetsLater-then}
 use Rattle.pd_plug.specs.declared.kinds.Stimulus.{Stimulus}
@@ -11,7 +12,7 @@ use Rattle.pd_plug.specs.Step.{before_row, deeds_at, stepped}
 
 SetsLater-after : (d : Deed) (now : ℕ) (r : PlugRecord) → SetsLater now r.deadlines (after d now r).deadlines
 SetsLater-after (deed.Enter s) now r = SetsLater-idle now r.deadlines
-SetsLater-after (deed.Start t) now r = SetsLater-started now r.deadlines t
+SetsLater-after deed.StartDelay now r = SetsLater-started now r.deadlines Delay
 SetsLater-after _ now r = SetsLater-same now r.deadlines
 
 SetsLater-all_after : (ds : List Deed) (now : ℕ) (r : PlugRecord) → SetsLater now r.deadlines (all_after ds now r).deadlines

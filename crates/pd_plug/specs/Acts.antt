@@ -1,5 +1,6 @@
 -- What each act of a row does to the engine, and what it wants of the port.
 use Rattle.std.specs.Prelude.{ℕ, false, List, [], ◌∷◌, ◌++◌, Option, Some, None}
+use Rattle.pd_timers.specs.declared.Timer.TheVariants.{Delay}
 use Rattle.pd_timers.specs.Deadlines.{idle, started}
 use Rattle.pd_identity.specs.declared.Cable.{Cable}
 use Rattle.pd_identity.specs.Identity.{answer_of}
@@ -17,7 +18,7 @@ identity_of (Some cable) = answer_of cable
 -- the engine after an act
 abbrev pub after : Deed → ℕ → PlugRecord → PlugRecord
 after (deed.Enter s) now r = record r { state = s; deadlines = idle; sent = false }
-after (deed.Start t) now r = record r { deadlines = started r.deadlines now t }
+after deed.StartDelay now r = record r { deadlines = started r.deadlines now Delay }
 after deed.SendIdentity now r = r
 
 -- what an act wants of the port

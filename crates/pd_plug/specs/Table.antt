@@ -102,7 +102,7 @@ table =
     ∷ row 2 (state.Off ∷ []) (Attach ∷ []) Always (To state.Ready) []
     -- all states but Off: PE_CBL_Ready, PE_CBL_Get_Identity and PE_CBL_Send_Identity
     ∷ row 3 (all_but (state.Off ∷ [])) (DiscoverIdentity ∷ []) Silent Stay []
-    ∷ row 4 (all_but (state.Off ∷ [])) (DiscoverIdentity ∷ []) Always (To state.GetIdentity) (deed.Start timer.Delay ∷ [])
+    ∷ row 4 (all_but (state.Off ∷ [])) (DiscoverIdentity ∷ []) Always (To state.GetIdentity) (deed.StartDelay ∷ [])
     -- PE_CBL_Get_Identity
     ∷ row 5 (state.GetIdentity ∷ []) (Ended timer.Delay ∷ []) Always (To state.SendIdentity) (deed.SendIdentity ∷ [])
     -- PE_CBL_Send_Identity

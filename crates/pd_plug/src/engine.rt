@@ -13,14 +13,15 @@ use crate::rows::choose;
 use crate::{Act, State, Stimulus};
 use arrayvec::ArrayVec;
 use pd_identity::{Cable, CablePlug, answer};
-use pd_timers::{Deadlines, LAST_TIME, Timer};
+use pd_timers::{DelayAlone, LAST_TIME, Timer};
 use std::marker::Model;
 
 /// The plug's policy engine.
 #[derive(Clone, Copy)]
 pub struct Plug {
     state: State,
-    deadlines: Deadlines,
+    /// When the one timer that the rows start falls due.
+    deadlines: DelayAlone,
     /// Whether the message of this state was sent.
     sent: bool,
     /// The cable that is attached.
@@ -44,7 +45,7 @@ impl Plug {
     {
         Plug {
             state: State::Off,
-            deadlines: Deadlines::new(),
+            deadlines: DelayAlone::new(),
             sent: false,
             cable: None,
         }
@@ -147,7 +148,7 @@ impl Plug {
                 self.sent = false;
                 acts.push(Act::DropWaiting);
             }
-            Deed::Start(timer) => self.deadlines.start(now, timer),
+            Deed::StartDelay => self.deadlines.start(now),
             Deed::SendIdentity => acts.push(Act::SendIdentity(self.identity())),
         }
     }

@@ -51,8 +51,8 @@ pub enum Act {
 pub(crate) enum Deed {
     /// Enters a state: no timer runs, nothing waits on this side, and nothing was sent.
     Enter(State),
-    /// Starts a timer, anew where it is running.
-    Start(Timer),
+    /// Starts the one timer, Delay, anew where it is running.
+    StartDelay,
     /// Sends the answer to Discover Identity.
     SendIdentity,
 }

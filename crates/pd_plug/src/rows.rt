@@ -53,7 +53,7 @@ macro_rules! table {
             C2: Off, Stimulus::Attach(_) => to(Ready) [];
             // all states but Off: PE_CBL_Ready, PE_CBL_Get_Identity and PE_CBL_Send_Identity
             C3: all_but(Off), Stimulus::DiscoverIdentity if silent => stay [];
-            C4: all_but(Off), Stimulus::DiscoverIdentity => to(GetIdentity) [Deed::Start(Timer::Delay)];
+            C4: all_but(Off), Stimulus::DiscoverIdentity => to(GetIdentity) [Deed::StartDelay];
             // PE_CBL_Get_Identity
             C5: GetIdentity, Stimulus::Ended(Timer::Delay) => to(SendIdentity) [Deed::SendIdentity];
             // PE_CBL_Send_Identity

@@ -1,6 +1,6 @@
 //! How long each timer runs, from the written table of the timers, with the standard's parameters.
 
-use pd_timers::{COUNT, Deadlines, Timer, place_of, value};
+use pd_timers::{COUNT, Deadlines, DelayAlone, Timer, place_of, value};
 
 /// Each timer and its microseconds, in the order of ties.
 const TABLE: [(Timer, u32); 14] = [
@@ -60,4 +60,16 @@ fn each_deadline_falls_due_in_turn(rt: HostRuntime) {
         all.stop(due.1);
     }
     assert!(rt; all.first().is_none());
+}
+
+/// Delay, kept alone, is due after its own time, and the stop of another timer leaves it.
+#[test]
+fn delay_alone_falls_due(rt: HostRuntime) {
+    let mut alone = DelayAlone::new();
+    assert!(rt; alone.first().is_none());
+    alone.start(7);
+    alone.stop(Timer::VdmResponse);
+    assert!(rt; alone.first() == Some((2_007, Timer::Delay)));
+    alone.stop(Timer::Delay);
+    assert!(rt; alone.first().is_none() && alone.same(&DelayAlone::new()));
 }

@@ -40,10 +40,13 @@ slot_of_time : (n : ℕ) (b : Bool) → nat_eq n 4294967295 ≡ b → slot_of (i
 slot_of_time n true e = sym (eqb-true n 4294967295 e)
 slot_of_time n false e = refl
 
+pub slot_of_time_of : (at : ℕ) → slot_of (time_of at) ≡ at
+slot_of_time_of at = slot_of_time at (nat_eq at 4294967295) refl
+
 pub slots_of_times : (slots : List ℕ) → slots_of (times_of slots) ≡ slots
 slots_of_times [] = refl
 slots_of_times (n ∷ slots) =
-    let first = slot_of_time n (nat_eq n 4294967295) refl in
+    let first = slot_of_time_of n in
     let rest = slots_of_times slots in
     cc
 

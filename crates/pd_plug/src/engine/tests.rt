@@ -118,7 +118,7 @@ fn c4_a_question_is_thought_over(rt: HostRuntime) {
         let mut want = at(state);
         let acts = plug.step(70_000, &Stimulus::DiscoverIdentity);
         enter(&mut want, State::GetIdentity);
-        want.deadlines.start(70_000, Timer::Delay);
+        want.deadlines.start(70_000);
         assert!(rt; plug.same(&want));
         assert!(rt; acts.as_slice() == [Act::DropWaiting].as_slice());
     }
@@ -127,7 +127,7 @@ fn c4_a_question_is_thought_over(rt: HostRuntime) {
         let mut want = attached(answer);
         let acts = plug.step(70_000, &Stimulus::DiscoverIdentity);
         enter(&mut want, State::GetIdentity);
-        want.deadlines.start(70_000, Timer::Delay);
+        want.deadlines.start(70_000);
         assert!(rt; plug.same(&want));
         assert!(rt; acts.as_slice() == [Act::DropWaiting].as_slice());
     }
