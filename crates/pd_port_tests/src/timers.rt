@@ -1,6 +1,6 @@
 //! How long each timer runs, from the written table of the timers, with the standard's parameters.
 
-use pd_timers::{COUNT, Deadlines, DelayAlone, Timer, place_of, value};
+use pd_timers::{COUNT, Deadlines, DelayAlone, SinkDeadlines, SinkTimer, Timer, place_of, value};
 
 /// Each timer and its microseconds, in the order of ties.
 const TABLE: [(Timer, u32); 14] = [
@@ -72,4 +72,37 @@ fn delay_alone_falls_due(rt: HostRuntime) {
     assert!(rt; alone.first() == Some((2_007, Timer::Delay)));
     alone.stop(Timer::Delay);
     assert!(rt; alone.first().is_none() && alone.same(&DelayAlone::new()));
+}
+
+/// The sink's five timers fall due in the order of their times, and at equal times in the order of ties; the stop of a timer
+/// that the sink hasn't leaves them.
+#[test]
+fn sink_deadlines_fall_due_in_turn(rt: HostRuntime) {
+    let mut five = SinkDeadlines::new();
+    assert!(rt; five.first().is_none());
+    let timers = [
+        SinkTimer::SinkRequest,
+        SinkTimer::PsTransition,
+        SinkTimer::SinkWaitCap,
+        SinkTimer::SenderResponse,
+        SinkTimer::Delay,
+    ];
+    for timer in timers {
+        five.start(7, timer);
+    }
+    five.start(25_007, SinkTimer::Delay);
+    five.stop(Timer::OfferPoll);
+    let order = [
+        (27_007, Timer::Delay),
+        (27_007, Timer::SenderResponse),
+        (100_007, Timer::SinkRequest),
+        (465_007, Timer::SinkWaitCap),
+        (500_007, Timer::PsTransition),
+    ];
+    for due in order {
+        assert!(rt; five.first() == Some(due));
+        assert!(rt; !five.same(&SinkDeadlines::new()));
+        five.stop(due.1);
+    }
+    assert!(rt; five.first().is_none() && five.same(&SinkDeadlines::new()));
 }

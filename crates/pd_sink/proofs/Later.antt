@@ -2,6 +2,7 @@
 use Rattle.std.proofs.Common.{ℕ, Bool, true, false, List, [], ◌∷◌, Option}
 use Rattle.pd_timers.specs.declared.Timer.{Timer}
 use Rattle.pd_timers.specs.Deadlines.{SetsLater}
+use Rattle.pd_timers.specs.SinkDeadlines.{timer_of}
 use Rattle.pd_timers.proofs.LaterLemmas.{SetsLater-started, SetsLater-idle, SetsLater-same, SetsLater-then}
 use Rattle.pd_sink.specs.declared.kinds.Stimulus.{Stimulus}
 use Rattle.pd_sink.specs.declared.kinds.Deed.{Deed}
@@ -16,9 +17,9 @@ SetsLater-started_where false now ds t = SetsLater-same now ds
 
 SetsLater-after : (d : Deed) (now : ℕ) (x : Stimulus) (r : SinkRecord) → SetsLater now r.deadlines (after d now x r).deadlines
 SetsLater-after (deed.Enter s) now x r = SetsLater-idle now r.deadlines
-SetsLater-after (deed.Start t) now x r = SetsLater-started now r.deadlines t
-SetsLater-after (deed.StartWhereAgain t) now x r = SetsLater-started_where r.again now r.deadlines t
-SetsLater-after (deed.StartWhereFresh t) now x r = SetsLater-started_where r.fresh now r.deadlines t
+SetsLater-after (deed.Start t) now x r = SetsLater-started now r.deadlines (timer_of t)
+SetsLater-after (deed.StartWhereAgain t) now x r = SetsLater-started_where r.again now r.deadlines (timer_of t)
+SetsLater-after (deed.StartWhereFresh t) now x r = SetsLater-started_where r.fresh now r.deadlines (timer_of t)
 SetsLater-after _ now x r = SetsLater-same now r.deadlines
 
 SetsLater-all_after : (ds : List Deed) (now : ℕ) (x : Stimulus) (r : SinkRecord) →

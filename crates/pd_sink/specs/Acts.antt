@@ -2,6 +2,7 @@
 use Rattle.std.specs.Prelude.{ℕ, ◌+◌, min, Bool, true, false, if◌then◌else◌, List, [], ◌∷◌, ◌++◌, Option, Some, None}
 use Rattle.pd_timers.specs.declared.Timer.{Timer}
 use Rattle.pd_timers.specs.Deadlines.{idle, started}
+use Rattle.pd_timers.specs.SinkDeadlines.{timer_of}
 use Rattle.pd_sink.specs.declared.kinds.Stimulus.{Stimulus}
 use Rattle.pd_sink.specs.declared.kinds.Stimulus.TheVariants as stimulus
 use Rattle.pd_sink.specs.declared.kinds.Message.{Message}
@@ -36,9 +37,9 @@ started_where false deadlines now t = deadlines
 -- the engine after an act
 abbrev pub after : Deed → ℕ → Stimulus → SinkRecord → SinkRecord
 after (deed.Enter s) now x r = record r { state = s; deadlines = idle; sent = false }
-after (deed.Start t) now x r = record r { deadlines = started r.deadlines now t }
-after (deed.StartWhereAgain t) now x r = record r { deadlines = started_where r.again r.deadlines now t }
-after (deed.StartWhereFresh t) now x r = record r { deadlines = started_where r.fresh r.deadlines now t }
+after (deed.Start t) now x r = record r { deadlines = started r.deadlines now (timer_of t) }
+after (deed.StartWhereAgain t) now x r = record r { deadlines = started_where r.again r.deadlines now (timer_of t) }
+after (deed.StartWhereFresh t) now x r = record r { deadlines = started_where r.fresh r.deadlines now (timer_of t) }
 after deed.KeepOffer now x r = record r { kept_offer = offer_from x r.kept_offer }
 after (deed.Again b) now x r = record r { again = b }
 after (deed.Fresh b) now x r = record r { fresh = b }

@@ -6,6 +6,7 @@ use Rattle.std.specs.Prelude.{ℕ, Bool, true, false, not, nat_le, ◌==◌, ◌
 use Rattle.std.specs.List.{list_any}
 use Rattle.pd_timers.specs.declared.Timer.{Timer}
 use Rattle.pd_timers.specs.declared.Timer.TheVariants as timer
+use Rattle.pd_timers.specs.declared.sink_deadlines.SinkTimer.TheVariants as sink_timer
 use Rattle.pd_timers.specs.Timers.{place}
 use Rattle.pd_table.specs.Table as tables
 pub use Rattle.pd_table.specs.Table.{row}
@@ -166,17 +167,17 @@ table =
     row 1 (state.Off ∷ []) (Attach ∷ []) Plain (To state.Disabled) []
     ∷ row 2 (state.Off ∷ []) (Attach ∷ []) Always (To state.Discovery) []
     -- PE_SNK_Discovery and PE_SNK_Transition_to_default
-    ∷ row 3 (state.Discovery ∷ state.TransitionToDefault ∷ []) (Vbus ∷ []) Always (To state.WaitForCapabilities) (deed.Start timer.SinkWaitCap ∷ [])
+    ∷ row 3 (state.Discovery ∷ state.TransitionToDefault ∷ []) (Vbus ∷ []) Always (To state.WaitForCapabilities) (deed.Start sink_timer.SinkWaitCap ∷ [])
     -- the states in which an offer is evaluated
-    ∷ row 4 (state.WaitForCapabilities ∷ state.EvaluateCapability ∷ state.SelectCapability ∷ state.Ready ∷ state.GiveSinkCap ∷ state.GetSourceCap ∷ []) (SourceCapabilities ∷ []) Always (To state.EvaluateCapability) (deed.KeepOffer ∷ deed.Start timer.Delay ∷ [])
+    ∷ row 4 (state.WaitForCapabilities ∷ state.EvaluateCapability ∷ state.SelectCapability ∷ state.Ready ∷ state.GiveSinkCap ∷ state.GetSourceCap ∷ []) (SourceCapabilities ∷ []) Always (To state.EvaluateCapability) (deed.KeepOffer ∷ deed.Start sink_timer.Delay ∷ [])
     -- PE_SNK_Wait_for_Capabilities
     ∷ row 5 (state.WaitForCapabilities ∷ []) (Ended timer.SinkWaitCap ∷ []) Always HR []
     -- PE_SNK_Evaluate_Capability
     ∷ row 6 (state.EvaluateCapability ∷ []) (Ended timer.Delay ∷ []) Always RQ []
     -- PE_SNK_Select_Capability
-    ∷ row 7 (state.SelectCapability ∷ []) (Sent ∷ []) Always Stay (deed.Start timer.SenderResponse ∷ [])
-    ∷ row 8 (state.SelectCapability ∷ []) (Accept ∷ []) Always (To state.TransitionSink) (deed.Start timer.PsTransition ∷ [])
-    ∷ row 9 (state.SelectCapability ∷ []) (Wait ∷ Reject ∷ []) NoContract (To state.WaitForCapabilities) (deed.Start timer.SinkWaitCap ∷ [])
+    ∷ row 7 (state.SelectCapability ∷ []) (Sent ∷ []) Always Stay (deed.Start sink_timer.SenderResponse ∷ [])
+    ∷ row 8 (state.SelectCapability ∷ []) (Accept ∷ []) Always (To state.TransitionSink) (deed.Start sink_timer.PsTransition ∷ [])
+    ∷ row 9 (state.SelectCapability ∷ []) (Wait ∷ Reject ∷ []) NoContract (To state.WaitForCapabilities) (deed.Start sink_timer.SinkWaitCap ∷ [])
     ∷ row 10 (state.SelectCapability ∷ []) (Wait ∷ []) Always RD (deed.Again true ∷ [])
     ∷ row 11 (state.SelectCapability ∷ []) (Reject ∷ []) Always RD []
     ∷ row 12 (state.SelectCapability ∷ []) (Ended timer.SenderResponse ∷ []) Always HR []
@@ -186,31 +187,31 @@ table =
     ∷ row 15 (state.TransitionSink ∷ []) (Ended timer.PsTransition ∷ []) Always HR []
     -- PE_SNK_Ready
     ∷ row 16 (state.Ready ∷ []) (Ended timer.Delay ∷ Ended timer.SinkRequest ∷ []) Always RQ []
-    ∷ row 17 (state.Ready ∷ []) (Demand ∷ []) Always Stay (deed.Fresh true ∷ deed.Start timer.Delay ∷ [])
-    ∷ row 18 (state.Ready ∷ []) (GetSinkCap ∷ []) Always (To state.GiveSinkCap) (deed.Start timer.Delay ∷ [])
+    ∷ row 17 (state.Ready ∷ []) (Demand ∷ []) Always Stay (deed.Fresh true ∷ deed.Start sink_timer.Delay ∷ [])
+    ∷ row 18 (state.Ready ∷ []) (GetSinkCap ∷ []) Always (To state.GiveSinkCap) (deed.Start sink_timer.Delay ∷ [])
     ∷ row 19 (state.Ready ∷ []) (GetSource ∷ []) Always (To state.GetSourceCap) (deed.Send message.GetSourceCap ∷ [])
     -- PE_SNK_Give_Sink_Cap
     ∷ row 20 (state.GiveSinkCap ∷ []) (Ended timer.Delay ∷ []) Always Stay (deed.Send message.SinkCapabilities ∷ [])
     ∷ row 21 (state.GiveSinkCap ∷ []) (Sent ∷ []) Always RD []
     -- PE_SNK_Get_Source_Cap
-    ∷ row 22 (state.GetSourceCap ∷ []) (Sent ∷ []) Always Stay (deed.Start timer.SenderResponse ∷ [])
+    ∷ row 22 (state.GetSourceCap ∷ []) (Sent ∷ []) Always Stay (deed.Start sink_timer.SenderResponse ∷ [])
     ∷ row 23 (state.GetSourceCap ∷ []) (Ended timer.SenderResponse ∷ []) Always RD []
     -- PE_SNK_Give_Sink_Cap and PE_SNK_Get_Source_Cap
     ∷ row 24 (state.GiveSinkCap ∷ state.GetSourceCap ∷ []) (Failed ∷ []) Always SR []
     -- PE_SNK_Send_Soft_Reset
-    ∷ row 25 (state.SendSoftReset ∷ []) (Sent ∷ []) Always Stay (deed.Start timer.SenderResponse ∷ [])
-    ∷ row 26 (state.SendSoftReset ∷ []) (Accept ∷ []) WasSent (To state.WaitForCapabilities) (deed.Start timer.SinkWaitCap ∷ [])
+    ∷ row 25 (state.SendSoftReset ∷ []) (Sent ∷ []) Always Stay (deed.Start sink_timer.SenderResponse ∷ [])
+    ∷ row 26 (state.SendSoftReset ∷ []) (Accept ∷ []) WasSent (To state.WaitForCapabilities) (deed.Start sink_timer.SinkWaitCap ∷ [])
     ∷ row 27 (state.SendSoftReset ∷ []) (Ended timer.SenderResponse ∷ Failed ∷ []) Always HR []
     -- PE_SNK_Soft_Reset
     ∷ row 28 (state.SoftReset ∷ []) (Ended timer.Delay ∷ []) Always Stay (deed.Send message.Accept ∷ [])
-    ∷ row 29 (state.SoftReset ∷ []) (Sent ∷ []) Always (To state.WaitForCapabilities) (deed.Start timer.SinkWaitCap ∷ [])
+    ∷ row 29 (state.SoftReset ∷ []) (Sent ∷ []) Always (To state.WaitForCapabilities) (deed.Start sink_timer.SinkWaitCap ∷ [])
     ∷ row 30 (state.SoftReset ∷ []) (Failed ∷ []) Always HR []
     -- PE_SNK_Hard_Reset
     ∷ row 31 (state.HardReset ∷ []) (Sent ∷ []) Always (To state.TransitionToDefault) []
     -- all states but PE_SNK_Ready
     ∷ row 32 (all_but (state.Ready ∷ [])) (Demand ∷ []) Always Stay (deed.Fresh true ∷ [])
     -- the states of rows 4 to 30
-    ∷ row 33 soft_reset_states (SoftReset ∷ []) Always (To state.SoftReset) (deed.Start timer.Delay ∷ [])
+    ∷ row 33 soft_reset_states (SoftReset ∷ []) Always (To state.SoftReset) (deed.Start sink_timer.Delay ∷ [])
     -- all states but Off and Disabled
     ∷ row 34 (all_but (state.Off ∷ state.Disabled ∷ [])) (HardReset ∷ []) Always (To state.TransitionToDefault) (deed.Contract false ∷ deed.Fresh false ∷ deed.Again false ∷ [])
     ∷ []
@@ -232,7 +233,7 @@ rq = deed.Enter state.SelectCapability ∷ deed.Fresh false ∷ deed.Again false
 
 -- RD: enter Ready; start SinkRequest where again; start Delay where fresh
 abbrev pub rd : List Deed
-rd = deed.Enter state.Ready ∷ deed.StartWhereAgain timer.SinkRequest ∷ deed.StartWhereFresh timer.Delay ∷ []
+rd = deed.Enter state.Ready ∷ deed.StartWhereAgain sink_timer.SinkRequest ∷ deed.StartWhereFresh sink_timer.Delay ∷ []
 
 -- SR: enter Send_Soft_Reset; reset the SOP layer; note; send Soft_Reset
 abbrev pub sr : List Deed

@@ -3,6 +3,7 @@
 ghost use Rattle.std.specs.Prelude.{◌≡◌, ◌≤◌, ◌<◌, ◌+◌, ◌++◌, ◌↔◌, IsTrue, IfSome, length, option_to_list};
 ghost use Rattle.arrayvec.specs.ArrayVec.{array_vec_len};
 ghost use Rattle.pd_timers.specs.Deadlines.{first_of};
+ghost use Rattle.pd_timers.specs.SinkDeadlines.{timer_of};
 ghost use Rattle.pd_sink.specs.Record.{off};
 ghost use Rattle.pd_sink.specs.Facts.{facts_of};
 ghost use Rattle.pd_sink.specs.Acts.{after, wants, all_after, all_wants, started_where, offer_from, asked_in, sending_of, fault_count};
@@ -17,7 +18,7 @@ use crate::{Act, Note, Sending, State, Stimulus};
 use arrayvec::ArrayVec;
 use pd_setup::{Demand, SinkMode, SinkRevision, SinkSettings};
 use pd_symbols::ShortList;
-use pd_timers::{Deadlines, LAST_TIME, Timer};
+use pd_timers::{LAST_TIME, SinkDeadlines, SinkTimer, Timer};
 use std::marker::Model;
 
 /// How often Hard Reset is sent again: nHardResetCount.
@@ -27,7 +28,8 @@ const N_HARD_RESET_COUNT: u8 = 2;
 #[derive(Clone, Copy)]
 pub struct Sink {
     state: State,
-    deadlines: Deadlines,
+    /// When the timers that the rows start fall due.
+    deadlines: SinkDeadlines,
     /// Whether the message of this state was sent.
     sent: bool,
     /// The HardResetCounter, which nHardResetCount bounds.
@@ -92,7 +94,7 @@ impl Sink {
     {
         Sink {
             state: State::Off,
-            deadlines: Deadlines::new(),
+            deadlines: SinkDeadlines::new(),
             sent: false,
             hard_reset_counter: 0,
             again: false,
@@ -253,9 +255,9 @@ impl Sink {
     }
 
     /// Starts a timer, where it is to be started.
-    fn start_where(&mut self, is_wanted: bool, now: u64, timer: Timer)
+    fn start_where(&mut self, is_wanted: bool, now: u64, timer: SinkTimer)
         requires { now ≤ LAST_TIME }
-        ensures { self.new ≡ record self.old { deadlines = started_where is_wanted self.old.deadlines now timer } }
+        ensures { self.new ≡ record self.old { deadlines = started_where is_wanted self.old.deadlines now (timer_of timer) } }
     {
         if is_wanted {
             self.deadlines.start(now, timer);

@@ -2,7 +2,7 @@
 
 use arrayvec::ArrayVec;
 use pd_setup::{Demand, SinkSettings};
-use pd_timers::Timer;
+use pd_timers::{SinkTimer, Timer};
 
 /// The states of the sink's policy engine (USB Power Delivery 3.0, section 8.3.3.3), and two of this product's profile.
 #[derive(Clone, Copy, Debug, PartialEq, Eq)]
@@ -132,11 +132,11 @@ pub(crate) enum Deed {
     /// Enters a state: no timer runs, nothing waits on this side, and nothing was sent.
     Enter(State),
     /// Starts a timer, anew where it is running.
-    Start(Timer),
+    Start(SinkTimer),
     /// Starts a timer where the sink is to ask again.
-    StartWhereAgain(Timer),
+    StartWhereAgain(SinkTimer),
     /// Starts a timer where the demand is fresh.
-    StartWhereFresh(Timer),
+    StartWhereFresh(SinkTimer),
     /// The objects that came are the offer now.
     KeepOffer,
     /// The sink is to ask again, or not.

@@ -7,7 +7,7 @@ ghost use Rattle.pd_sink.specs.ByState.{deeds_in};
 
 use crate::kinds::{Deed, Facts, Message};
 use crate::{Note, State, Stimulus};
-use pd_timers::Timer;
+use pd_timers::{SinkTimer, Timer};
 
 /// The column of states: some, or all but some.
 macro_rules! states {
@@ -55,7 +55,7 @@ macro_rules! deeds {
             Deed::Send(Message::Request)]
     };
     ($facts:ident, rd [$($deed:expr),*]) => {
-        &[$($deed,)* Deed::Enter(State::Ready), Deed::StartWhereAgain(Timer::SinkRequest), Deed::StartWhereFresh(Timer::Delay)]
+        &[$($deed,)* Deed::Enter(State::Ready), Deed::StartWhereAgain(SinkTimer::SinkRequest), Deed::StartWhereFresh(SinkTimer::Delay)]
     };
     ($facts:ident, sr [$($deed:expr),*]) => {
         &[$($deed,)* Deed::Enter(State::SendSoftReset), Deed::ResetLayer, Deed::Note(Note::SoftReset), Deed::Send(Message::SoftReset)]
@@ -104,17 +104,17 @@ macro_rules! table {
             K1: Off, Stimulus::Attach(_) if plain => to(Disabled) [];
             K2: Off, Stimulus::Attach(_) => to(Discovery) [];
             // PE_SNK_Discovery and PE_SNK_Transition_to_default
-            K3: Discovery | TransitionToDefault, Stimulus::Vbus => to(WaitForCapabilities) [Deed::Start(Timer::SinkWaitCap)];
+            K3: Discovery | TransitionToDefault, Stimulus::Vbus => to(WaitForCapabilities) [Deed::Start(SinkTimer::SinkWaitCap)];
             // the states in which an offer is evaluated
-            K4: WaitForCapabilities | EvaluateCapability | SelectCapability | Ready | GiveSinkCap | GetSourceCap, Stimulus::SourceCapabilities(_) => to(EvaluateCapability) [Deed::KeepOffer, Deed::Start(Timer::Delay)];
+            K4: WaitForCapabilities | EvaluateCapability | SelectCapability | Ready | GiveSinkCap | GetSourceCap, Stimulus::SourceCapabilities(_) => to(EvaluateCapability) [Deed::KeepOffer, Deed::Start(SinkTimer::Delay)];
             // PE_SNK_Wait_for_Capabilities
             K5: WaitForCapabilities, Stimulus::Ended(Timer::SinkWaitCap) => hr [];
             // PE_SNK_Evaluate_Capability
             K6: EvaluateCapability, Stimulus::Ended(Timer::Delay) => rq [];
             // PE_SNK_Select_Capability
-            K7: SelectCapability, Stimulus::Sent => stay [Deed::Start(Timer::SenderResponse)];
-            K8: SelectCapability, Stimulus::Accept => to(TransitionSink) [Deed::Start(Timer::PsTransition)];
-            K9: SelectCapability, Stimulus::Wait | Stimulus::Reject if no_contract => to(WaitForCapabilities) [Deed::Start(Timer::SinkWaitCap)];
+            K7: SelectCapability, Stimulus::Sent => stay [Deed::Start(SinkTimer::SenderResponse)];
+            K8: SelectCapability, Stimulus::Accept => to(TransitionSink) [Deed::Start(SinkTimer::PsTransition)];
+            K9: SelectCapability, Stimulus::Wait | Stimulus::Reject if no_contract => to(WaitForCapabilities) [Deed::Start(SinkTimer::SinkWaitCap)];
             K10: SelectCapability, Stimulus::Wait => rd [Deed::Again(true)];
             K11: SelectCapability, Stimulus::Reject => rd [];
             K12: SelectCapability, Stimulus::Ended(Timer::SenderResponse) => hr [];
@@ -124,31 +124,31 @@ macro_rules! table {
             K15: TransitionSink, Stimulus::Ended(Timer::PsTransition) => hr [];
             // PE_SNK_Ready
             K16: Ready, Stimulus::Ended(Timer::Delay) | Stimulus::Ended(Timer::SinkRequest) => rq [];
-            K17: Ready, Stimulus::Demand(_) => stay [Deed::Fresh(true), Deed::Start(Timer::Delay)];
-            K18: Ready, Stimulus::GetSinkCap => to(GiveSinkCap) [Deed::Start(Timer::Delay)];
+            K17: Ready, Stimulus::Demand(_) => stay [Deed::Fresh(true), Deed::Start(SinkTimer::Delay)];
+            K18: Ready, Stimulus::GetSinkCap => to(GiveSinkCap) [Deed::Start(SinkTimer::Delay)];
             K19: Ready, Stimulus::GetSource => to(GetSourceCap) [Deed::Send(Message::GetSourceCap)];
             // PE_SNK_Give_Sink_Cap
             K20: GiveSinkCap, Stimulus::Ended(Timer::Delay) => stay [Deed::Send(Message::SinkCapabilities)];
             K21: GiveSinkCap, Stimulus::Sent => rd [];
             // PE_SNK_Get_Source_Cap
-            K22: GetSourceCap, Stimulus::Sent => stay [Deed::Start(Timer::SenderResponse)];
+            K22: GetSourceCap, Stimulus::Sent => stay [Deed::Start(SinkTimer::SenderResponse)];
             K23: GetSourceCap, Stimulus::Ended(Timer::SenderResponse) => rd [];
             // PE_SNK_Give_Sink_Cap and PE_SNK_Get_Source_Cap
             K24: GiveSinkCap | GetSourceCap, Stimulus::Failed => sr [];
             // PE_SNK_Send_Soft_Reset
-            K25: SendSoftReset, Stimulus::Sent => stay [Deed::Start(Timer::SenderResponse)];
-            K26: SendSoftReset, Stimulus::Accept if was_sent => to(WaitForCapabilities) [Deed::Start(Timer::SinkWaitCap)];
+            K25: SendSoftReset, Stimulus::Sent => stay [Deed::Start(SinkTimer::SenderResponse)];
+            K26: SendSoftReset, Stimulus::Accept if was_sent => to(WaitForCapabilities) [Deed::Start(SinkTimer::SinkWaitCap)];
             K27: SendSoftReset, Stimulus::Ended(Timer::SenderResponse) | Stimulus::Failed => hr [];
             // PE_SNK_Soft_Reset
             K28: SoftReset, Stimulus::Ended(Timer::Delay) => stay [Deed::Send(Message::Accept)];
-            K29: SoftReset, Stimulus::Sent => to(WaitForCapabilities) [Deed::Start(Timer::SinkWaitCap)];
+            K29: SoftReset, Stimulus::Sent => to(WaitForCapabilities) [Deed::Start(SinkTimer::SinkWaitCap)];
             K30: SoftReset, Stimulus::Failed => hr [];
             // PE_SNK_Hard_Reset
             K31: HardReset, Stimulus::Sent => to(TransitionToDefault) [];
             // all states but PE_SNK_Ready
             K32: all_but(Ready), Stimulus::Demand(_) => stay [Deed::Fresh(true)];
             // the states of rows K4 to K30
-            K33: soft_reset_states, Stimulus::SoftReset => to(SoftReset) [Deed::Start(Timer::Delay)];
+            K33: soft_reset_states, Stimulus::SoftReset => to(SoftReset) [Deed::Start(SinkTimer::Delay)];
             // all states but Off and Disabled
             K34: all_but(Off | Disabled), Stimulus::HardReset => to(TransitionToDefault) [Deed::Contract(false), Deed::Fresh(false), Deed::Again(false)];
         }

@@ -36,7 +36,7 @@ fn k3_power_is_waited_on(rt: HostRuntime) {
         let mut want = at(state);
         let acts = sink.step(400_000, &Stimulus::Vbus);
         enter(&mut want, State::WaitForCapabilities);
-        want.deadlines.start(400_000, Timer::SinkWaitCap);
+        want.deadlines.start(400_000, SinkTimer::SinkWaitCap);
         assert!(rt; sink.same(&want));
         assert!(rt; acts.as_slice() == [Act::DropWaiting].as_slice());
     }
@@ -60,7 +60,7 @@ fn k4_an_offer_is_kept(rt: HostRuntime) {
         let acts = sink.step(400_000, &other);
         enter(&mut want, State::EvaluateCapability);
         want.kept_offer = ShortList::of(&[0x0001_90C8]);
-        want.deadlines.start(400_000, Timer::Delay);
+        want.deadlines.start(400_000, SinkTimer::Delay);
         assert!(rt; sink.same(&want));
         assert!(rt; acts.as_slice() == [Act::DropWaiting].as_slice());
     }
@@ -124,7 +124,7 @@ fn k7_a_request_is_waited_on(rt: HostRuntime) {
     let mut want = at_select();
     let acts = sink.step(63_000, &Stimulus::Sent);
     want.sent = true;
-    want.deadlines.start(63_000, Timer::SenderResponse);
+    want.deadlines.start(63_000, SinkTimer::SenderResponse);
     assert!(rt; sink.same(&want) && acts.is_empty());
 }
 
@@ -136,7 +136,7 @@ fn k8_accept_is_a_transition(rt: HostRuntime) {
     let mut want = sink.copy();
     let acts = sink.step(66_000, &Stimulus::Accept);
     enter(&mut want, State::TransitionSink);
-    want.deadlines.start(66_000, Timer::PsTransition);
+    want.deadlines.start(66_000, SinkTimer::PsTransition);
     assert!(rt; sink.same(&want));
     assert!(rt; acts.as_slice() == [Act::DropWaiting].as_slice());
 }
@@ -150,7 +150,7 @@ fn k9_without_a_contract_an_offer_is_waited_on(rt: HostRuntime) {
         let _ = sink.step(63_000, &Stimulus::Sent);
         let acts = sink.step(66_000, &refusal);
         enter(&mut want, State::WaitForCapabilities);
-        want.deadlines.start(66_000, Timer::SinkWaitCap);
+        want.deadlines.start(66_000, SinkTimer::SinkWaitCap);
         assert!(rt; sink.same(&want));
         assert!(rt; acts.as_slice() == [Act::DropWaiting].as_slice());
     }
@@ -169,9 +169,9 @@ fn k10_wait_is_asked_again(rt: HostRuntime) {
         let acts = sink.step(306_000, &Stimulus::Wait);
         enter(&mut want, State::Ready);
         want.again = true;
-        want.deadlines.start(306_000, Timer::SinkRequest);
+        want.deadlines.start(306_000, SinkTimer::SinkRequest);
         if fresh {
-            want.deadlines.start(306_000, Timer::Delay);
+            want.deadlines.start(306_000, SinkTimer::Delay);
         }
         assert!(rt; sink.same(&want) && sink.ready());
         assert!(rt; acts.as_slice() == [Act::DropWaiting].as_slice());
@@ -191,7 +191,7 @@ fn k11_reject_stays_with_the_contract(rt: HostRuntime) {
         let acts = sink.step(306_000, &Stimulus::Reject);
         enter(&mut want, State::Ready);
         if fresh {
-            want.deadlines.start(306_000, Timer::Delay);
+            want.deadlines.start(306_000, SinkTimer::Delay);
         }
         assert!(rt; sink.same(&want) && sink.ready());
         assert!(rt; acts.as_slice() == [Act::DropWaiting].as_slice());
@@ -242,7 +242,7 @@ fn k14_ps_rdy_is_a_contract(rt: HostRuntime) {
         want.has_contract = true;
         want.hard_reset_counter = 0;
         if fresh {
-            want.deadlines.start(660_000, Timer::Delay);
+            want.deadlines.start(660_000, SinkTimer::Delay);
         }
         assert!(rt; sink.same(&want) && sink.ready());
         assert!(rt; acts.as_slice() == [Act::DropWaiting].as_slice());
@@ -293,6 +293,6 @@ fn k17_demand_starts_a_delay(rt: HostRuntime) {
     );
     want.sink = Some(more);
     want.fresh = true;
-    want.deadlines.start(300_000, Timer::Delay);
+    want.deadlines.start(300_000, SinkTimer::Delay);
     assert!(rt; sink.same(&want) && acts.is_empty());
 }

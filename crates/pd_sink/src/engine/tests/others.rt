@@ -11,7 +11,7 @@ fn k18_capabilities_are_asked_for(rt: HostRuntime) {
     let mut want = asking_again();
     let acts = sink.step(350_000, &Stimulus::GetSinkCap);
     enter(&mut want, State::GiveSinkCap);
-    want.deadlines.start(350_000, Timer::Delay);
+    want.deadlines.start(350_000, SinkTimer::Delay);
     assert!(rt; sink.same(&want));
     assert!(rt; acts.as_slice() == [Act::DropWaiting].as_slice());
 }
@@ -50,10 +50,10 @@ fn is_back(mut sink: Sink, now: u64, stimulus: &Stimulus) -> bool
     let acts = sink.step(now, stimulus);
     enter(&mut want, State::Ready);
     if want.again {
-        want.deadlines.start(now, Timer::SinkRequest);
+        want.deadlines.start(now, SinkTimer::SinkRequest);
     }
     if want.fresh {
-        want.deadlines.start(now, Timer::Delay);
+        want.deadlines.start(now, SinkTimer::Delay);
     }
     sink.same(&want) && sink.ready() && acts.as_slice() == [Act::DropWaiting].as_slice()
 }
@@ -77,7 +77,7 @@ fn k22_capabilities_are_waited_on(rt: HostRuntime) {
     let mut want = at(State::GetSourceCap);
     let acts = sink.step(301_000, &Stimulus::Sent);
     want.sent = true;
-    want.deadlines.start(301_000, Timer::SenderResponse);
+    want.deadlines.start(301_000, SinkTimer::SenderResponse);
     assert!(rt; sink.same(&want) && acts.is_empty());
 }
 

@@ -9,7 +9,7 @@ fn k25_a_soft_reset_is_waited_on(rt: HostRuntime) {
     let mut want = at(State::SendSoftReset);
     let acts = sink.step(66_000, &Stimulus::Sent);
     want.sent = true;
-    want.deadlines.start(66_000, Timer::SenderResponse);
+    want.deadlines.start(66_000, SinkTimer::SenderResponse);
     assert!(rt; sink.same(&want) && acts.is_empty());
 }
 
@@ -24,7 +24,7 @@ fn k26_an_offer_is_waited_on(rt: HostRuntime) {
     let _ = sink.step(66_000, &Stimulus::Sent);
     let acts = sink.step(69_000, &Stimulus::Accept);
     enter(&mut want, State::WaitForCapabilities);
-    want.deadlines.start(69_000, Timer::SinkWaitCap);
+    want.deadlines.start(69_000, SinkTimer::SinkWaitCap);
     assert!(rt; sink.same(&want));
     assert!(rt; acts.as_slice() == [Act::DropWaiting].as_slice());
 }
@@ -62,7 +62,7 @@ fn k29_an_offer_is_waited_on(rt: HostRuntime) {
     let mut want = at(State::SoftReset);
     let acts = sink.step(303_000, &Stimulus::Sent);
     enter(&mut want, State::WaitForCapabilities);
-    want.deadlines.start(303_000, Timer::SinkWaitCap);
+    want.deadlines.start(303_000, SinkTimer::SinkWaitCap);
     assert!(rt; sink.same(&want));
     assert!(rt; acts.as_slice() == [Act::DropWaiting].as_slice());
 }
@@ -112,7 +112,7 @@ fn k33_a_soft_reset_comes(rt: HostRuntime) {
         let mut want = at(state);
         let acts = sink.step(310_000, &Stimulus::SoftReset);
         enter(&mut want, State::SoftReset);
-        want.deadlines.start(310_000, Timer::Delay);
+        want.deadlines.start(310_000, SinkTimer::Delay);
         assert!(rt; sink.same(&want));
         assert!(rt; acts.as_slice() == [Act::DropWaiting].as_slice());
     }
