@@ -1,5 +1,26 @@
 -- Offers are within what is free, and the greatest that are.
-use Rattle.std.proofs.Common.{ℕ, ◌*◌, ◌/◌, ◌<◌, ◌≤◌, List, [], ◌∷◌, Option, Some, None, option_map, map, nat_le, refl, arith}
+use Rattle.std.proofs.Common.{
+  ◌≡◌,
+  ℕ,
+  ◌*◌,
+  ◌/◌,
+  ◌<◌,
+  ◌≤◌,
+  min,
+  ⊎_elim,
+  List,
+  [],
+  ◌∷◌,
+  Option,
+  Some,
+  None,
+  option_map,
+  map,
+  nat_le,
+  refl,
+  arith,
+}
+use Rattle.std.proofs.lemmas.Bool.{cases_lt}
 use Rattle.std.proofs.Math.Nat.{mul-div-le, le-div_iff_mul-le, mul_comm, mul-le-mul_left}
 use Rattle.pd_objects.specs.Supply.{SupplyData, IsSupply}
 use Rattle.pd_objects.specs.Answers.{IsAllowed, AreWithin}
@@ -46,3 +67,20 @@ offered-greatest free limit_ma s is = record {
 pub offered-some : (free limit_ma : ℕ) (s : SupplyData) → IsSupply s → 500000 ≤ free → 10 ≤ limit_ma → 10 ≤ offered free limit_ma s
 unfolding offered
 offered-some free limit_ma s is half_a_watt some = let quotient = in_quotient free s.mv 10 (omega arith) (omega arith) in omega arith
+
+-- where all that supply and cable give is free, that is offered
+pub whole-offered : (free limit_ma most : ℕ) (s : SupplyData) → 0 < s.mv → most ≡ min s.ma limit_ma → s.mv * most ≤ free
+    → most / 10 * 10 ≡ offered free limit_ma s
+unfolding offered
+whole-offered free limit_ma most s some is all = let quotient = in_quotient free s.mv most some all in omega arith
+
+-- elsewhere the current that the free power gives, which is less
+pub part-offered : (free limit_ma most : ℕ) (s : SupplyData) → 0 < s.mv → most ≡ min s.ma limit_ma → free < s.mv * most
+    → (free / s.mv < most) × (free / s.mv / 10 * 10 ≡ offered free limit_ma s)
+unfolding offered
+part-offered free limit_ma most s some is less =
+    let small : free / s.mv < most =
+    ⊎_elim (λ (lt : free / s.mv < most). lt)
+    (λ (le : most ≤ free / s.mv). let times = times_quotient free s.mv most le in absurd (omega arith))
+    (cases_lt (free / s.mv) most) in
+    (small, omega arith)

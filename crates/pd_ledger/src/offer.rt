@@ -11,9 +11,14 @@ use pd_objects::Supply;
 fn offered(free: u64, limit_ma: u32, supply: &Supply) -> u32
     ensures { result ≡ offered free limit_ma supply.now }
 {
-    let most = free / u64::from(supply.mv());
-    let ma = u64::from(supply.ma().min(limit_ma)).min(most);
-    ma as u32 / 10 * 10
+    let most = supply.ma().min(limit_ma);
+    // Mostly so much power is free, and then nothing is divided.
+    let ma = if u64::from(supply.mv()) * u64::from(most) <= free {
+        most
+    } else {
+        (free / u64::from(supply.mv())) as u32
+    };
+    ma / 10 * 10
 }
 
 /// The current in mA that each supply is offered at.
