@@ -138,7 +138,7 @@ fn passes<const N: usize>(plan: &Plan<N>, old: &KeptMoves, at: usize, live: &mut
     live.follow(plan, kept.port(), kept.entry(), kept.answer(), kept.left())
 }
 
-// The move of a port that doesn't follow, which is the next one where all ports stand.
+// The move of a port that doesn't follow, which is the next one where all ports stand. What is next on such ports then.
 fn move_own<const N: usize>(
     alloc: Global,
     old: &KeptMoves,
@@ -148,7 +148,7 @@ fn move_own<const N: usize>(
     port: usize,
     due: Due,
     meter: &mut Meter,
-) -> Result<(), AllocError>
+) -> Result<Option<(usize, Due)>, AllocError>
     requires made { All IsMade old.now.moves }
     requires in_time { AreInTime old.now.moves }
     requires next { (a : PlanData) × (all : List Move) × (past : List Move) × (from : ℕ) × (most : ℕ) × (first : ℕ)
@@ -156,6 +156,7 @@ fn move_own<const N: usize>(
     ensures came { OnOk result ((a : PlanData) (all : List Move) (past : List Move) (from most first : ℕ)
         → IsOwnTurn N a all old.now plan.now past from most first meter.old course.old live.old port due
         → HasCameOn N a all old.now plan.now past from most first meter.new course.new live.new (length course.old.span.moves)) }
+    ensures next { IfOk result (λ own. IsOwnNext plan.now live.new old.now.to own) }
     ensures rises { meter.old ≤ meter.new }
 {
     let answer = live.reply_beside(plan, port, &due);
@@ -175,10 +176,10 @@ fn move_own<const N: usize>(
     )?;
     course.span.push(port, kept, marks)?;
     course.places[port - 1] = place;
-    Ok(())
+    Ok(next_before(live, plan, old.to()))
 }
 
-// A port that followed is answered otherwise than in the older run: from here on it moves for itself.
+// A port that followed is answered otherwise than in the older run: from here on it moves for itself. What is next on such ports then.
 fn leave<const N: usize>(
     alloc: Global,
     old: &KeptMoves,
@@ -186,7 +187,7 @@ fn leave<const N: usize>(
     plan: &Plan<N>,
     live: &mut Live<N>,
     meter: &mut Meter,
-) -> Result<(), AllocError>
+) -> Result<Option<(usize, Due)>, AllocError>
     requires made { All IsMade old.now.moves }
     requires in_time { AreInTime old.now.moves }
     requires inside { course.old.at < length old.now.moves }
@@ -195,6 +196,7 @@ fn leave<const N: usize>(
     ensures came { OnOk result ((a : PlanData) (all : List Move) (past : List Move) (from most first : ℕ)
         → IsFollowedTurn N a all old.now plan.now past from most first meter.old course.old live.old
         → HasCameOn N a all old.now plan.now past from most first meter.new course.new live.new (length course.old.span.moves)) }
+    ensures next { IfOk result (λ own. IsOwnNext plan.now live.new old.now.to own) }
     ensures rises { meter.old ≤ meter.new }
 {
     let kept = old.kept(course.at);
@@ -213,14 +215,12 @@ fn turn_at<const N: usize>(
     course: &mut Course,
     plan: &Plan<N>,
     live: &mut Live<N>,
-    own: &Option<(usize, Due)>,
+    own: &mut Option<(usize, Due)>,
     meter: &mut Meter,
 ) -> Result<bool, AllocError>
-    requires made { All IsMade old.now.moves }
-    requires in_time { AreInTime old.now.moves }
-    requires numbered { AreNumbered N old.now.moves }
+    requires olds { All IsMade old.now.moves × AreInTime old.now.moves × AreNumbered N old.now.moves }
     requires here { IsNextFollowed old.now.moves course.old.away course.old.at course.old.at }
-    requires own { IsOwnNext plan.now live.old old.now.to own.now }
+    requires own { IsOwnNext plan.now live.old old.now.to own.old }
     requires come { (a : PlanData) × (all : List Move) × (past : List Move) × (from : ℕ) × (most : ℕ) × (first : ℕ)
         × HasCome N a all old.now plan.now past from most first meter.old course.old live.old }
     ensures came { IfOk result (λ more. IsTrue more → (a : PlanData) (all : List Move) (past : List Move) (from most first : ℕ)
@@ -229,6 +229,7 @@ fn turn_at<const N: usize>(
     ensures through { IfOk result (λ more. IsFalse more → (a : PlanData) (all : List Move) (past : List Move) (from most first : ℕ)
         → HasCome N a all old.now plan.now past from most first meter.old course.old live.old
         → IsThrough N a all old.now plan.now past from most first meter.new course.new live.new) }
+    ensures own { IfOk result (λ more. IsTrue more → IsOwnNext plan.now live.new old.now.to own.new) }
     ensures rises { meter.old ≤ meter.new }
 {
     let (_end, _len) = (plan.end(), old.len());
@@ -238,13 +239,13 @@ fn turn_at<const N: usize>(
             course.at += 1;
             return Ok(true);
         }
-        leave(alloc, old, course, plan, live, meter)?;
+        *own = leave(alloc, old, course, plan, live, meter)?;
         return Ok(true);
     }
     let Some((port, due)) = *own else {
         return Ok(false);
     };
-    move_own(alloc, old, course, plan, live, port, due, meter)?;
+    *own = move_own(alloc, old, course, plan, live, port, due, meter)?;
     Ok(true)
 }
 
@@ -281,9 +282,7 @@ fn turn<const N: usize>(
         course.at = quiet;
         return Ok(true);
     }
-    let more = turn_at(alloc, old, course, plan, live, own, meter)?;
-    *own = next_before(live, plan, old.to());
-    Ok(more)
+    turn_at(alloc, old, course, plan, live, own, meter)
 }
 
 // From here on these ports follow.

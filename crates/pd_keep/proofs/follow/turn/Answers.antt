@@ -1,4 +1,5 @@
 use Rattle.std.proofs.Common.{◌≡◌, ap, sym, subst, arith, length}
+use Rattle.std.proofs.lemmas.Result.{IfOk-weaker}
 use Rattle.pd_keep.specs.Following.{HasCome}
 use Rattle.pd_keep.specs.Kept.{RunData}
 use Rattle.pd_keep.proofs.Course.{advanced, come_still, followed_count, followed_here, own_next_on}
@@ -57,29 +58,23 @@ turn_at-requires g c =
       (
         omega arith,
         (
-          c.requires.made,
+          (c.requires.made, c.requires.in_time, c.requires.numbered),
           (
-            c.requires.in_time,
+            followed_here old.moves c.args.course.now.away c.args.course.now.at c.next_followed-course.result
+                c.next_followed-course.ensures,
             (
-              c.requires.numbered,
+              own_next_on c.args.plan.now c.args.live.now c.pass_quiet-quiet.new.live old.to c.args.own.now
+                  c.pass_quiet-quiet.ensures.dues c.requires.own,
               (
-                followed_here old.moves c.args.course.now.away c.args.course.now.at c.next_followed-course.result
-                    c.next_followed-course.ensures,
-                (
-                  own_next_on c.args.plan.now c.args.live.now c.pass_quiet-quiet.new.live old.to c.args.own.now
-                      c.pass_quiet-quiet.ensures.dues c.requires.own,
-                  (
-                    r.0,
-                    r.1,
-                    r.2,
-                    r.3,
-                    r.4,
-                    r.5,
-                    come_still g.row.N r.0 r.1 old c.args.plan.now r.2 r.3 r.4 r.5 c.args.meter.now c.args.course.now c.args.live.now
-                        c.pass_quiet-quiet.new.live c.next_followed-course.result some_kept r.6 c.next_followed-course.ensures
-                        (c.pass_quiet-quiet.ensures.none here),
-                  ),
-                ),
+                r.0,
+                r.1,
+                r.2,
+                r.3,
+                r.4,
+                r.5,
+                come_still g.row.N r.0 r.1 old c.args.plan.now r.2 r.3 r.4 r.5 c.args.meter.now c.args.course.now c.args.live.now
+                    c.pass_quiet-quiet.new.live c.next_followed-course.result some_kept r.6 c.next_followed-course.ensures
+                    (c.pass_quiet-quiet.ensures.none here),
               ),
             ),
           ),
@@ -88,19 +83,21 @@ turn_at-requires g c =
     )
 
 pub returns-clause-came : goal.returns-clause-came
-returns-clause-came g c = λ yes a all past from most first come.
+returns-clause-came g c =
     let rising = c.pass_quiet-quiet.ensures.rising in
     let here : c.pass_quiet-quiet.result ≡ c.next_followed-course.result = omega (arith, c.if-quiet-course.false) in
-    c.in_ok-more.ensures.came yes a all past from most first
+    IfOk-weaker c.turn_at.result _ _ (λ more came yes a all past from most first come.
+    came yes a all past from most first
     (come_still g.row.N a all c.args.old.now c.args.plan.now past from most first c.args.meter.now c.args.course.now c.args.live.now
     c.pass_quiet-quiet.new.live c.next_followed-course.result some_kept come c.next_followed-course.ensures
-    (c.pass_quiet-quiet.ensures.none here))
+    (c.pass_quiet-quiet.ensures.none here))) c.turn_at.ensures.came
 
 pub returns-clause-through : goal.returns-clause-through
-returns-clause-through g c = λ yes a all past from most first come.
+returns-clause-through g c =
     let rising = c.pass_quiet-quiet.ensures.rising in
     let here : c.pass_quiet-quiet.result ≡ c.next_followed-course.result = omega (arith, c.if-quiet-course.false) in
-    c.in_ok-more.ensures.through yes a all past from most first
+    IfOk-weaker c.turn_at.result _ _ (λ more through no a all past from most first come.
+    through no a all past from most first
     (come_still g.row.N a all c.args.old.now c.args.plan.now past from most first c.args.meter.now c.args.course.now c.args.live.now
     c.pass_quiet-quiet.new.live c.next_followed-course.result some_kept come c.next_followed-course.ensures
-    (c.pass_quiet-quiet.ensures.none here))
+    (c.pass_quiet-quiet.ensures.none here))) c.turn_at.ensures.through
