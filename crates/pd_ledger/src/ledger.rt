@@ -1,10 +1,10 @@
 //! Who holds how much of the budget.
 
-ghost use Rattle.std.specs.Prelude.{◌≡◌, ℕ, ◌+◌, ◌-◌, ◌<◌, ◌≤◌, ◌^◌, max, length, sum, slice_index, slice_set, All, nat_le};
+ghost use Rattle.std.specs.Prelude.{◌≡◌, ◌↔◌, ℕ, ◌+◌, ◌-◌, ◌<◌, ◌≤◌, ◌^◌, max, length, sum, slice_index, slice_set, All, IsTrue, nat_le};
 ghost use Rattle.pd_ledger.specs.Account.{Account, free_of, total_with};
 ghost use Rattle.pd_ledger.specs.Offer.{answer_of};
 
-use crate::offer::offer;
+use crate::offer::{offer, offers};
 use pd_objects::{Answer, Query};
 use std::marker::Model;
 
@@ -94,6 +94,22 @@ impl<const N: usize> Ledger<N> {
             }
             Query::Fits { power } => Answer::Fits(*power <= self.free(port)),
             Query::Keep { power } => Answer::Fits(self.stays(port, *power)),
+        }
+    }
+
+    /// Whether this is what a port is answered; told without making the answer.
+    pub fn answers(&self, port: usize, query: &Query, answer: &Answer) -> bool
+        requires first { 1 ≤ port }
+        requires last { port ≤ N }
+        ensures { IsTrue result ↔ (answer.now ≡ answer_of self.now (port - 1) query.now) }
+    {
+        match (query, answer) {
+            (Query::Offer { supplies, limit_ma }, Answer::Offer(currents)) => {
+                offers(self.free(port), *limit_ma, supplies, currents)
+            }
+            (Query::Fits { power }, Answer::Fits(fits)) => *fits == (*power <= self.free(port)),
+            (Query::Keep { power }, Answer::Fits(fits)) => *fits == self.stays(port, *power),
+            _ => false,
         }
     }
 

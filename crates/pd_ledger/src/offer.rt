@@ -1,6 +1,6 @@
 //! The currents of an offer.
 
-ghost use Rattle.std.specs.Prelude.{◌≡◌, ◌≤◌, map};
+ghost use Rattle.std.specs.Prelude.{◌≡◌, ◌↔◌, ◌≤◌, IsTrue, map};
 ghost use Rattle.pd_ledger.specs.Offer.{offered};
 
 use arrayvec::ArrayVec;
@@ -30,4 +30,25 @@ pub fn offer(free: u64, limit_ma: u32, supplies: &ArrayVec<Supply, 7>) -> ArrayV
         currents.push(offered(free, limit_ma, supply));
     }
     currents
+}
+
+/// Whether these are the currents in mA that the supplies are offered at.
+pub fn offers(
+    free: u64,
+    limit_ma: u32,
+    supplies: &ArrayVec<Supply, 7>,
+    currents: &ArrayVec<u32, 7>,
+) -> bool
+    ensures { IsTrue result ↔ (currents.now.items ≡ map (offered free limit_ma) supplies.now.items) }
+{
+    let (supplies, currents) = (supplies.as_slice(), currents.as_slice());
+    if supplies.len() != currents.len() {
+        return false;
+    }
+    for i in 0..supplies.len() {
+        if currents[i] != offered(free, limit_ma, &supplies[i]) {
+            return false;
+        }
+    }
+    true
 }
