@@ -1,7 +1,7 @@
 -- How far a span has come of which some ports follow an older run.
 use Rattle.std.proofs.Common.{◌≡◌, ◌≢◌, ◌⊎◌, ⊎_elim, ℕ, ◌+◌, ◌-◌, ◌<◌, ◌≤◌, Bool, true, false, List, [], ◌∷◌, ◌++◌, length, map}
 use Rattle.std.proofs.Common.{All, Option, None, Some, refl, ap, sym, ◌∙◌, subst, arith, drop, get_or, set, take, slice_index_or}
-use Rattle.std.proofs.Common.{option_map, slice_index, slice_set, append_assoc, zero, suc, MatchOption, replicate}
+use Rattle.std.proofs.Common.{option_map, slice_set, append_assoc, zero, suc, MatchOption, replicate}
 use Rattle.std.proofs.lemmas.List.{get_or-set_same, get_or-set_other, length-set, length-map, length_push, map-append, append-nil}
 use Rattle.std.proofs.lemmas.List.{get_or_default, length-append, length-drop, length-take-le, take_all}
 use Rattle.std.proofs.lemmas.List.Elements.{All-push}
@@ -17,7 +17,7 @@ use Rattle.pd_ledger.specs.Offer.{answer_of}
 use Rattle.pd_scenario.specs.Plan.{Plan, count, settings_of, force}
 use Rattle.pd_run.specs.Live.{LiveData, StandsAfter, StandsBut, IsNext, at_budget, due_at, port_at, port_after}
 use Rattle.pd_run.specs.Live.{moved_port, moved_live, next_move}
-use Rattle.pd_run.specs.Live.{IsNextBeside, had_with, reply_at, taken_up}
+use Rattle.pd_run.specs.Live.{IsNextBeside, reply_at, taken_up}
 use Rattle.pd_run.specs.Order.{IsNoLater}
 use Rattle.pd_run.specs.Run.{Move, NoneLater, GoesOn, standing}
 use Rattle.pd_run.specs.Start.{no_port}
@@ -36,7 +36,7 @@ use Rattle.pd_keep.specs.declared.kept_move.Brief.{Brief}
 use Rattle.pd_keep.specs.declared.kept_move.Place.{Place}
 use Rattle.pd_keep.specs.Charge.{Charges}
 use Rattle.pd_keep.specs.Following.{GoBeside, CanFollow, HasCome, HasCameOn, HasPassed, IsAway, IsNextFollowed, IsPassing, IsThrough}
-use Rattle.pd_keep.specs.Following.{AreNumbered, ComesApart, ComesFirst, ComesAfter, followed_to, IsLate, IsNextQuiet, IsOwnNext}
+use Rattle.pd_keep.specs.Following.{AreNumbered, ComesApart, ComesFirst, ComesAfter, followed_to, IsLate, IsFirstFollowed, IsOwnNext}
 use Rattle.pd_keep.specs.Following.{IsOwnTurn, IsFollowedTurn}
 use Rattle.pd_keep.specs.Fresh.{IsRepeated, AreFresh}
 use Rattle.pd_keep.specs.Kept.{KeptData, RunData, kept_of, move_of, left_by, IsKnown, IsOwn, AreBefore, moves_from}
@@ -45,7 +45,7 @@ use Rattle.pd_keep.specs.declared.rerun.Standing.{Standing}
 use Rattle.pd_keep.specs.Rerun.{BeginsWithMarked, ComesTo, Costs, IsNextSpan}
 use Rattle.pd_keep.specs.Spans.{BeginsAfter, moves_of}
 use Rattle.pd_keep.proofs.Parted.{in_span}
-use Rattle.pd_keep.proofs.Following.{followed_by, begins_alike, passed_quiet, skipped}
+use Rattle.pd_keep.proofs.Following.{followed_by, begins_alike, skipped}
 use Rattle.pd_keep.proofs.Fresh.{fresh-push_repeated, fresh_step}
 use Rattle.pd_keep.proofs.InTime.{none_later-last, before_later}
 use Rattle.pd_keep.proofs.Later.{due_later_yet}
@@ -685,15 +685,6 @@ come_budget n a all old b past from most first meter course live budget h = reco
   cost = h.cost;
 }
 
--- where the ports stand as they stood
-pub come_still : (n : ℕ) (a : Plan) (all : List Move) (old : RunData) (b : Plan) (past : List Move) (from most first meter : ℕ)
-    (course : Course) (live on : LiveData) (at : ℕ) (d : KeptData) → HasCome n a all old b past from most first meter course live
-    → IsNextFollowed old.moves course.away course.at at → on ≡ live
-    → HasCome n a all old b past from most first meter (record course { at = at }) on
-come_still n a all old b past from most first meter course live on at d h next same =
-    subst (HasCome n a all old b past from most first meter (record course { at = at })) (sym same)
-    (advanced n a all old b past from most first meter course live at d h next)
-
 -- the turn of a port that follows, whose move isn't answered as before
 pub followed_turn : (n : ℕ) (a : Plan) (all : List Move) (old : RunData) (b : Plan) (past : List Move) (from most first meter : ℕ)
     (course : Course) (live on : LiveData) (at budget : ℕ) (d : KeptData)
@@ -770,42 +761,40 @@ own_next_on b live on to (Some r) dues h = (
   h.1,
 )
 
--- the place of a quiet move of a port that follows is that of the next followed one
-next_quiet_at : (moves : List KeptData) (away : List Bool) (at : ℕ) (own : Option (ℕ × Due)) (brief : Brief)
-    → IsNextQuiet moves away at own brief → IsNextFollowed moves away at at
-next_quiet_at moves away at own brief q = record {
+-- the place of such a move is that of the next followed one
+first_followed_at : (moves : List KeptData) (away : List Bool) (at : ℕ) (own : Option (ℕ × Due)) (brief : Brief)
+    → IsFirstFollowed moves away at own brief → IsNextFollowed moves away at at
+first_followed_at moves away at own brief q = record {
   from_on = omega arith;
   within = (let inside = q.inside in omega arith);
   none = λ i k le lt. absurd (omega arith);
   there = λ k _. ap (λ p. slice_index_or away (p - 1) false) (sym (q.brief k).port) ∙ q.there;
 }
 
--- a quiet move of a port that follows is the next one
-pub quiet_passing : (n : ℕ) (a : Plan) (all : List Move) (old : RunData) (b : Plan) (past : List Move) (from most first meter : ℕ)
+-- the move is the next one where all ports stand
+pub first_passing : (n : ℕ) (a : Plan) (all : List Move) (old : RunData) (b : Plan) (past : List Move) (from most first meter : ℕ)
     (course : Course) (begun live : LiveData) (at : ℕ) (own : Option (ℕ × Due)) (brief : Brief) (d : KeptData)
     → (h : HasCome n a all old b past from most first meter (followed_to course old.moves at) live) → AreNumbered n old.moves
-    → IsNextQuiet old.moves course.away at own brief → IsOwnNext b begun old.to own → live.dues ≡ begun.dues
+    → IsFirstFollowed old.moves course.away at own brief → IsOwnNext b begun old.to own → live.dues ≡ begun.dues
     → IsPassing b (past ++ map move_of (followed_to course old.moves at).span.moves) course.away h.whole live
     (slice_index_or old.moves at d)
-quiet_passing n a all old b past from most first meter course begun live at own brief d h numbered q own_next dues =
+first_passing n a all old b past from most first meter course begun live at own brief d h numbered q own_next dues =
     let there = numbered at d q.inside in
     passing n a all old b past from most first meter (followed_to course old.moves at) live at own d h
-    (next_quiet_at old.moves course.away at own brief q) q.inside (q.first d) (own_next_on b begun live old.to own dues own_next)
+    (first_followed_at old.moves course.away at own brief q) q.inside (q.first d) (own_next_on b begun live old.to own dues own_next)
     there.0 there.1
 
--- and has passed
-pub quiet_passed : (n : ℕ) (a : Plan) (all : List Move) (old : RunData) (b : Plan) (past : List Move) (from most first meter : ℕ)
-    (course : Course) (begun live : LiveData) (at : ℕ) (own : Option (ℕ × Due)) (brief : Brief) (d : KeptData)
-    → HasCome n a all old b past from most first meter (followed_to course old.moves at) live → AreNumbered n old.moves
-    → IsNextQuiet old.moves course.away at own brief → IsOwnNext b begun old.to own → live.dues ≡ begun.dues → course.at ≤ at
-    → HasCome n a all old b past from most first meter (followed_to course old.moves (at + 1))
-    (record live { taken = slice_set live.taken (brief.port - 1) (had_with (slice_index live.taken (brief.port - 1)) brief.is_event) })
-quiet_passed n a all old b past from most first meter course begun live at own brief d h numbered q own_next dues le =
-    let is = quiet_passing n a all old b past from most first meter course begun live at own brief d h numbered q own_next dues in
-    let passed = passed_quiet n b (past ++ map move_of (followed_to course old.moves at).span.moves) course.away h.whole live
-    (slice_index_or old.moves at d) brief h.beside.is_plan_too is (q.brief d) q.quiet in
-    (came_followed n a all old b past from most first meter (followed_to course old.moves at) (followed_to course old.moves (at + 1)) live _
-    at d h (next_quiet_at old.moves course.away at own brief q) q.inside is passed refl refl refl refl refl refl
+-- and once it has passed the span has it
+pub first_passed : (n : ℕ) (a : Plan) (all : List Move) (old : RunData) (b : Plan) (past : List Move) (from most first meter : ℕ)
+    (course : Course) (begun live on : LiveData) (at : ℕ) (own : Option (ℕ × Due)) (brief : Brief) (d : KeptData)
+    → (h : HasCome n a all old b past from most first meter (followed_to course old.moves at) live) → AreNumbered n old.moves
+    → IsFirstFollowed old.moves course.away at own brief → IsOwnNext b begun old.to own → live.dues ≡ begun.dues → course.at ≤ at
+    → HasPassed b (past ++ map move_of (followed_to course old.moves at).span.moves) course.away h.whole on (slice_index_or old.moves at d)
+    → on.ports ≡ live.ports → HasCome n a all old b past from most first meter (followed_to course old.moves (at + 1)) on
+first_passed n a all old b past from most first meter course begun live on at own brief d h numbered q own_next dues le passed ports =
+    let is = first_passing n a all old b past from most first meter course begun live at own brief d h numbered q own_next dues in
+    (came_followed n a all old b past from most first meter (followed_to course old.moves at) (followed_to course old.moves (at + 1))
+    live on at d h (first_followed_at old.moves course.away at own brief q) q.inside is passed ports refl refl refl refl refl
     (followed_more course old.moves at d le q.inside)).come
 
 -- where none has followed yet
@@ -821,6 +810,15 @@ pub come_here : (n : ℕ) (a : Plan) (all : List Move) (old : RunData) (b : Plan
 come_here n a all old b past from most first meter course live h =
     subst (λ (l : List KeptData). HasCome n a all old b past from most first meter
     (record course { span = record course.span { moves = l } }) live) (sym (none_followed course old.moves)) h
+
+pub come_back : (n : ℕ) (a : Plan) (all : List Move) (old : RunData) (b : Plan) (past : List Move) (from most first meter : ℕ)
+    (course : Course) (live : LiveData) (at : ℕ)
+    → HasCome n a all old b past from most first meter (followed_to course old.moves at) live → at ≡ course.at
+    → HasCome n a all old b past from most first meter course live
+come_back n a all old b past from most first meter course live at h same =
+    subst (λ (l : List KeptData). HasCome n a all old b past from most first meter
+    (record course { span = record course.span { moves = l } }) live) (none_followed course old.moves)
+    (subst (λ k. HasCome n a all old b past from most first meter (followed_to course old.moves k) live) same h)
 
 -- how many the span has then
 pub followed_count : (course : Course) (moves : List KeptData) (at : ℕ) → course.at ≤ at → at ≤ length moves

@@ -49,12 +49,11 @@ pub record IsNextFollowed (moves : List KeptData) (away : List Bool) (from at : 
   pub none : (i : ℕ) (k : KeptData) → from ≤ i → i < at → slice_index_or away ((slice_index_or moves i k).port - 1) false ≡ false
   pub there : (k : KeptData) → at < length moves → IsAway away ((slice_index_or moves at k).port - 1)
 
--- this is the brief of a move that stirs nothing, of a port that follows, and the move comes before what is next on other ports
-pub record IsNextQuiet (moves : List KeptData) (away : List Bool) (at : ℕ) (own : Option (ℕ × Due)) (b : Brief) : Type 0 where
+-- this is the brief of a move of a port that follows, and the move comes before what is next on other ports
+pub record IsFirstFollowed (moves : List KeptData) (away : List Bool) (at : ℕ) (own : Option (ℕ × Due)) (b : Brief) : Type 0 where
   pub inside : at < length moves
   pub brief : (k : KeptData) → IsBrief (slice_index_or moves at k) b
   pub there : IsAway away (b.port - 1)
-  pub quiet : b.stirs ≡ false
   pub first : (k : KeptData) → ComesFirst (slice_index_or moves at k) own
 
 -- Moves of an old run and of its ports go from one time to the end of a span, and both plans have the same scripts until then; a run of

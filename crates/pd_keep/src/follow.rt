@@ -7,9 +7,9 @@ ghost use Rattle.pd_scenario.specs.Plan.{Plan as PlanData, count, force};
 ghost use Rattle.pd_run.specs.Live.{LiveData, StandsAfter, StandsBut, at_budget, port_at};
 ghost use Rattle.pd_run.specs.Run.{Move};
 ghost use Rattle.pd_keep.specs.Following.{AreNumbered, CanFollow, ComesAfter, ComesFirst, HasCome, HasCameOn, HasPassed, IsAway};
-ghost use Rattle.pd_keep.specs.Following.{followed_to, IsFollowedTurn, IsNextFollowed, IsNextQuiet, IsOwnNext, IsOwnTurn};
+ghost use Rattle.pd_keep.specs.Following.{followed_to, IsFirstFollowed, IsFollowedTurn, IsNextFollowed, IsOwnNext, IsOwnTurn};
 ghost use Rattle.pd_keep.specs.Following.{IsPassing, IsThrough};
-ghost use Rattle.pd_keep.specs.Kept.{KeptData, move_of, moves_from, IsKnown, IsMade, IsOwn, AreInTime, left_by};
+ghost use Rattle.pd_keep.specs.Kept.{KeptData, move_of, moves_from, IsBrief, IsKnown, IsMade, IsOwn, AreInTime, left_by};
 ghost use Rattle.pd_keep.specs.Places.{StandAs};
 ghost use Rattle.pd_keep.specs.Rerun.{AreThose, Costs, IsNextSpan};
 
@@ -70,38 +70,42 @@ fn comes_first(old: &KeptMoves, at: usize, own: &Option<(usize, Due)>) -> bool
     }
 }
 
-// Where the moves end, from a place on, that follow, stir nothing, and come before what is next on the other ports. They have passed.
-fn pass_quiet<const N: usize>(
+// Where the moves end, from a place on, that follow, come before what is next on the other ports, and have the answers that the shared
+// budget gives. They have passed.
+fn pass_on<const N: usize>(
     old: &KeptMoves,
     course: &Course,
+    plan: &Plan<N>,
     live: &mut Live<N>,
     own: &Option<(usize, Due)>,
 ) -> usize
     requires numbered { AreNumbered N old.now.moves }
-    requires come { (b : PlanData) × (a : PlanData) × (all : List Move) × (past : List Move) × (from : ℕ) × (most : ℕ) × (first : ℕ)
-        × (meter : ℕ) × HasCome N a all old.now b past from most first meter course.now live.old × IsOwnNext b live.old old.now.to own.now }
+    requires own { IsOwnNext plan.now live.old old.now.to own.now }
+    requires come { (a : PlanData) × (all : List Move) × (past : List Move) × (from : ℕ) × (most : ℕ) × (first : ℕ) × (meter : ℕ)
+        × HasCome N a all old.now plan.now past from most first meter course.now live.old }
     ensures rising { course.now.at ≤ result }
     ensures inside { result ≤ length old.now.moves }
-    ensures passed { (b a : PlanData) (all past : List Move) (from most first meter : ℕ)
-        → HasCome N a all old.now b past from most first meter course.now live.old → IsOwnNext b live.old old.now.to own.now
-        → HasCome N a all old.now b past from most first meter (followed_to course.now old.now.moves result) live.new }
+    ensures passed { (a : PlanData) (all past : List Move) (from most first meter : ℕ)
+        → HasCome N a all old.now plan.now past from most first meter course.now live.old
+        → HasCome N a all old.now plan.now past from most first meter (followed_to course.now old.now.moves result) live.new }
     ensures go { (i : ℕ) (k : KeptData) → course.now.at ≤ i → i < result → (slice_index_or old.now.moves i k).before
         ≡ left_by course.now.span.first (course.now.span.moves ++ moves_from old.now.moves course.now.at (i - course.now.at))
         ((slice_index_or old.now.moves i k).port - 1) }
     ensures dues { live.new.dues ≡ live.old.dues }
-    ensures none { result ≡ course.now.at → live.new ≡ live.old }
 {
     let _len = old.len();
     let mut at = course.at;
-    while let Some(brief) = next_quiet(old, at, &course.away, own) {
-        live.pass(brief.port, brief.is_event);
+    while let Some(brief) = first_followed(old, at, &course.away, own) {
+        if !passes(old, at, &brief, plan, live) {
+            return at;
+        }
         at += 1;
     }
     at
 }
 
-// The brief of a move, if its port follows, it stirs nothing, and it comes before what is next on the other ports.
-fn next_quiet(
+// The brief of a move, if its port follows, and it comes before what is next on the other ports.
+fn first_followed(
     old: &KeptMoves,
     at: usize,
     away: &[bool; 8],
@@ -109,20 +113,27 @@ fn next_quiet(
 ) -> Option<Brief>
     requires few { (i : ℕ) (k : KeptData) → i < length old.now.moves
         → (1 ≤ (slice_index_or old.now.moves i k).port) × ((slice_index_or old.now.moves i k).port ≤ 8) }
-    ensures { IfSome result (λ brief. IsNextQuiet old.now.moves away.now at own.now brief) }
+    ensures { IfSome result (λ brief. IsFirstFollowed old.now.moves away.now at own.now brief) }
 {
     if comes_first(old, at, own) {
         let brief = old.brief(at);
-        if !brief.stirs && follows(away, &brief) {
+        if follows(away, &brief) {
             return Some(brief);
         }
     }
     None
 }
 
-// A port that follows moves as in the older run, where its move has the answer that the shared budget gives.
-fn passes<const N: usize>(plan: &Plan<N>, old: &KeptMoves, at: usize, live: &mut Live<N>) -> bool
+// A port that follows moves as in the older run, where its move stirs nothing, or has the answer that the shared budget gives.
+fn passes<const N: usize>(
+    old: &KeptMoves,
+    at: usize,
+    brief: &Brief,
+    plan: &Plan<N>,
+    live: &mut Live<N>,
+) -> bool
     requires inside { at < length old.now.moves }
+    requires brief { (k : KeptData) → IsBrief (slice_index_or old.now.moves at k) brief.now }
     requires passing { (past : List Move) × (away : List Bool) × (whole : LiveData) × ((k : KeptData)
         → IsPassing plan.now past away whole live.old (slice_index_or old.now.moves at k)) }
     ensures passed { IsTrue result → (past : List Move) (away : List Bool) (whole : LiveData) (k : KeptData)
@@ -134,6 +145,10 @@ fn passes<const N: usize>(plan: &Plan<N>, old: &KeptMoves, at: usize, live: &mut
         → live.new ≡ at_budget live.old (force plan.now (slice_index_or old.now.moves at k).due.time) }
 {
     let _end = plan.end();
+    if !brief.stirs {
+        live.pass(brief.port, brief.is_event);
+        return true;
+    }
     let kept = old.kept(at);
     live.follow(plan, kept.port(), kept.entry(), kept.answer(), kept.left())
 }
@@ -208,7 +223,8 @@ fn leave<const N: usize>(
     move_own(alloc, old, course, plan, live, port, due, meter)
 }
 
-// The next move of the span, if there is one, where the old run has the next move of a port that follows at this place.
+// The next move of the span, if there is one, where the old run has the next move of a port that follows at this place, and that isn't
+// answered as before or comes later.
 fn turn_at<const N: usize>(
     alloc: Global,
     old: &KeptMoves,
@@ -218,7 +234,9 @@ fn turn_at<const N: usize>(
     own: &mut Option<(usize, Due)>,
     meter: &mut Meter,
 ) -> Result<bool, AllocError>
-    requires olds { All IsMade old.now.moves × AreInTime old.now.moves × AreNumbered N old.now.moves }
+    requires made { All IsMade old.now.moves }
+    requires in_time { AreInTime old.now.moves }
+    requires numbered { AreNumbered N old.now.moves }
     requires here { IsNextFollowed old.now.moves course.old.away course.old.at course.old.at }
     requires own { IsOwnNext plan.now live.old old.now.to own.old }
     requires come { (a : PlanData) × (all : List Move) × (past : List Move) × (from : ℕ) × (most : ℕ) × (first : ℕ)
@@ -234,11 +252,6 @@ fn turn_at<const N: usize>(
 {
     let (_end, _len) = (plan.end(), old.len());
     if comes_first(old, course.at, own) {
-        if passes(plan, old, course.at, live) {
-            course.span.push_again(old, course.at)?;
-            course.at += 1;
-            return Ok(true);
-        }
         *own = leave(alloc, old, course, plan, live, meter)?;
         return Ok(true);
     }
@@ -276,10 +289,10 @@ fn turn<const N: usize>(
 {
     let (_end, _len) = (plan.end(), old.len());
     course.at = next_followed(old, course.at, &course.away);
-    let quiet = pass_quiet(old, course, live, own);
-    if quiet > course.at {
-        course.span.push_all_again(old, course.at, quiet)?;
-        course.at = quiet;
+    let passed = pass_on(old, course, plan, live, own);
+    if passed > course.at {
+        course.span.push_all_again(old, course.at, passed)?;
+        course.at = passed;
         return Ok(true);
     }
     turn_at(alloc, old, course, plan, live, own, meter)

@@ -1,9 +1,41 @@
-use Rattle.std.proofs.Common.{◌≡◌, List, sym, ◌∙◌, subst, arith, slice_index_or}
+use Rattle.std.proofs.Common.{◌≡◌, ◌-◌, List, ap, sym, ◌∙◌, subst, arith, slice_index, slice_index_or}
 use Rattle.std.proofs.lemmas.List.{get_or_default}
+use Rattle.pd_run.specs.Live.{LiveData}
 use Rattle.pd_keep.specs.Following.{IsPassing, HasPassed}
 use Rattle.pd_keep.specs.Kept.{KeptData, move_of}
-use Rattle.pd_keep.proofs.Following.{passing_few, passing_holds, passed_answered}
+use Rattle.pd_keep.proofs.Following.{passing_few, passing_holds, passed_answered, passed_quiet, some_kept}
 use Rattle.pd_keep.proofs.follow.passes.Goals as goal
+
+pub pass-requires : goal.pass-requires
+pass-requires g c =
+    let r = c.requires.passing in
+    let k : KeptData = slice_index_or c.args.old.now.moves c.args.at some_kept in
+    let h : IsPassing c.args.plan.now r.0 r.1 r.2 c.args.live.now k = r.3 some_kept in
+    let brief = c.requires.brief some_kept in
+    let port = brief.port in
+    let is = c.end-end.ensures.is_plan in
+    let from_one = h.own.from_one in
+    let known = h.next.first.known in
+    let count = is.settings_count in
+    let same = ap (λ p. slice_index c.args.live.now.taken (p - 1)) port in (
+      omega arith,
+      (
+        omega arith,
+        (
+          omega arith,
+          λ e.
+              let few = passing_few g.row.N c.args.plan.now r.0 r.1 r.2 c.args.live.now k is h (sym brief.event ∙ e) in
+              omega arith,
+        ),
+      ),
+    )
+
+pub returns-then-not-brief-clause-passed : goal.returns-then-not-brief-clause-passed
+returns-then-not-brief-clause-passed g c = λ _ past away whole d passing.
+    let plan = c.args.plan.now in
+    subst (λ (l : LiveData). HasPassed plan past away whole l (slice_index_or c.args.old.now.moves c.args.at d)) (sym c.pass.ensures)
+    (passed_quiet g.row.N plan past away whole c.args.live.now (slice_index_or c.args.old.now.moves c.args.at d) c.args.brief.now
+    c.end-end.ensures.is_plan passing (c.requires.brief d) c.if-not-brief.true)
 
 pub follow-requires : goal.follow-requires
 follow-requires g c =

@@ -1,6 +1,6 @@
 use Rattle.std.proofs.Common.{arith, sym, ◌∙◌}
 use Rattle.pd_keep.proofs.Following.{some_kept}
-use Rattle.pd_keep.proofs.follow.next_quiet.Goals as goal
+use Rattle.pd_keep.proofs.follow.first_followed.Goals as goal
 
 pub brief-brief-requires : goal.brief-brief-requires
 brief-brief-requires c = (c.comes_first.ensures.first c.if-comes_first.true some_kept).0
@@ -24,6 +24,5 @@ returns-then-follows c = record {
   inside = (c.comes_first.ensures.first c.if-comes_first.true some_kept).0;
   brief = c.brief-brief.ensures;
   there = sym c.follows.ensures ∙ c.if-follows.true;
-  quiet = c.if-not-brief.true;
   first = λ k. (c.comes_first.ensures.first c.if-comes_first.true k).1;
 }
