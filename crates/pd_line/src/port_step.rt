@@ -163,10 +163,10 @@ impl PortStep {
     }
 
     /// The acts of the sink, in order.
-    fn sink_acts(&mut self, mut rest: ArrayVec<SinkAct, 8>)
-        requires { length self.old.faults.items + sink_faults rest.items ≤ 8 }
-        ensures after { self.new ≡ sink_acts rest.items self.old }
-        ensures faults { length self.new.faults.items ≤ length self.old.faults.items + sink_faults rest.items }
+    fn sink_acts(&mut self, rest: &mut ArrayVec<SinkAct, 8>)
+        requires { length self.old.faults.items + sink_faults rest.old.items ≤ 8 }
+        ensures after { self.new ≡ sink_acts rest.old.items self.old }
+        ensures faults { length self.new.faults.items ≤ length self.old.faults.items + sink_faults rest.old.items }
     {
         'acts: while !rest.is_empty() {
             let next = rest.remove(0);
@@ -182,8 +182,8 @@ impl PortStep {
         ensures after { self.new ≡ sink_steps t stimulus.now self.old }
         ensures faults { length self.new.faults.items ≤ length self.old.faults.items + 1 }
     {
-        let acts = self.port.sink.step(t, stimulus);
-        self.sink_acts(acts);
+        let mut acts = self.port.sink.step(t, stimulus);
+        self.sink_acts(&mut acts);
     }
 
     /// An act of the plug.
@@ -200,8 +200,8 @@ impl PortStep {
     }
 
     /// The acts of the plug, in order.
-    fn plug_acts(&mut self, mut rest: ArrayVec<PlugAct, 8>)
-        ensures after { self.new ≡ plug_acts rest.items self.old }
+    fn plug_acts(&mut self, rest: &mut ArrayVec<PlugAct, 8>)
+        ensures after { self.new ≡ plug_acts rest.old.items self.old }
         ensures faults { self.new.faults ≡ self.old.faults }
     {
         'acts: while !rest.is_empty() {
@@ -217,8 +217,8 @@ impl PortStep {
         ensures after { self.new ≡ plug_steps t stimulus.now self.old }
         ensures faults { self.new.faults ≡ self.old.faults }
     {
-        let acts = self.port.plug.step(t, stimulus);
-        self.plug_acts(acts);
+        let mut acts = self.port.plug.step(t, stimulus);
+        self.plug_acts(&mut acts);
     }
 
     /// An act of the source.
@@ -242,11 +242,11 @@ impl PortStep {
     }
 
     /// The acts of the source, in order.
-    fn source_acts(&mut self, t: u64, mut rest: ArrayVec<SourceAct, 8>)
+    fn source_acts(&mut self, t: u64, rest: &mut ArrayVec<SourceAct, 8>)
         requires time { t ≤ LAST_TIME }
-        requires room { length self.old.faults.items + source_faults rest.items ≤ 8 }
-        ensures after { self.new ≡ source_acts t rest.items self.old }
-        ensures faults { length self.new.faults.items ≤ length self.old.faults.items + source_faults rest.items }
+        requires room { length self.old.faults.items + source_faults rest.old.items ≤ 8 }
+        ensures after { self.new ≡ source_acts t rest.old.items self.old }
+        ensures faults { length self.new.faults.items ≤ length self.old.faults.items + source_faults rest.old.items }
     {
         'acts: while !rest.is_empty() {
             let next = rest.remove(0);
@@ -262,8 +262,8 @@ impl PortStep {
         ensures after { self.new ≡ source_steps t stimulus.now self.old }
         ensures faults { length self.new.faults.items ≤ length self.old.faults.items + 2 }
     {
-        let acts = self.port.source.step(t, stimulus, self.answer.take());
-        self.source_acts(t, acts);
+        let mut acts = self.port.source.step(t, stimulus, self.answer.take());
+        self.source_acts(t, &mut acts);
     }
 
     /// What a side has sent has reached its receiver.

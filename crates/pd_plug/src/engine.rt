@@ -1,6 +1,6 @@
 //! The engine: what it keeps, and its steps.
 
-ghost use Rattle.std.specs.Prelude.{◌≡◌, ◌≤◌, ◌<◌, ◌+◌, ◌++◌, ◌↔◌, IsTrue, length};
+ghost use Rattle.std.specs.Prelude.{◌≡◌, ◌≤◌, ◌<◌, ◌+◌, ◌++◌, ◌↔◌, [], IsTrue, length};
 ghost use Rattle.arrayvec.specs.ArrayVec.{array_vec_len};
 ghost use Rattle.pd_timers.specs.Deadlines.{first_of};
 ghost use Rattle.pd_plug.specs.Record.{off};
@@ -75,7 +75,9 @@ impl Plug {
     {
         self.arrive(stimulus);
         let deeds = choose(self.state, *stimulus, self.facts());
-        self.run(deeds, now)
+        let mut acts = ArrayVec::new();
+        self.run(deeds, now, &mut acts);
+        acts
     }
 
     /// A timer that falls due has ended, Sent sets the mark, and a cable that is attached is known.
@@ -118,19 +120,18 @@ impl Plug {
         }
     }
 
-    /// Takes the acts of a row, in order.
-    fn run(&mut self, deeds: &[Deed], now: u64) -> ArrayVec<Act, 8>
+    /// Takes the acts of a row, in order; what it wants is put in an empty place.
+    fn run(&mut self, deeds: &[Deed], now: u64, acts: &mut ArrayVec<Act, 8>)
         requires time { now ≤ LAST_TIME }
         requires few { length deeds.now ≤ 6 }
+        requires none { acts.old.items ≡ [] }
         ensures after { self.new ≡ all_after deeds.now now self.old }
-        ensures acts { result.items ≡ all_wants deeds.now now self.old }
-        ensures few { length result.items ≤ 6 }
+        ensures acts { acts.new.items ≡ all_wants deeds.now now self.old }
+        ensures few { length acts.new.items ≤ 6 }
     {
-        let mut acts = ArrayVec::new();
         for deed in deeds {
-            self.take(*deed, now, &mut acts);
+            self.take(*deed, now, acts);
         }
-        acts
     }
 
     /// Takes one act of a row.

@@ -1,6 +1,6 @@
 //! The engine: what it keeps, and its steps.
 
-ghost use Rattle.std.specs.Prelude.{◌≡◌, ◌≤◌, ◌<◌, ◌+◌, ◌++◌, ◌↔◌, IsTrue, IfSome, length, option_to_list};
+ghost use Rattle.std.specs.Prelude.{◌≡◌, ◌≤◌, ◌<◌, ◌+◌, ◌++◌, ◌↔◌, [], IsTrue, IfSome, length, option_to_list};
 ghost use Rattle.arrayvec.specs.ArrayVec.{array_vec_len};
 ghost use Rattle.pd_timers.specs.Deadlines.{first_of};
 ghost use Rattle.pd_timers.specs.SinkDeadlines.{timer_of};
@@ -155,19 +155,22 @@ impl Sink {
         ensures few { length result.items ≤ 6 }
         ensures few_faults { fault_count result.items ≤ 1 }
     {
-        self.take_row(now, stimulus)
+        let mut acts = ArrayVec::new();
+        self.take_row(now, stimulus, &mut acts);
+        acts
     }
 
-    /// Takes the first row that fits.
-    fn take_row(&mut self, now: u64, stimulus: &Stimulus) -> ArrayVec<Act, 8>
-        requires { now ≤ LAST_TIME }
+    /// Takes the first row that fits; its acts are put in an empty place.
+    fn take_row(&mut self, now: u64, stimulus: &Stimulus, acts: &mut ArrayVec<Act, 8>)
+        requires time { now ≤ LAST_TIME }
+        requires none { acts.old.items ≡ [] }
         ensures after { self.new ≡ stepped now stimulus.now self.old }
-        ensures acts { result.items ≡ acts_of now stimulus.now self.old }
-        ensures few { length result.items ≤ 6 }
+        ensures acts { acts.new.items ≡ acts_of now stimulus.now self.old }
+        ensures few { length acts.new.items ≤ 6 }
     {
         self.arrive(stimulus);
         let deeds = choose(self.state, stimulus, self.facts());
-        self.run(deeds, now, stimulus)
+        self.run(deeds, now, stimulus, acts);
     }
 
     /// A timer that falls due has ended, Sent sets the mark, and a sink that is attached is known.
@@ -199,19 +202,18 @@ impl Sink {
         }
     }
 
-    /// Takes the acts of a row, in order.
-    fn run(&mut self, deeds: &[Deed], now: u64, stimulus: &Stimulus) -> ArrayVec<Act, 8>
+    /// Takes the acts of a row, in order; what it wants is put in an empty place.
+    fn run(&mut self, deeds: &[Deed], now: u64, stimulus: &Stimulus, acts: &mut ArrayVec<Act, 8>)
         requires time { now ≤ LAST_TIME }
         requires few { length deeds.now ≤ 6 }
+        requires none { acts.old.items ≡ [] }
         ensures after { self.new ≡ all_after deeds.now now stimulus.now self.old }
-        ensures acts { result.items ≡ all_wants deeds.now now stimulus.now self.old }
-        ensures few { length result.items ≤ 6 }
+        ensures acts { acts.new.items ≡ all_wants deeds.now now stimulus.now self.old }
+        ensures few { length acts.new.items ≤ 6 }
     {
-        let mut acts = ArrayVec::new();
         for deed in deeds {
-            self.take(*deed, now, stimulus, &mut acts);
+            self.take(*deed, now, stimulus, acts);
         }
-        acts
     }
 
     /// Takes one act of a row.

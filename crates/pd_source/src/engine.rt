@@ -185,25 +185,29 @@ impl Source {
         ensures few { length result.items ≤ 6 }
         ensures few_faults { fault_count result.items ≤ 2 }
     {
-        self.take_row(now, stimulus, answer)
+        let mut acts = ArrayVec::new();
+        self.take_row(now, stimulus, answer, &mut acts);
+        acts
     }
 
-    /// Takes the first row that fits.
+    /// Takes the first row that fits; its acts are put in an empty place.
     #[tactic(auto, unfolding(crate::specs::Step::stepped, crate::specs::Step::acts_of))]
     fn take_row(
         &mut self,
         now: u64,
         stimulus: &Stimulus,
         answer: Option<Answer>,
-    ) -> ArrayVec<Act, 8>
-        requires { now ≤ LAST_TIME }
+        acts: &mut ArrayVec<Act, 8>,
+    )
+        requires time { now ≤ LAST_TIME }
+        requires none { acts.old.items ≡ [] }
         ensures after { self.new ≡ with_record self.old (stepped self.old.settings now stimulus.now answer self.old.record) }
-        ensures acts { result.items ≡ acts_of self.old.settings now stimulus.now answer self.old.record }
-        ensures few { length result.items ≤ 6 }
+        ensures acts { acts.new.items ≡ acts_of self.old.settings now stimulus.now answer self.old.record }
+        ensures few { length acts.new.items ≤ 6 }
     {
         self.arrive(stimulus);
         let deeds = self.deeds(self.sent, stimulus, &answer);
-        self.run(deeds, now, stimulus, &answer)
+        self.run(deeds, now, stimulus, &answer, acts);
     }
 
     /// A timer that falls due has ended, and Sent sets the mark.
@@ -217,26 +221,26 @@ impl Source {
         }
     }
 
-    /// Takes the acts of a row, in order.
+    /// Takes the acts of a row, in order; what it wants is put in an empty place.
     fn run(
         &mut self,
         deeds: &[Deed],
         now: u64,
         stimulus: &Stimulus,
         answer: &Option<Answer>,
-    ) -> ArrayVec<Act, 8>
+        acts: &mut ArrayVec<Act, 8>,
+    )
         requires time { now ≤ LAST_TIME }
         requires few { length deeds.now ≤ 6 }
+        requires none { acts.old.items ≡ [] }
         ensures after { self.new ≡ with_record self.old
             (all_after self.old.settings deeds.now now stimulus.now answer.now self.old.record) }
-        ensures acts { result.items ≡ all_wants self.old.settings deeds.now now stimulus.now answer.now self.old.record }
-        ensures few { length result.items ≤ 6 }
+        ensures acts { acts.new.items ≡ all_wants self.old.settings deeds.now now stimulus.now answer.now self.old.record }
+        ensures few { length acts.new.items ≤ 6 }
     {
-        let mut acts = ArrayVec::new();
         for deed in deeds {
-            self.take(*deed, now, stimulus, answer, &mut acts);
+            self.take(*deed, now, stimulus, answer, acts);
         }
-        acts
     }
 
     /// Takes one act of a row.

@@ -13,4 +13,4 @@ pub returns-clause-acts : goal.returns-clause-acts
 returns-clause-acts c =
     acts-taken c.args.self.now c.arrive.new.self c.args.now c.args.stimulus.now c.self.inside.state c.facts.result
     c.choose-deeds.result.now c.arrive.ensures (ap (λ (r : SinkRecord). r.state) c.self.view_is) c.facts.ensures
-    c.choose-deeds.ensures.deeds c.run.result.items c.run.ensures.acts
+    c.choose-deeds.ensures.deeds c.run.new.acts.items c.run.ensures.acts

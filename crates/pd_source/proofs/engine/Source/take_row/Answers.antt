@@ -11,6 +11,6 @@ returns-clause-after c =
 
 pub returns-clause-acts : goal.returns-clause-acts
 returns-clause-acts c =
-    acts-taken c.args.self.now c.arrive.new.self c.run.result.items c.args.now c.args.stimulus.now c.args.answer c.self.inside.sent
+    acts-taken c.args.self.now c.arrive.new.self c.run.new.acts.items c.args.now c.args.stimulus.now c.args.answer c.self.inside.sent
     c.deeds-deeds.result.now
     c.arrive.ensures (ap (λ (d : SourceData). d.record.sent) c.self.view_is) c.deeds-deeds.ensures.value c.run.ensures.acts
