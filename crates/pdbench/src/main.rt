@@ -5,18 +5,15 @@ mod check;
 mod decode;
 mod fault;
 mod run;
-mod words;
 
 use check::check;
-use clap::ArgMatches;
-use clap::error::ErrorKind;
 use decode::decode;
+use pd_words::{Task, WordsFault, read_task};
 use run::run;
 use std::alloc::{AllocError, Global};
 use std::process::ExitCode;
 use std::rt::{Env, Files};
 use std::{env, io};
-use words::command;
 
 /// How the program ends.
 #[derive(Clone, Copy, Debug, PartialEq, Eq)]
@@ -42,50 +39,29 @@ impl Ending {
     }
 }
 
-/// Tells that the words of the command line are wrong, or that there was no memory to read them.
-fn refuse_words(rt: &impl Eprint, kind: ErrorKind) -> Ending {
-    if kind == ErrorKind::OutOfMemory {
-        let _ = eprintln!(rt; "fault 42");
-        return Ending::Fault;
-    }
-    let _ = eprintln!(rt; "usage: pdbench run SCENARIO EDITS | check SCENARIO | decode SYMBOLS");
-    Ending::Usage
-}
-
-/// Does what a command says, by the words behind it.
-fn follow<R: Files + Print + Eprint + Alloc<A = Global>>(
-    rt: &R,
-    name: &str,
-    matches: &ArgMatches,
-) -> Ending {
-    match name {
-        "decode" => match matches.get_str("SYMBOLS") {
-            Some(symbols) => decode(rt, symbols),
-            None => refuse_words(rt, ErrorKind::MissingRequiredArgument),
-        },
-        "check" => match matches.get_str("SCENARIO") {
-            Some(scenario) => check(rt, scenario),
-            None => refuse_words(rt, ErrorKind::MissingRequiredArgument),
-        },
-        _ => match (matches.get_str("SCENARIO"), matches.get_str("EDITS")) {
-            (Some(scenario), Some(edits)) => run(rt, scenario, edits),
-            _ => refuse_words(rt, ErrorKind::MissingRequiredArgument),
-        },
+/// Tells why the words of the command line ask for nothing.
+fn refuse_words(rt: &impl Eprint, fault: WordsFault) -> Ending {
+    match fault {
+        WordsFault::Usage => {
+            let _ = eprintln!(rt;
+                "usage: pdbench run SCENARIO EDITS | check SCENARIO | decode SYMBOLS"
+            );
+            Ending::Usage
+        }
+        WordsFault::Memory => {
+            let _ = eprintln!(rt; "fault 42");
+            Ending::Fault
+        }
     }
 }
 
-/// Does what the words of the command line say.
+/// Does what the words of the command line ask for.
 fn obey<R: Files + Print + Eprint + Alloc<A = Global>>(rt: &R, words: &[String]) -> Ending {
-    let Ok(command) = command(rt.alloc()) else {
-        return refuse_words(rt, ErrorKind::OutOfMemory);
-    };
-    let matches = match command.try_get_matches_from(words) {
-        Ok(matches) => matches,
-        Err(error) => return refuse_words(rt, error.kind()),
-    };
-    match matches.subcommand() {
-        Some((name, matches)) => follow(rt, name, matches),
-        None => refuse_words(rt, ErrorKind::MissingSubcommand),
+    match read_task(rt.alloc(), words) {
+        Ok(Task::Run { scenario, edits }) => run(rt, scenario, edits),
+        Ok(Task::Check { scenario }) => check(rt, scenario),
+        Ok(Task::Decode { symbols }) => decode(rt, symbols),
+        Err(fault) => refuse_words(rt, fault),
     }
 }
 
@@ -94,14 +70,14 @@ fn bench<R: Files + Print + Eprint + Env + Alloc<A = Global>>(rt: &R) -> Ending 
     let arguments = match env::args(rt) {
         Ok(arguments) => arguments,
         Err(error) if error.kind() == io::ErrorKind::OutOfMemory => {
-            return refuse_words(rt, ErrorKind::OutOfMemory);
+            return refuse_words(rt, WordsFault::Memory);
         }
-        Err(_) => return refuse_words(rt, ErrorKind::UnknownArgument),
+        Err(_) => return refuse_words(rt, WordsFault::Usage),
     };
     let words: Result<Vec<String>, AllocError> = arguments.collect(rt.alloc());
     match words {
         Ok(words) => obey(rt, words.as_slice()),
-        Err(_) => refuse_words(rt, ErrorKind::OutOfMemory),
+        Err(_) => refuse_words(rt, WordsFault::Memory),
     }
 }
 

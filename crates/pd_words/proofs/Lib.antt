@@ -1,0 +1,6 @@
+pub mod CommandLines
+pub mod FoundTask
+pub mod Leaves
+pub mod OneWord
+pub mod Stages
+pub mod TaskLemmas
