@@ -67,7 +67,7 @@ impl SharedPort {
         ensures { IsTrue result ↔ (self.now ≡ other.now) }
     {
         let port = self.port();
-        port.settings().same(other.settings()) && port.same(other)
+        port.same(other) && port.settings().same(other.settings())
     }
 
     /// What the port asks of the shared budget before the step for this due.
