@@ -1,12 +1,16 @@
-//! Sessions in which some growth is refused.
+//! Sessions in which some growth is refused. The scenario is read before: a growth that is refused there fails the test, since no
+//! session is reached then.
 
-use crate::devices::Page;
-use crate::scenarios::{ALL, PHONE, run_script};
+use crate::devices::{Page, Script};
+use crate::scenarios::{ALL, PHONE, session_of};
 use pd_bench::Tally;
 use pd_device::BenchFault;
 use pd_keep::Kept;
 use pd_run::{Plain, Runner};
+use pd_scenario::Scenario;
+use pd_scenario_text::scenario_from_text;
 use std::alloc::Global;
+use std::test::Fail;
 
 const LOSS: &[u8] = b"show transcript 1
 insert 2 58800 1 lose
@@ -46,8 +50,13 @@ const SHOWN_WITH_LOSS: &[u8] = b"= transcript 1
 ";
 
 /// A session over an edit between two shows.
-fn run<T: Runner<1> + Drop>(alloc: Global, page: &mut Page) -> Result<Tally, BenchFault> {
-    run_script::<1, T>(alloc, PHONE, LOSS, page)
+fn run<T: Runner<1> + Drop>(
+    alloc: Global,
+    scenario: Scenario<1>,
+    page: &mut Page,
+) -> Result<Tally, BenchFault> {
+    let mut reader = Script::new(LOSS, ALL, 0);
+    session_of::<1, T, Script, Page>(alloc, scenario, &mut reader, page)
 }
 
 /// Whether a text is made of these parts.
@@ -64,9 +73,9 @@ fn is_made_of(text: &[u8], parts: &[&[u8]]) -> bool {
 
 /// Whether the session fails for want of memory and writes nothing, refuses the edit for it and shows the same run twice,
 /// or makes the edit.
-fn is_answered<T: Runner<1> + Drop>(alloc: Global) -> bool {
+fn is_answered<T: Runner<1> + Drop>(alloc: Global, scenario: Scenario<1>) -> bool {
     let mut page = Page::new(ALL, 0, false);
-    match run::<T>(alloc, &mut page) {
+    match run::<T>(alloc, scenario, &mut page) {
         Err(fault) => fault == BenchFault::Memory && page.text().is_empty(),
         Ok(tally) if tally.refused == 1 => {
             let done: &[u8] = b"done 0 edits 1 refused 2 shows\n";
@@ -81,23 +90,30 @@ fn is_answered<T: Runner<1> + Drop>(alloc: Global) -> bool {
 
 /// Whatever growth is refused, the answer is one of the three: `rt try --test --fail-alloc N` for N from 1 on.
 #[test]
-fn edit_without_memory(rt: HostRuntime) {
-    assert!(rt; is_answered::<Plain<1>>(rt.alloc()));
+fn edit_without_memory(rt: HostRuntime) -> Result<(), Fail> {
+    let scenario = scenario_from_text::<1>(rt.alloc(), PHONE)?;
+    assert!(rt; is_answered::<Plain<1>>(rt.alloc(), scenario));
+    Ok(())
 }
 
 /// Nor does the runner that keeps its moves answer otherwise.
 #[test]
-fn edit_without_memory_of_kept_moves(rt: HostRuntime) {
-    assert!(rt; is_answered::<Kept<1>>(rt.alloc()));
+fn edit_without_memory_of_kept_moves(rt: HostRuntime) -> Result<(), Fail> {
+    let scenario = scenario_from_text::<1>(rt.alloc(), PHONE)?;
+    assert!(rt; is_answered::<Kept<1>>(rt.alloc(), scenario));
+    Ok(())
 }
 
 /// With memory enough the edit is made.
 #[test]
-fn edit_with_memory(rt: HostRuntime) {
+fn edit_with_memory(rt: HostRuntime) -> Result<(), Fail> {
+    let scenario = scenario_from_text::<1>(rt.alloc(), PHONE)?;
     let mut page = Page::new(ALL, 0, false);
-    let plain = run::<Plain<1>>(rt.alloc(), &mut page);
+    let plain = run::<Plain<1>>(rt.alloc(), scenario, &mut page);
     assert!(rt; plain.is_ok_and(|tally| tally.edits == 1));
+    let scenario = scenario_from_text::<1>(rt.alloc(), PHONE)?;
     let mut page = Page::new(ALL, 0, false);
-    let kept = run::<Kept<1>>(rt.alloc(), &mut page);
+    let kept = run::<Kept<1>>(rt.alloc(), scenario, &mut page);
     assert!(rt; kept.is_ok_and(|tally| tally.edits == 1));
+    Ok(())
 }

@@ -7,6 +7,7 @@ use pd_bench::{Tally, session};
 use pd_device::{BenchFault, TextIn, TextOut};
 use pd_port::Meter;
 use pd_run::Runner;
+use pd_scenario::Scenario;
 use pd_scenario_text::scenario_from_text;
 use std::alloc::Global;
 
@@ -123,7 +124,22 @@ event = [
 /// As many bytes a call as any text of these tests has.
 pub(crate) const ALL: usize = 600;
 
-/// A session over the scenario of a text, with a new runner.
+/// A session over a scenario, with a new runner.
+pub(crate) fn session_of<const N: usize, T: Runner<N> + Drop, R: TextIn, W: TextOut>(
+    alloc: Global,
+    scenario: Scenario<N>,
+    reader: &mut R,
+    writer: &mut W,
+) -> Result<Tally, BenchFault>
+    requires from_one { 1 ≤ N }
+    requires to_eight { N ≤ 8 }
+{
+    let mut runner = T::empty(alloc);
+    let mut meter = Meter::new();
+    session(alloc, scenario, &mut runner, reader, writer, &mut meter)
+}
+
+/// The same over the scenario of a text.
 pub(crate) fn run_session<const N: usize, T: Runner<N> + Drop, R: TextIn, W: TextOut>(
     alloc: Global,
     text: &[u8],
@@ -136,9 +152,7 @@ pub(crate) fn run_session<const N: usize, T: Runner<N> + Drop, R: TextIn, W: Tex
     let Ok(scenario) = scenario_from_text::<N>(alloc, text) else {
         return Err(BenchFault::Memory);
     };
-    let mut runner = T::empty(alloc);
-    let mut meter = Meter::new();
-    session(alloc, scenario, &mut runner, reader, writer, &mut meter)
+    session_of::<N, T, R, W>(alloc, scenario, reader, writer)
 }
 
 /// A session over a script that is read at once.

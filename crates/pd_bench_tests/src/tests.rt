@@ -1,10 +1,11 @@
 //! Sessions of the scenario `FIRST`: their lines, their devices and their memory.
 
 use crate::devices::{Endless, Page, Script};
-use crate::scenarios::{ALL, FIRST, run_session};
+use crate::scenarios::{ALL, FIRST, run_session, session_of};
 use pd_bench::Tally;
 use pd_device::{BenchFault, TextIn};
 use pd_run::Plain;
+use pd_scenario_text::scenario_from_text;
 use std::alloc::Global;
 use std::test::*;
 
@@ -127,11 +128,13 @@ refused 30
 done 0 edits 1 refused 2 shows
 ";
 
-/// Whatever allocation fails, the answer is one of these: `rt try --test --fail-alloc N` for N from 1 on.
+/// Whatever allocation of the session fails, the answer is one of these: `rt try --test --fail-alloc N` for N from 1 on. One that fails
+/// while the scenario is read fails the test, since no session is reached then.
 #[test]
 fn answers_without_memory(rt: HostRuntime) -> Result<(), Fail> {
-    let mut page = Page::new(ALL, 0, false);
-    match run(rt.alloc(), &mut Script::new(SHORT, ALL, 0), &mut page) {
+    let scenario = scenario_from_text::<1>(rt.alloc(), FIRST)?;
+    let (mut reader, mut page) = (Script::new(SHORT, ALL, 0), Page::new(ALL, 0, false));
+    match session_of::<1, Plain<1>, Script, Page>(rt.alloc(), scenario, &mut reader, &mut page) {
         Err(fault) => {
             assert_eq!(rt; fault, BenchFault::Memory);
             assert_eq!(rt; page.text().len(), 0);

@@ -6,6 +6,7 @@ use pd_edit_lines::Line;
 use pd_keep::Kept;
 use pd_port::Meter;
 use pd_run::{Plain, Runner};
+use pd_scenario::Scenario;
 use pd_scenario_text::scenario_from_text;
 use std::alloc::Global;
 use std::test::*;
@@ -222,35 +223,42 @@ fn is_run<T: Runner<1>>(runner: &T, first_times: &[u64], count: usize) -> bool {
     runner.len() == count
 }
 
+/// The scenario after the edit of a line.
+fn edited(alloc: Global, scenario: &Scenario<1>, line: &[u8]) -> Result<Scenario<1>, Fail> {
+    match Line::read(line)? {
+        Line::Edit(edit) => Ok(apply(alloc, scenario, &edit)?),
+        _ => Err("the line is no edit")?,
+    }
+}
+
 /// Whether a runner stands for the edited scenario, or, where there is no memory, for the scenario before.
-fn replaces_or_stays<T: Runner<1> + Drop>(alloc: Global) -> bool {
-    let Ok(scenario) = scenario_from_text::<1>(alloc, PHONE) else {
-        return true;
-    };
-    let Ok(Line::Edit(edit)) = Line::read(b"insert 2 58800 1 lose") else {
-        return false;
-    };
-    let Ok(edited) = apply(alloc, &scenario, &edit) else {
-        return true;
-    };
+fn replaces_or_stays<T: Runner<1> + Drop>(
+    alloc: Global,
+    scenario: &Scenario<1>,
+    edited: &Scenario<1>,
+) -> bool {
     let mut meter = Meter::new();
     let mut runner = T::empty(alloc);
-    let first = match runner.replace(alloc, &scenario, &mut meter) {
+    let first = match runner.replace(alloc, scenario, &mut meter) {
         Ok(()) => 263,
         Err(_) => 0,
     };
     if !is_run(&runner, &FIRST_MOVES, first) {
         return false;
     }
-    match runner.replace(alloc, &edited, &mut meter) {
+    match runner.replace(alloc, edited, &mut meter) {
         Ok(()) => is_run(&runner, &MOVES_AFTER_LOSS, 268),
         Err(_) => is_run(&runner, &FIRST_MOVES, first),
     }
 }
 
-/// Here each growth may be refused in turn.
+/// Here each growth of `replace` may be refused in turn. One that is refused before, while the scenario is read or edited, fails the
+/// test, since no runner is reached then.
 #[test]
-fn edited_run_or_no_memory(rt: HostRuntime) {
-    assert!(rt; replaces_or_stays::<Kept<1>>(rt.alloc()));
-    assert!(rt; replaces_or_stays::<Plain<1>>(rt.alloc()));
+fn edited_run_or_no_memory(rt: HostRuntime) -> Result<(), Fail> {
+    let scenario = scenario_from_text::<1>(rt.alloc(), PHONE)?;
+    let edited = edited(rt.alloc(), &scenario, b"insert 2 58800 1 lose")?;
+    assert!(rt; replaces_or_stays::<Kept<1>>(rt.alloc(), &scenario, &edited));
+    assert!(rt; replaces_or_stays::<Plain<1>>(rt.alloc(), &scenario, &edited));
+    Ok(())
 }
