@@ -186,28 +186,29 @@ impl Source {
         ensures few_faults { fault_count result.items ≤ 2 }
     {
         let mut acts = ArrayVec::new();
-        self.take_row(now, stimulus, answer, &mut acts);
+        self.step_into(now, stimulus, &answer, &mut acts);
         acts
     }
 
-    /// Takes the first row that fits; its acts are put in an empty place.
+    /// The same, with its acts put in an empty place.
     #[tactic(auto, unfolding(crate::specs::Step::stepped, crate::specs::Step::acts_of))]
-    fn take_row(
+    pub fn step_into(
         &mut self,
         now: u64,
         stimulus: &Stimulus,
-        answer: Option<Answer>,
+        answer: &Option<Answer>,
         acts: &mut ArrayVec<Act, 8>,
     )
         requires time { now ≤ LAST_TIME }
         requires none { acts.old.items ≡ [] }
-        ensures after { self.new ≡ with_record self.old (stepped self.old.settings now stimulus.now answer self.old.record) }
-        ensures acts { acts.new.items ≡ acts_of self.old.settings now stimulus.now answer self.old.record }
+        ensures after { self.new ≡ with_record self.old (stepped self.old.settings now stimulus.now answer.now self.old.record) }
+        ensures acts { acts.new.items ≡ acts_of self.old.settings now stimulus.now answer.now self.old.record }
         ensures few { length acts.new.items ≤ 6 }
+        ensures few_faults { fault_count acts.new.items ≤ 2 }
     {
         self.arrive(stimulus);
-        let deeds = self.deeds(self.sent, stimulus, &answer);
-        self.run(deeds, now, stimulus, &answer, acts);
+        let deeds = self.deeds(self.sent, stimulus, answer);
+        self.run(deeds, now, stimulus, answer, acts);
     }
 
     /// A timer that falls due has ended, and Sent sets the mark.
