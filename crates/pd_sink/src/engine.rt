@@ -156,17 +156,18 @@ impl Sink {
         ensures few_faults { fault_count result.items ≤ 1 }
     {
         let mut acts = ArrayVec::new();
-        self.take_row(now, stimulus, &mut acts);
+        self.step_into(now, stimulus, &mut acts);
         acts
     }
 
-    /// Takes the first row that fits; its acts are put in an empty place.
-    fn take_row(&mut self, now: u64, stimulus: &Stimulus, acts: &mut ArrayVec<Act, 8>)
+    /// The same, with its acts put in an empty place.
+    pub fn step_into(&mut self, now: u64, stimulus: &Stimulus, acts: &mut ArrayVec<Act, 8>)
         requires time { now ≤ LAST_TIME }
         requires none { acts.old.items ≡ [] }
         ensures after { self.new ≡ stepped now stimulus.now self.old }
         ensures acts { acts.new.items ≡ acts_of now stimulus.now self.old }
         ensures few { length acts.new.items ≤ 6 }
+        ensures few_faults { fault_count acts.new.items ≤ 1 }
     {
         self.arrive(stimulus);
         let deeds = choose(self.state, stimulus, self.facts());
