@@ -66,18 +66,29 @@ impl Plug {
     }
 
     /// One step at a time in microseconds: the first row that fits, and its acts.
-    #[tactic(auto, unfolding(crate::specs::Step::stepped, crate::specs::Step::acts_of))]
     pub fn step(&mut self, now: u64, stimulus: &Stimulus) -> ArrayVec<Act, 8>
         requires { now ≤ LAST_TIME }
         ensures after { self.new ≡ stepped now stimulus.now self.old }
         ensures acts { result.items ≡ acts_of now stimulus.now self.old }
         ensures few { length result.items ≤ 6 }
     {
+        let mut acts = ArrayVec::new();
+        self.step_into(now, stimulus, &mut acts);
+        acts
+    }
+
+    /// The same, with its acts put in an empty place.
+    #[tactic(auto, unfolding(crate::specs::Step::stepped, crate::specs::Step::acts_of))]
+    pub fn step_into(&mut self, now: u64, stimulus: &Stimulus, acts: &mut ArrayVec<Act, 8>)
+        requires time { now ≤ LAST_TIME }
+        requires none { acts.old.items ≡ [] }
+        ensures after { self.new ≡ stepped now stimulus.now self.old }
+        ensures acts { acts.new.items ≡ acts_of now stimulus.now self.old }
+        ensures few { length acts.new.items ≤ 6 }
+    {
         self.arrive(stimulus);
         let deeds = choose(self.state, *stimulus, self.facts());
-        let mut acts = ArrayVec::new();
-        self.run(deeds, now, &mut acts);
-        acts
+        self.run(deeds, now, acts);
     }
 
     /// A timer that falls due has ended, Sent sets the mark, and a cable that is attached is known.
