@@ -216,16 +216,17 @@ impl PortParts {
             && self.plug_waits.same(&other.plug_waits)
     }
 
-    /// Whether both records are the same, whatever their sources are set to.
+    /// Whether both records are the same, whatever their sources are set to. What differs most often is compared first: mostly
+    /// disturbances that wait.
     pub fn same(&self, other: &PortParts) -> bool
         ensures { IsTrue result ↔ (without_settings self.now ≡ without_settings other.now) }
     {
-        self.cable == other.cable
-            && self.same_engines(other)
-            && self.same_layers(other)
-            && self.same_waiting(other)
+        same_disturbances(self.disturbances.as_slice(), other.disturbances.as_slice())
             && self.line.same(&other.line)
-            && same_disturbances(self.disturbances.as_slice(), other.disturbances.as_slice())
+            && self.cable == other.cable
+            && self.same_waiting(other)
+            && self.same_layers(other)
+            && self.same_engines(other)
     }
 
     /// A copy of all parts, with what the source is set to.
