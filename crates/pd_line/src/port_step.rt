@@ -54,11 +54,11 @@ impl PortStep {
     ghost use Rattle.pd_line.specs.PortStep.{tells_timer, tells_attach};
 
     /// A port on which no step is under way.
-    pub fn at_rest(port: PortParts) -> PortStep
-        ensures { result ≡ at_rest port }
+    pub fn at_rest(port: &PortParts) -> PortStep
+        ensures { result ≡ at_rest port.now }
     {
         PortStep {
-            port,
+            port: *port,
             answer: None,
             faults: ArrayVec::new(),
             start: None,

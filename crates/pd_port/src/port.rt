@@ -173,7 +173,7 @@ impl Port {
         ensures meter { meter.new ≡ raised meter.old 1 }
     {
         meter.rise();
-        let mut step = PortStep::at_rest(before.parts);
+        let mut step = PortStep::at_rest(&before.parts);
         give(&mut step, answer);
         happens(&mut step, &before.settings, &due.what, due.time);
         step.line_starts(due.time);
