@@ -182,7 +182,8 @@ impl PortStep {
         ensures after { self.new ≡ sink_steps t stimulus.now self.old }
         ensures faults { length self.new.faults.items ≤ length self.old.faults.items + 1 }
     {
-        let mut acts = self.port.sink.step(t, stimulus);
+        let mut acts = ArrayVec::new();
+        self.port.sink.step_into(t, stimulus, &mut acts);
         self.sink_acts(&mut acts);
     }
 
@@ -217,7 +218,8 @@ impl PortStep {
         ensures after { self.new ≡ plug_steps t stimulus.now self.old }
         ensures faults { self.new.faults ≡ self.old.faults }
     {
-        let mut acts = self.port.plug.step(t, stimulus);
+        let mut acts = ArrayVec::new();
+        self.port.plug.step_into(t, stimulus, &mut acts);
         self.plug_acts(&mut acts);
     }
 
@@ -262,7 +264,11 @@ impl PortStep {
         ensures after { self.new ≡ source_steps t stimulus.now self.old }
         ensures faults { length self.new.faults.items ≤ length self.old.faults.items + 2 }
     {
-        let mut acts = self.port.source.step(t, stimulus, self.answer.take());
+        let mut acts = ArrayVec::new();
+        self.port
+            .source
+            .step_into(t, stimulus, &self.answer, &mut acts);
+        self.answer = None;
         self.source_acts(t, &mut acts);
     }
 
