@@ -1,4 +1,5 @@
 pub mod Beside
+pub mod ByTime
 pub mod Cost
 pub mod Held
 pub mod Laws

@@ -2,6 +2,7 @@
 #![tactic(auto)]
 
 mod beside;
+mod changes;
 mod had;
 pub mod laws;
 mod live;

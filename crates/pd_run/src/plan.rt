@@ -6,8 +6,9 @@ ghost use Rattle.pd_scenario.specs.Plan.{IsPlan, settings_of, script_of, floors_
 ghost use Rattle.pd_scenario.specs.Plans.{plan_of};
 ghost use Rattle.pd_run.specs.Start.{start_of};
 
+use crate::changes::Changes;
 use pd_port::Port;
-use pd_scenario::{BudgetChange, Scenario, last_change_by};
+use pd_scenario::{BudgetChange, Scenario};
 use pd_setup::{Event, Settings};
 use pd_steps::SharedPort;
 use std::alloc::{AllocError, Global};
@@ -19,7 +20,7 @@ pub struct Plan<const N: usize> {
     settings: Vec<Settings>,
     scripts: Vec<Vec<Event>>,
     budget: u64,
-    forces: Vec<BudgetChange>,
+    forces: Changes,
     end: u64,
 }
 
@@ -33,7 +34,7 @@ impl<const N: usize> Model for Plan<N> {
       settings = t.settings.items;
       scripts = map (λ v. v.items) t.scripts.items;
       budget = t.budget;
-      forces = t.forces.items;
+      forces = t.forces;
       end = t.end;
     } };
 
@@ -41,7 +42,7 @@ impl<const N: usize> Model for Plan<N> {
       settings = t.settings.items;
       scripts = map (λ v. v.items) t.scripts.items;
       budget = t.budget;
-      forces = t.forces.items;
+      forces = t.forces;
       end = t.end;
     }) };
 }
@@ -56,7 +57,7 @@ impl<const N: usize> Plan<N> {
     {
         let settings = settings_of(alloc, scenario)?;
         let scripts = scenario.scripts(alloc)?;
-        let forces = scenario.forces(alloc)?;
+        let forces = Changes::of_scenario(alloc, scenario)?;
         Ok(Plan {
             settings,
             scripts,
@@ -110,7 +111,7 @@ impl<const N: usize> Plan<N> {
         ensures force { result ≡ force self.now at }
         ensures is_plan { IsPlan N self.now }
     {
-        match last_change_by(&self.forces, at) {
+        match self.forces.last_by(at) {
             Some(change) => change.budget,
             None => self.budget,
         }
