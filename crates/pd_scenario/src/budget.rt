@@ -53,18 +53,7 @@ fn with_change(at: u64, last: Option<BudgetChange>, change: BudgetChange) -> Opt
     }
 }
 
-/// The last of the changes at or before a time: by time, and at one time by id.
-pub fn last_change_by(changes: &[BudgetChange], at: u64) -> Option<BudgetChange>
-    ensures { result ≡ last_change changes.now at }
-{
-    let mut last = None;
-    for change in changes {
-        last = with_change(at, last, *change);
-    }
-    last
-}
-
-/// The last change of the budget at or before a time.
+/// The last change of the budget at or before a time: by time, and at one time by id.
 pub(crate) fn last_change(events: &[ScenarioEvent], at: u64) -> Option<BudgetChange>
     ensures { result ≡ last_change (changes_of events.now) at }
 {

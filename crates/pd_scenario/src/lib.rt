@@ -13,7 +13,7 @@ mod scenario;
 mod scripts;
 mod words;
 
-pub use budget::{BudgetChange, last_change_by};
+pub use budget::BudgetChange;
 pub use event::{ScenarioEvent, ScenarioEventKind, ScenarioHappening, copy_kind};
 pub use floors::{are_funded, least_budget};
 pub use limits::{FIRST_MV, MOST_EVENTS, MOST_NAMES, Quantity};
