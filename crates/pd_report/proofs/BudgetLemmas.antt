@@ -1,14 +1,12 @@
 -- The budget stays from one of its changes to the next.
 use Rattle.std.proofs.Common.{◌≡◌, ℕ, suc, ◌<◌, ◌≤◌, ◌⊎◌, inl, inr, ⊎_elim, Bool, cond, leb, List, [], ◌∷◌, fold, Option, Some, None, refl}
-use Rattle.std.proofs.Common.{sym, ap, subst, ◌∙◌, arith}
+use Rattle.std.proofs.Common.{sym, ap, ◌∙◌, arith}
 use Rattle.std.specs.Prelude.{Contains, IfSome, ◌&&◌}
 use Rattle.std.specs.List.{AllByRecursion}
 use Rattle.std.proofs.lemmas.Bool.{le-leb, lt-leb}
 use Rattle.pd_scenario.specs.NextChange.{IsNextChange}
 use Rattle.pd_scenario.specs.Plan.{Plan, force, with_change, budget_after, is_later}
 use Rattle.pd_scenario.specs.declared.budget.BudgetChange.{BudgetChange}
-use Rattle.pd_report.specs.declared.walk.Walk.{Walk}
-use Rattle.pd_report.specs.Walk.{KnowsBudget}
 
 all-of : {X : Type 0} (P : X → Type 0) (xs : List X) → ((x : X) → Contains xs x → P x) → AllByRecursion P xs
 all-of P [] h = tt
@@ -49,22 +47,6 @@ force-stays plan a t next is before le =
     (same_last a t plan.forces None
     (all-of (λ (c : BudgetChange). leb c.at t ≡ leb c.at a) plan.forces
     (λ c there. same_side c.at a t le (outside plan.forces a t next is before c there))))
-
--- and what comes next is the same
-next-stays : (changes : List BudgetChange) (a t : ℕ) (next : Option ℕ) → IsNextChange changes a next → IfSome next (λ n. t < n) → a ≤ t →
-    IsNextChange changes t next
-next-stays changes a t None is before le = λ c there. let past = is c there in omega arith
-next-stays changes a t (Some n) is before le =
-    (before, is.1, λ c there. ⊎_elim (λ (past : c.at ≤ a). inl (omega arith)) (λ (later : n ≤ c.at). inr later) (is.2 c there))
-
--- what a walk knows of the budget, it knows up to the next change
-pub knows-on : (plan : Plan) (walk : Walk) (at : ℕ) (next : Option ℕ) → walk.next ≡ next → IfSome next (λ n. at < n) → walk.at ≤ at →
-    KnowsBudget plan walk →
-    (walk.budget ≡ force plan at) × IsNextChange plan.forces at walk.next
-knows-on plan walk at next is before le knows =
-    let now : IsNextChange plan.forces walk.at next = subst (IsNextChange plan.forces walk.at) is knows.next_is in
-    let budget = knows.budget_is ∙ sym (force-stays plan walk.at at next now before le) in
-    (budget, subst (IsNextChange plan.forces at) (sym is) (next-stays plan.forces walk.at at next now before le))
 
 -- the next change is later
 pub next-later : (next : Option ℕ) (plan : Plan) (at : ℕ) → IsNextChange plan.forces at next → IfSome next (λ n. at < n)

@@ -18,8 +18,7 @@ use Rattle.pd_device.specs.Device.{Writes, WrotePart}
 use Rattle.pd_device.proofs.DeviceLemmas.{WrotePart-after, WrotePart-longer}
 use Rattle.pd_report.specs.declared.walk.Standing.{Standing}
 use Rattle.pd_report.specs.declared.walk.Walk.{Walk}
-use Rattle.pd_report.specs.Margins.{most_ports, power_on, up_to, contracts_at, stays_at, has_line, instant_text, margin_text, margins_head}
-use Rattle.pd_report.specs.Margins.{margins_text}
+use Rattle.pd_report.specs.Margins.{most_ports, power_on, up_to, contracts_at, stays_at, has_line, instant_text, margin_text}
 use Rattle.pd_report.specs.LeastMargin.{margin_at, margin_of}
 use Rattle.pd_report.specs.Walk.{standing_at, standing_before, standing_of, noted, noted_walk, line_after}
 use Rattle.pd_report.specs.Walk.{KnowsBudget, GoesOnTo, ChangesBy, NoChangeLater, NoneBefore, IsWalk, left_of, text_before}
@@ -175,7 +174,12 @@ module _ (plan : Plan) (moves : Moves) (walk : Walk) (m : ℕ × Entry) (w : IsW
     past = changes-by-next moves walk.seen m here walk.at by w.past;
     ahead = none-before-rest moves walk.seen m here walk.at w.ahead;
     before_is = w.before_is;
-    knows = record { budget_is = w.knows.budget_is; next_is = w.knows.next_is };
+    knows = record {
+      order_is = w.knows.order_is;
+      stands = w.knows.stands;
+      budget_is = w.knows.budget_is;
+      next_is = w.knows.next_is;
+    };
     in_time = w.in_time;
   }
 
@@ -236,11 +240,10 @@ walk-start plan moves walk seen powers at before knows =
 
 -- once the walk is past the end, the text is whole
 pub text-whole : (plan : Plan) (moves : Moves) (walk : Walk) → IsWalk plan moves walk → plan.end < walk.at →
-    margins_text plan moves ≡ margins_head ++ text_before plan moves walk.at
-unfolding margins_text
+    text_before plan moves (plan.end + 1) ≡ text_before plan moves walk.at
 text-whole plan moves walk w past =
     let e : plan.end + 1 ≡ walk.at = omega (arith, w.in_time) in
-    ap (λ t. margins_head ++ text_before plan moves t) e
+    ap (text_before plan moves) e
 
 -- what was written before an instant begins what is written before a later one
 more_text : (f : ℕ → List ℕ) (a k : ℕ) → (rest : List ℕ) × (flat_map f (range_with_len 0 (a + k)) ≡ flat_map f (range_with_len 0 a) ++ rest)
@@ -258,26 +261,19 @@ more_text f a (suc k) =
 -- a line that was cut short
 pub cut-line : (plan : Plan) (moves : Moves) (a b c : Option (List ℕ)) (t u : ℕ) (line : List ℕ) → u ≤ plan.end + 1 →
     text_before plan moves u ≡ text_before plan moves t ++ line →
-    Appends a b (margins_head ++ text_before plan moves t) → WrotePart b c line → WrotePart a c (margins_text plan moves)
-unfolding margins_text
+    Appends a b (text_before plan moves t) → WrotePart b c line → WrotePart a c (text_before plan moves (plan.end + 1))
 cut-line plan moves a b c t u line le e done part =
     let r = more_text (instant_text plan moves) u ((plan.end + 1) - u) in
     let n : u + ((plan.end + 1) - u) ≡ plan.end + 1 = omega arith in
-    let whole : margins_head ++ text_before plan moves (plan.end + 1) ≡ ((margins_head ++ text_before plan moves t) ++ line) ++ r.0 =
-    ap (λ v. margins_head ++ v) (ap (text_before plan moves) (sym n) ∙ r.1 ∙ ap (λ v. v ++ r.0) e)
-    ∙ sym (append_assoc margins_head (text_before plan moves t ++ line) r.0)
-    ∙ ap (λ v. v ++ r.0) (sym (append_assoc margins_head (text_before plan moves t) line)) in
+    let whole : text_before plan moves (plan.end + 1) ≡ (text_before plan moves t ++ line) ++ r.0 =
+    ap (text_before plan moves) (sym n) ∙ r.1 ∙ ap (λ v. v ++ r.0) e in
     rw whole
-    (WrotePart-longer a c ((margins_head ++ text_before plan moves t) ++ line) r.0
-    (WrotePart-after a b c (margins_head ++ text_before plan moves t) line done part))
+    (WrotePart-longer a c (text_before plan moves t ++ line) r.0 (WrotePart-after a b c (text_before plan moves t) line done part))
 
 pub written-more : (plan : Plan) (moves : Moves) (a b c : Option (List ℕ)) (t u : ℕ) (line : List ℕ) →
     text_before plan moves u ≡ text_before plan moves t ++ line →
-    Appends a b (margins_head ++ text_before plan moves t) → Appends b c line → Appends a c (margins_head ++ text_before plan moves u)
-written-more plan moves a b c t u line e done more =
-    let whole : margins_head ++ text_before plan moves u ≡ (margins_head ++ text_before plan moves t) ++ line =
-    ap (λ v. margins_head ++ v) e ∙ sym (append_assoc margins_head (text_before plan moves t) line) in
-    rw whole (Appends-trans a b c (margins_head ++ text_before plan moves t) line done more)
+    Appends a b (text_before plan moves t) → Appends b c line → Appends a c (text_before plan moves u)
+written-more plan moves a b c t u line e done more = rw e (Appends-trans a b c (text_before plan moves t) line done more)
 
 -- a text that goes on
 pub Writes-after : {T : Type 0} (a b c : Option (List ℕ)) (r : Result T BenchFault) (text more : List ℕ) → Appends a b text →

@@ -1,3 +1,4 @@
+pub mod BudgetOrder
 pub mod ContractLines
 pub mod FaultLines
 pub mod LeastMargin

@@ -6,6 +6,8 @@ use Rattle.pd_port.specs.declared.entry.ContractChange.{ContractChange}
 use Rattle.pd_port.specs.declared.entry.Entry.{Entry}
 use Rattle.pd_scenario.specs.NextChange.{IsNextChange}
 use Rattle.pd_scenario.specs.Plan.{Plan, force}
+use Rattle.pd_run.specs.ByTime.{IsByTime}
+use Rattle.pd_report.specs.BudgetOrder.{StandsAt}
 use Rattle.pd_report.specs.Margins.{most_ports, power_left, power_on, contracts_at, instant_text, margin_text}
 use Rattle.pd_report.specs.declared.walk.Standing.{Standing}
 use Rattle.pd_report.specs.declared.walk.Walk.{Walk}
@@ -37,8 +39,11 @@ line_after None t s = margin_text t s.contracts s.budget
 line_after (Some before) t s =
     if before.contracts == s.contracts && before.budget == s.budget then [] else margin_text t s.contracts s.budget
 
--- the walk knows the budget at its instant, and when it changes next
+-- the walk knows the changes of the budget in their order, which of them have come by its instant, the budget then, and when
+-- it changes next
 pub record KnowsBudget (plan : Plan) (walk : Walk) : Type 0 where
+  pub order_is : IsByTime plan.forces walk.order.now
+  pub stands : StandsAt walk.order.now walk.place walk.at
   pub budget_is : walk.budget ≡ force plan walk.at
   pub next_is : IsNextChange plan.forces walk.at walk.next
 

@@ -1,14 +1,16 @@
 //! The least that the contracts of a run leave of the shared budget.
 
-ghost use Rattle.std.specs.Prelude.{◌≡◌, ◌<◌, ◌≤◌, ℕ, MatchOption};
+ghost use Rattle.std.specs.Prelude.{◌≡◌, ◌<◌, ◌≤◌, ℕ, MatchOption, length};
 ghost use Rattle.pd_report.specs.LeastMargin.{IsLeastMargin, lesser, margin_at};
 ghost use Rattle.pd_report.specs.Walk.{IsWalk, left_of};
+ghost use Rattle.pd_scenario.specs.Limits.{most_events};
 ghost use Rattle.pd_scenario.specs.Plans.{plan_of};
 
+use crate::budget_order::{FEW, NO_CHANGE, has_few_changes, put_in_order};
 use crate::margin_lines::{end_instant, pass, see_entry};
 use crate::walk::Walk;
 use pd_run::Runner;
-use pd_scenario::Scenario;
+use pd_scenario::{MOST_EVENTS, Scenario};
 
 /// What the contracts of all ports leave of the shared budget at the end of an instant.
 #[derive(Clone, Copy, Debug, PartialEq, Eq)]
@@ -34,7 +36,7 @@ fn lesser(least: Option<Margin>, margin: Margin) -> Margin
 fn step<const N: usize, T: Runner<N>>(
     run: &T,
     scenario: &Scenario<N>,
-    walk: &mut Walk,
+    walk: &mut Walk<'_>,
 ) -> Option<u64>
     requires walk { IsWalk (plan_of scenario.now) (T.entries run.now) walk.old }
     requires in_time { walk.old.at ≤ (plan_of scenario.now).end }
@@ -58,8 +60,28 @@ fn step<const N: usize, T: Runner<N>>(
 pub fn least_margin<const N: usize, T: Runner<N>>(run: &T, scenario: &Scenario<N>) -> Margin
     ensures { IsLeastMargin (plan_of scenario.now) (T.entries run.now) result }
 {
+    if has_few_changes(scenario) {
+        least_with_room::<FEW, N, T>(run, scenario)
+    } else {
+        least_with_room::<MOST_EVENTS, N, T>(run, scenario)
+    }
+}
+
+/// The least margin, with room for so many changes of the budget. It stands alone, so that a small room is all that is paid
+/// for where there are few.
+#[inline(never)]
+fn least_with_room<const K: usize, const N: usize, T: Runner<N>>(
+    run: &T,
+    scenario: &Scenario<N>,
+) -> Margin
+    requires room { K ≤ most_events }
+    requires enough { length (plan_of scenario.now).forces ≤ K }
+    ensures { IsLeastMargin (plan_of scenario.now) (T.entries run.now) result }
+{
+    let mut room = [NO_CHANGE; K];
+    let count = put_in_order(scenario, &mut room);
+    let mut walk = Walk::new(scenario, &room[..count]);
     let end = scenario.end_time();
-    let mut walk = Walk::new(scenario);
     let mut least = None;
     while walk.at <= end {
         let at = walk.at;

@@ -6,14 +6,16 @@ ghost use Rattle.pd_device.specs.Device.{CountsFailure, Writes};
 ghost use Rattle.pd_report.specs.LeastMargin.{margin_at, margin_of};
 ghost use Rattle.pd_report.specs.Margins.{margins_text};
 ghost use Rattle.pd_report.specs.Walk.{IsWalk, NoneBefore, NoneNow, SeesEntry, left_of, line_after, standing_of, text_before};
+ghost use Rattle.pd_scenario.specs.Limits.{most_events};
 ghost use Rattle.pd_scenario.specs.Plan.{Plan};
 ghost use Rattle.pd_scenario.specs.Plans.{plan_of};
 
+use crate::budget_order::{FEW, NO_CHANGE, has_few_changes, put_in_order};
 use crate::page::{MOST, PAGE};
 use crate::walk::{WIDTH, Walk};
 use pd_device::{BenchFault, Text, TextOut, write_all, write_text};
 use pd_run::{Note, Runner};
-use pd_scenario::Scenario;
+use pd_scenario::{MOST_EVENTS, Scenario};
 
 /// Writes what the contracts of all ports take of the scenario's budget and what they leave of it, in microwatts: a line
 /// at the instant 0, and one at each later instant up to the scenario's end at which that sum or the budget changes.
@@ -30,8 +32,31 @@ pub fn margins<const N: usize, T: Runner<N>, W: TextOut>(
     ensures counts { CountsFailure (W.failures writer.old) (W.failures writer.new) result }
 {
     write_all(writer, b"= margins\n")?;
+    if has_few_changes(scenario) {
+        write_lines::<FEW, N, T, W>(run, scenario, writer)
+    } else {
+        write_lines::<MOST_EVENTS, N, T, W>(run, scenario, writer)
+    }
+}
+
+/// Writes the lines of all instants up to the scenario's end, with room for so many changes of the budget. It stands alone, so
+/// that a small room is all that is paid for where there are few.
+#[inline(never)]
+fn write_lines<const K: usize, const N: usize, T: Runner<N>, W: TextOut>(
+    run: &T,
+    scenario: &Scenario<N>,
+    writer: &mut W,
+) -> Result<(), BenchFault>
+    requires room { K ≤ most_events }
+    requires enough { length (plan_of scenario.now).forces ≤ K }
+    ensures text { Writes (W.taken writer.old) (W.taken writer.new) result
+        (text_before (plan_of scenario.now) (T.entries run.now) ((plan_of scenario.now).end + 1)) }
+    ensures counts { CountsFailure (W.failures writer.old) (W.failures writer.new) result }
+{
+    let mut room = [NO_CHANGE; K];
+    let count = put_in_order(scenario, &mut room);
+    let mut walk = Walk::new(scenario, &room[..count]);
     let end = scenario.end_time();
-    let mut walk = Walk::new(scenario);
     while walk.at <= end {
         write_text(writer, &page_from(run, scenario, &mut walk))?;
     }
@@ -42,7 +67,7 @@ pub fn margins<const N: usize, T: Runner<N>, W: TextOut>(
 fn page_from<const N: usize, T: Runner<N>>(
     run: &T,
     scenario: &Scenario<N>,
-    walk: &mut Walk,
+    walk: &mut Walk<'_>,
 ) -> Text<PAGE>
     requires walk { IsWalk (plan_of scenario.now) (T.entries run.now) walk.old }
     requires in_time { walk.old.at ≤ (plan_of scenario.now).end }
@@ -64,7 +89,7 @@ fn page_from<const N: usize, T: Runner<N>>(
 fn add_step<const N: usize, T: Runner<N>>(
     run: &T,
     scenario: &Scenario<N>,
-    walk: &mut Walk,
+    walk: &mut Walk<'_>,
     page: &mut Text<PAGE>,
 )
     requires walk { IsWalk (plan_of scenario.now) (T.entries run.now) walk.old }
@@ -85,7 +110,7 @@ fn add_step<const N: usize, T: Runner<N>>(
 fn step<const N: usize, T: Runner<N>>(
     run: &T,
     scenario: &Scenario<N>,
-    walk: &mut Walk,
+    walk: &mut Walk<'_>,
 ) -> Option<Text<WIDTH>>
     requires walk { IsWalk (plan_of scenario.now) (T.entries run.now) walk.old }
     requires in_time { walk.old.at ≤ (plan_of scenario.now).end }
@@ -101,7 +126,7 @@ fn step<const N: usize, T: Runner<N>>(
 }
 
 /// Passes the entries that change no contract.
-pub(crate) fn pass<const N: usize, T: Runner<N>>(run: &T, walk: &mut Walk)
+pub(crate) fn pass<const N: usize, T: Runner<N>>(run: &T, walk: &mut Walk<'_>)
     requires seen { walk.old.seen ≤ length (T.entries run.now) }
     ensures walk { (plan : Plan) → IsWalk plan (T.entries run.now) walk.old → IsWalk plan (T.entries run.now) walk.new }
     ensures still { walk.new.at ≡ walk.old.at }
@@ -116,7 +141,7 @@ pub(crate) fn pass<const N: usize, T: Runner<N>>(run: &T, walk: &mut Walk)
 fn see<const N: usize, T: Runner<N>>(
     run: &T,
     scenario: &Scenario<N>,
-    walk: &mut Walk,
+    walk: &mut Walk<'_>,
 ) -> Option<Text<WIDTH>>
     requires walk { IsWalk (plan_of scenario.now) (T.entries run.now) walk.old }
     requires in_time { walk.old.at ≤ (plan_of scenario.now).end }
@@ -136,7 +161,7 @@ fn see<const N: usize, T: Runner<N>>(
 }
 
 /// Sees the next entry, where it is of the instant at which the walk stands; whether it is.
-pub(crate) fn see_entry<const N: usize, T: Runner<N>>(run: &T, walk: &mut Walk) -> bool
+pub(crate) fn see_entry<const N: usize, T: Runner<N>>(run: &T, walk: &mut Walk<'_>) -> bool
     ensures walk { (plan : Plan) → IsWalk plan (T.entries run.now) walk.old → IsWalk plan (T.entries run.now) walk.new }
     ensures still { walk.new.at ≡ walk.old.at }
     ensures seen { SeesEntry result (T.entries run.now) walk.old walk.new }
@@ -156,7 +181,7 @@ pub(crate) fn see_entry<const N: usize, T: Runner<N>>(run: &T, walk: &mut Walk) 
 pub(crate) fn end_instant<const N: usize, T: Runner<N>>(
     run: &T,
     scenario: &Scenario<N>,
-    walk: &mut Walk,
+    walk: &mut Walk<'_>,
 )
     requires walk { IsWalk (plan_of scenario.now) (T.entries run.now) walk.old }
     requires in_time { walk.old.at ≤ (plan_of scenario.now).end }
@@ -172,7 +197,7 @@ pub(crate) fn end_instant<const N: usize, T: Runner<N>>(
         < left_of (plan_of scenario.now) (T.entries run.now) walk.old }
 {
     let next = next_entry(run, walk.seen, scenario.end_time() + 1);
-    walk.go_on(scenario, sooner(next, walk.next));
+    walk.go_on(sooner(next, walk.next));
 }
 
 /// The time of the entry at the index, or that after the end where none comes before it.

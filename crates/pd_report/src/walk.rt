@@ -2,14 +2,18 @@
 
 ghost use Rattle.std.specs.Prelude.{◌≡◌, ◌+◌, ◌-◌, ◌*◌, ◌<◌, ◌≤◌, ◌++◌, ◌^◌, List, ℕ, [], length, sum, take, decimal, codes, replicate};
 ghost use Rattle.std.specs.Prelude.{IfSome, unwrap_or};
+ghost use Rattle.pd_report.specs.BudgetOrder.{AreInOrder, StandsAt};
 ghost use Rattle.pd_report.specs.LeastMargin.{margin_of};
 ghost use Rattle.pd_report.specs.Margins.{margin_text, power_left};
 ghost use Rattle.pd_report.specs.Walk.{GoesOnTo, KnowsBudget, line_after, noted_walk, standing_of};
+ghost use Rattle.pd_run.specs.ByTime.{IsByTime};
+ghost use Rattle.pd_scenario.specs.Plan.{Plan};
 ghost use Rattle.pd_scenario.specs.Plans.{plan_of};
 
+use crate::budget_order::{budget_at, next_at, passed};
 use pd_device::Text;
 use pd_port::ContractChange;
-use pd_scenario::Scenario;
+use pd_scenario::{BudgetChange, Scenario};
 
 /// The most bytes of a line.
 pub(crate) const WIDTH: usize = 160;
@@ -23,33 +27,40 @@ pub(crate) struct Standing {
 
 /// How far a walk over the entries of a run and the changes of the budget has come: how many entries it has seen, the power
 /// of each port's contract after them in microwatts, the instant at which it stands in microseconds, what stood before that,
-/// the budget there in microwatts, and when it changes next.
+/// the changes of the budget in their order, how many of them have come, the budget there in microwatts, and when it changes
+/// next.
 #[derive(Drop)]
-pub(crate) struct Walk {
+pub(crate) struct Walk<'a> {
     pub seen: usize,
     pub powers: [u64; 8],
     pub at: u64,
     pub before: Option<Standing>,
+    pub order: &'a [BudgetChange],
+    pub place: usize,
     pub budget: u64,
     pub next: Option<u64>,
 }
 
-impl Walk {
+impl<'a> Walk<'a> {
     /// A walk that has seen nothing, at the instant 0.
-    pub fn new<const N: usize>(scenario: &Scenario<N>) -> Walk
+    pub fn new<const N: usize>(scenario: &Scenario<N>, order: &'a [BudgetChange]) -> Walk<'a>
+        requires { IsByTime (plan_of scenario.now).forces order.now }
         ensures seen { result.seen ≡ 0 }
         ensures powers { result.powers ≡ replicate 8 0 }
         ensures at { result.at ≡ 0 }
         ensures before { result.before ≡ None }
         ensures knows { KnowsBudget (plan_of scenario.now) result }
     {
+        let place = passed(order, 0, 0);
         Walk {
             seen: 0,
             powers: [0; 8],
             at: 0,
             before: None,
-            budget: scenario.force(0),
-            next: scenario.next_change(0),
+            order,
+            place,
+            budget: budget_at(order, place, scenario.budget()),
+            next: next_at(order, place),
         }
     }
 
@@ -96,22 +107,18 @@ impl Walk {
         }
     }
 
-    /// Goes on to a later instant, up to which the budget doesn't change.
-    pub fn go_on<const N: usize>(&mut self, scenario: &Scenario<N>, at: u64)
+    /// Goes on to a later instant.
+    pub fn go_on(&mut self, at: u64)
         requires later { self.old.at < at }
-        requires knows { KnowsBudget (plan_of scenario.now) self.old }
-        requires no_later { IfSome self.old.next (λ next. at ≤ next) }
-        ensures { GoesOnTo (plan_of scenario.now) self.old at self.new }
+        requires in_order { AreInOrder self.old.order.now }
+        requires stands { StandsAt self.old.order.now self.old.place self.old.at }
+        ensures { (plan : Plan) → KnowsBudget plan self.old → GoesOnTo plan self.old at self.new }
     {
         self.before = Some(self.standing());
         self.at = at;
-        let Some(next) = self.next else {
-            return;
-        };
-        if next <= at {
-            self.budget = scenario.force(at);
-            self.next = scenario.next_change(at);
-        }
+        self.place = passed(self.order, self.place, at);
+        self.budget = budget_at(self.order, self.place, self.budget);
+        self.next = next_at(self.order, self.place);
     }
 }
 

@@ -1,5 +1,4 @@
-use Rattle.std.proofs.Common.{◌≡◌, ◌+◌, ◌++◌, ◌<◌, ap, arith, ◌∙◌}
-use Rattle.std.proofs.lemmas.List.{append-nil}
+use Rattle.std.proofs.Common.{◌+◌}
 use Rattle.std.proofs.lemmas.Result.{err_from_is_err_and}
 use Rattle.pd_scenario.specs.Plan.{Plan}
 use Rattle.pd_scenario.specs.Plans.{plan_of}
@@ -7,7 +6,7 @@ use Rattle.pd_report.specs.Margins.{margins_head, margins_text}
 use Rattle.pd_report.specs.Walk.{text_before}
 use Rattle.pd_device.proofs.DeviceLemmas.{WrotePart-longer}
 use Rattle.pd_report.proofs.MarginLemmas.{Moves}
-use Rattle.pd_report.proofs.WalkLemmas.{walk-start, text-whole, cut-line, written-more}
+use Rattle.pd_report.proofs.WalkLemmas.{Writes-after}
 use Rattle.pd_report.proofs.margin_lines.margins.Goals as goal
 
 pub returns-in_err-write_all-clause-text : goal.returns-in_err-write_all-clause-text
@@ -22,44 +21,17 @@ returns-in_err-write_all-clause-text g c =
           c.in_err-write_all.ensures.text.1,
     )
 
-pub loop-walk-init : goal.loop-walk-init
-loop-walk-init g c =
+pub returns-then-has_few_changes-clause-text : goal.returns-then-has_few_changes-clause-text
+unfolding margins_text
+returns-then-has_few_changes-clause-text g c =
     let plan : Plan = plan_of c.args.scenario.now in
-    let moves : Moves = g.T.Runner.entries c.args.run.now in
-    let new = c.new-walk.ensures in
-    let start : margins_head ++ text_before plan moves c.new-walk.result.at ≡ margins_head =
-    ap (λ t. margins_head ++ text_before plan moves t) new.at ∙ append-nil margins_head in
-    record {
-      walked = walk-start plan moves c.new-walk.result new.seen new.powers new.at new.before new.knows;
-      end_is = c.end_time-end.ensures.value;
-      written = rw start c.in_ok-write_all.ensures.text;
-      counts = c.in_ok-write_all.ensures.counts;
-    }
+    Writes-after _ _ _ c.write_lines.result margins_head (text_before plan (g.T.Runner.entries c.args.run.now) (plan.end + 1))
+    c.in_ok-write_all.ensures.text c.write_lines.ensures.text
 
-pub loop-walk-preserved : goal.loop-walk-preserved
-loop-walk-preserved g c = record {
-  walked = c.page_from.ensures.walk;
-  end_is = c.loop-walk.invariant.end_is;
-  written =
-      written-more (plan_of c.args.scenario.now) (g.T.Runner.entries c.args.run.now) _ _ _ c.loop-walk.walk.at c.page_from.new.walk.at
-      c.page_from.result c.page_from.ensures.text
-      c.loop-walk.invariant.written c.in_ok-write_text.ensures.text;
-  counts = c.in_ok-write_text.ensures.counts ∙ c.loop-walk.invariant.counts;
-}
-
-pub returns-in_err-write_text-clause-text : goal.returns-in_err-write_text-clause-text
-returns-in_err-write_text-clause-text g c =
-    let p = err_from_is_err_and c.from_residual-in_err-write_text.result c.from_residual-in_err-write_text.ensures.1 in
-    rw (p.1, p.2) (
-      c.in_err-write_text.ensures.text.0,
-      cut-line (plan_of c.args.scenario.now) (g.T.Runner.entries c.args.run.now) _ _ _ c.loop-walk.walk.at c.page_from.new.walk.at
-          c.page_from.result c.page_from.ensures.walk.in_time c.page_from.ensures.text c.loop-walk.invariant.written
-          c.in_err-write_text.ensures.text.1,
-    )
-
-pub returns-clause-text : goal.returns-clause-text
-returns-clause-text g c =
+pub returns-else-has_few_changes-clause-text : goal.returns-else-has_few_changes-clause-text
+unfolding margins_text
+returns-else-has_few_changes-clause-text g c =
     let plan : Plan = plan_of c.args.scenario.now in
-    let past : plan.end < c.loop-walk.walk.at = omega (arith, c.loop-walk.invariant.end_is, c.loop-walk-test.false) in
-    rw (text-whole plan (g.T.Runner.entries c.args.run.now) c.loop-walk.walk c.loop-walk.invariant.walked past)
-    c.loop-walk.invariant.written
+    Writes-after _ _ _ c.write_lines-else-has_few_changes.result margins_head
+    (text_before plan (g.T.Runner.entries c.args.run.now) (plan.end + 1)) c.in_ok-write_all.ensures.text
+    c.write_lines-else-has_few_changes.ensures.text

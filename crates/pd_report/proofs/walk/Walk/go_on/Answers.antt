@@ -1,30 +1,27 @@
-use Rattle.std.proofs.Common.{Some, None, refl, ap, arith}
-use Rattle.pd_scenario.specs.Plans.{plan_of}
-use Rattle.pd_report.proofs.BudgetLemmas.{knows-on}
+use Rattle.std.proofs.Common.{Some, refl, ap, ◌∙◌, arith}
+use Rattle.pd_report.proofs.OrderLemmas.{force-first, later-first}
 use Rattle.pd_report.proofs.walk.Walk.go_on.Goals as goal
 
-pub returns-else-next-at : goal.returns-else-next-at
-returns-else-next-at g c =
-    let k = knows-on (plan_of c.args.scenario.now) c.args.self.now c.args.at (Some c.in-Some.next) c.in-Some.is
-    (omega (arith, c.if-next-at.false)) (omega (arith, c.requires.later)) c.requires.knows in
+pub returns : goal.returns
+returns c plan knows =
+    let old = c.args.self.now in
+    let stands = c.passed-self.ensures.stands in
     record {
       later = c.requires.later;
       seen_is = refl;
       powers_are = refl;
       at_is = refl;
       before_is = ap Some c.standing.ensures;
-      knows = record { budget_is = k.0; next_is = k.1 };
-    }
-
-pub returns-in_default : goal.returns-in_default
-returns-in_default g c =
-    let k = knows-on (plan_of c.args.scenario.now) c.args.self.now c.args.at None c.in_default.is tt (omega (arith, c.requires.later))
-    c.requires.knows in
-    record {
-      later = c.requires.later;
-      seen_is = refl;
-      powers_are = refl;
-      at_is = refl;
-      before_is = ap Some c.standing.ensures;
-      knows = record { budget_is = k.0; next_is = k.1 };
+      knows = record {
+        order_is = knows.order_is;
+        stands = stands;
+        budget_is =
+            c.budget_at-self.ensures plan c.args.at knows.order_is stands (
+            λ none. knows.budget_is
+            ∙ force-first plan old.at
+            (later-first plan.forces old.order.now old.place old.at knows.order_is knows.stands
+            (omega (arith, none, c.passed-self.ensures.up)))
+            );
+        next_is = c.next_at-self.ensures plan.forces c.args.at knows.order_is stands;
+      };
     }

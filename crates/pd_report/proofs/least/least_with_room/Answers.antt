@@ -1,6 +1,6 @@
 use Rattle.pd_scenario.specs.Plans.{plan_of}
 use Rattle.pd_report.proofs.WalkLemmas.{walk-start}
-use Rattle.pd_report.proofs.least.least_margin.Goals as goal
+use Rattle.pd_report.proofs.least.least_with_room.Goals as goal
 
 pub loop-walk-init : goal.loop-walk-init
 loop-walk-init g c =

@@ -2,7 +2,7 @@ use Rattle.std.proofs.Common.{◌≡◌}
 use Rattle.pd_scenario.specs.Plans.{plan_of}
 use Rattle.pd_report.specs.LeastMargin.{LeastSoFar}
 use Rattle.pd_report.specs.Walk.{IsWalk, left_of}
-use Rattle.pd_report.proofs.least.least_margin.Given as goal
+use Rattle.pd_report.proofs.least.least_with_room.Given as goal
 
 abbrev pub invariant-loop-walk : goal.invariant-loop-walk
 invariant-loop-walk g l = record {

@@ -1,16 +1,15 @@
-use Rattle.std.proofs.Common.{◌≡◌, ◌++◌}
+use Rattle.std.proofs.Common.{◌≡◌}
 use Rattle.std.specs.Io.KnownBytes.{Appends}
 use Rattle.pd_scenario.specs.Plans.{plan_of}
-use Rattle.pd_report.specs.Margins.{margins_head}
 use Rattle.pd_report.specs.Walk.{IsWalk, left_of, text_before}
-use Rattle.pd_report.proofs.margin_lines.margins.Given as goal
+use Rattle.pd_report.proofs.margin_lines.write_lines.Given as goal
 
 abbrev pub invariant-loop-walk : goal.invariant-loop-walk
 invariant-loop-walk g l = record {
   walked : IsWalk (plan_of l.scenario) (g.T.Runner.entries l.run) l.walk;
   end_is : l.end ≡ (plan_of l.scenario).end;
   written : Appends (g.W.TextOut.taken l.fn.writer) (g.W.TextOut.taken l.writer)
-      (margins_head ++ text_before (plan_of l.scenario) (g.T.Runner.entries l.run) l.walk.at);
+      (text_before (plan_of l.scenario) (g.T.Runner.entries l.run) l.walk.at);
   counts : g.W.TextOut.failures l.writer ≡ g.W.TextOut.failures l.fn.writer;
 }
 
