@@ -101,6 +101,22 @@ event = [
 ]
 ";
 
+/// A port with nothing on it, and changes of the budget that were not made in the order of their times: two at 1,000,000,
+/// and one at 2,500,000 to what the budget is then.
+pub(crate) const UNORDERED: &[u8] = b"version = 2
+end = 3000000
+budget = 60000
+port = [{ floor = 2500, identity_tries = 0, supplies = [[5000, 3000]] }]
+event = [
+  { id = 5, at = 2000000, kind = \"budget\", mw = 40000 },
+  { id = 9, at = 1000000, kind = \"budget\", mw = 30000 },
+  { id = 2, at = 1000000, kind = \"budget\", mw = 50000 },
+  { id = 3, at = 2500000, kind = \"budget\", mw = 40000 },
+  { id = 1, at = 3000000, kind = \"budget\", mw = 20000 },
+  { id = 7, at = 0, kind = \"budget\", mw = 45000 },
+]
+";
+
 /// Three ports whose budget falls at 500,000.
 pub(crate) const DERATED: &[u8] = b"
 version = 2

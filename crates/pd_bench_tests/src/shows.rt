@@ -3,7 +3,7 @@
 ghost use Rattle.std.specs.Prelude.{◌≤◌};
 
 use crate::devices::Page;
-use crate::scenarios::{ALL, GREEDY, PAIR, PHONE};
+use crate::scenarios::{ALL, GREEDY, PAIR, PHONE, UNORDERED};
 use pd_device::BenchFault;
 use pd_port::Meter;
 use pd_report::{contracts, faults, margins};
@@ -116,5 +116,23 @@ fn of_two_ports(rt: HostRuntime) -> Result<(), Fail> {
     shows::<2>(rt.alloc(), PAIR, &mut page)?;
     assert!(rt; page.text().starts_with(OF_TWO_PORTS));
     assert!(rt; page.text().ends_with(MARGINS_OF_TWO_PORTS));
+    Ok(())
+}
+
+const OF_AN_UNORDERED_BUDGET: &[u8] = b"= contracts
+= faults
+= margins
+        0 contracts 0 margin 45000000
+  1000000 contracts 0 margin 30000000
+  2000000 contracts 0 margin 40000000
+  3000000 contracts 0 margin 20000000
+";
+
+/// The last change of an instant is that of the greatest id, and a change to the same budget has no line.
+#[test]
+fn of_an_unordered_budget(rt: HostRuntime) -> Result<(), Fail> {
+    let mut page = Page::new(ALL, 0, false);
+    shows::<1>(rt.alloc(), UNORDERED, &mut page)?;
+    assert_eq!(rt; page.text(), OF_AN_UNORDERED_BUDGET);
     Ok(())
 }
