@@ -1,4 +1,3 @@
-mod NextLemmas
 pub mod First
 pub mod Forces
 pub mod HandedOut

@@ -1,9 +1,6 @@
 //! The budget at each time.
 
-ghost use Rattle.std.specs.Prelude.{◌≡◌, ◌++◌, ◌∷◌, [], List, true};
-ghost use Rattle.std.specs.List.{list_all};
-ghost use Rattle.pd_scenario.specs.Scenarios.{event_fits};
-ghost use Rattle.pd_scenario.specs.NextChange.{IsNextChange};
+ghost use Rattle.std.specs.Prelude.{◌≡◌};
 ghost use Rattle.pd_scenario.specs.Plan.{is_later, with_change, last_change};
 ghost use Rattle.pd_scenario.specs.Plans.{change_of, changes_of};
 
@@ -64,30 +61,4 @@ pub(crate) fn last_change(events: &[ScenarioEvent], at: u64) -> Option<BudgetCha
         }
     }
     last
-}
-
-/// The time of the first change of the budget after a time, if one comes.
-pub(crate) fn next_change(events: &[ScenarioEvent], at: u64) -> Option<u64>
-    ensures { IsNextChange (changes_of events.now) at result }
-{
-    let mut next = None;
-    for event in events {
-        if let Some(change) = change_of(event) {
-            next = sooner(at, next, change);
-        }
-    }
-    next
-}
-
-/// The next change after a time, with one more change.
-fn sooner(at: u64, next: Option<u64>, change: BudgetChange) -> Option<u64>
-    ensures { (changes : List BudgetChange) → IsNextChange changes at next → IsNextChange (changes ++ change ∷ []) at result }
-{
-    if change.at <= at {
-        return next;
-    }
-    match next {
-        Some(next) if next <= change.at => Some(next),
-        _ => Some(change.at),
-    }
 }

@@ -2,11 +2,10 @@
 
 ghost use Rattle.std.specs.Prelude.{◌≡◌, ℕ, ◌-◌, ◌≤◌, ◌<◌, ◌==◌, map, slice_get, Some, IfOk, is_some};
 ghost use Rattle.pd_scenario.specs.Scenarios.{ScenarioData, IsValid, cable_named, sink_named, has_id};
-ghost use Rattle.pd_scenario.specs.NextChange.{IsNextChange};
 ghost use Rattle.pd_scenario.specs.Plan.{Plan, IsPlan, settings_of, script_of, force};
 ghost use Rattle.pd_scenario.specs.Plans.{plan_of, changes_of};
 
-use crate::budget::{BudgetChange, change_of, last_change, next_change};
+use crate::budget::{BudgetChange, change_of, last_change};
 use crate::order::script;
 use crate::scripts::scripts;
 use crate::{Name, NamedCable, NamedSink, ScenarioEvent};
@@ -165,14 +164,6 @@ impl<const N: usize> Scenario<N> {
             Some(change) => change.budget,
             None => self.budget(),
         }
-    }
-
-    /// The time of the first change of the shared budget after a time, in microseconds; `None` where none comes.
-    #[tactic(auto, unfolding(crate::specs::Plans::plan_of))]
-    pub fn next_change(&self, at: u64) -> Option<u64>
-        ensures { IsNextChange (plan_of self.now).forces at result }
-    {
-        next_change(&self.events, at)
     }
 
     /// The end in microseconds.
