@@ -1,7 +1,6 @@
 pub mod BudgetLemmas
 pub mod MarginLemmas
 pub mod NotedLemmas
-pub mod OrderLemmas
 pub mod ShownLemmas
 pub mod TruthLemmas
 pub mod WalkLemmas

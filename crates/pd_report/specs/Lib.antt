@@ -1,4 +1,3 @@
-pub mod BudgetOrder
 pub mod ContractLines
 pub mod FaultLines
 pub mod LeastMargin

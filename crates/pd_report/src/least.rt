@@ -6,9 +6,9 @@ ghost use Rattle.pd_report.specs.Walk.{IsWalk, left_of};
 ghost use Rattle.pd_scenario.specs.Limits.{most_events};
 ghost use Rattle.pd_scenario.specs.Plans.{plan_of};
 
-use crate::budget_order::{FEW, NO_CHANGE, has_few_changes, put_in_order};
 use crate::margin_lines::{end_instant, pass, see_entry};
 use crate::walk::Walk;
+use pd_changes::{FEW, NO_CHANGE, has_few_changes, put_in_order};
 use pd_run::Runner;
 use pd_scenario::{MOST_EVENTS, Scenario};
 

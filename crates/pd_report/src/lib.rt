@@ -1,7 +1,6 @@
 //! What a run shows: the text of its packets, contracts, faults and margins.
 #![tactic(auto)]
 
-mod budget_order;
 mod contract_lines;
 mod fault_lines;
 pub mod laws;

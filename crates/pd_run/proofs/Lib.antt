@@ -1,13 +1,11 @@
 pub mod Alike
 pub mod Awaited
-pub mod ByTime
 pub mod Contracts
 pub mod Cut
 pub mod First
 pub mod Follow
 pub mod Forces
 pub mod Held
-pub mod Ids
 pub mod Moves
 pub mod Offers
 pub mod OneRun

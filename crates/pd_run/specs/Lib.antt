@@ -1,5 +1,4 @@
 pub mod Beside
-pub mod ByTime
 pub mod Cost
 pub mod Held
 pub mod Laws

@@ -2,7 +2,6 @@
 #![tactic(auto)]
 
 mod beside;
-mod changes;
 mod had;
 pub mod laws;
 mod live;

@@ -6,7 +6,7 @@ ghost use Rattle.pd_scenario.specs.Plan.{IsPlan, settings_of, script_of, floors_
 ghost use Rattle.pd_scenario.specs.Plans.{plan_of};
 ghost use Rattle.pd_run.specs.Start.{start_of};
 
-use crate::changes::Changes;
+use pd_changes::Changes;
 use pd_port::Port;
 use pd_scenario::{BudgetChange, Scenario};
 use pd_setup::{Event, Settings};

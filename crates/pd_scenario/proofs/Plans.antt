@@ -40,7 +40,7 @@ id_there (f ∷ es) e k h is =
       | inr later ↦ let rest = id_there es e k later is in elim (cases_Bool (f.id == k)) [ inl now ↦ rw now | inr other ↦ rw (other, rest) ]
     ]
 
-one_id : (es : List ScenarioEvent) (e f : ScenarioEvent) → ids_differ es ≡ true → Contains es e → Contains es f → e.id ≡ f.id → e ≡ f
+pub one_id : (es : List ScenarioEvent) (e f : ScenarioEvent) → ids_differ es ≡ true → Contains es e → Contains es f → e.id ≡ f.id → e ≡ f
 one_id [] e f differ e_there f_there ids = absurd (none e e_there)
 one_id (x ∷ es) e f differ e_there f_there ids =
     let (alone, more) = and_parts (not (has_id es x.id)) (ids_differ es) differ in

@@ -1,0 +1,3 @@
+pub mod ByTime
+pub mod Ids
+pub mod Places
