@@ -11,6 +11,7 @@ pub mod Objects
 pub mod SoundActs
 pub mod SoundRows
 pub mod Limits
+pub mod Polls
 pub mod SoundSteps
 pub mod Accepting
 pub mod Agreed

@@ -33,10 +33,10 @@ limit-before (stimulus.Ended t) r = refl
 limit-before _ r = refl
 
 -- the rows of a poll change no limit
-abbrev polling : Row
+abbrev pub polling : Row
 polling = row 28 (state.Ready ∷ state.WaitNewCapabilities ∷ []) (Ended timer.OfferPoll ∷ []) OfferDiffers SC []
 
-abbrev again : Row
+abbrev pub again : Row
 again = row 29 (state.Ready ∷ state.WaitNewCapabilities ∷ []) (Ended timer.OfferPoll ∷ []) Always Same (deed.Start timer.OfferPoll ∷ [])
 
 one_of : (b : Bool) (p q : Row) → ((if b then p else q) ≡ p) ⊎ ((if b then p else q) ≡ q)

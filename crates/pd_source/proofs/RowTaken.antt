@@ -1,5 +1,6 @@
 -- The row that is taken, as the code tells the guards.
 use Rattle.std.proofs.Common.{◌≡◌, ℕ, Bool, true, false, if◌then◌else◌, List, [], ◌∷◌, ◌++◌, Option, Some, None, refl, ap, sym, ◌∙◌}
+use Rattle.std.specs.Prelude.{is_some}
 use Rattle.pd_objects.specs.declared.query.Answer.{Answer}
 use Rattle.pd_objects.specs.declared.query.Query.{Query}
 use Rattle.pd_source.specs.declared.kinds.State.{State}
@@ -135,3 +136,17 @@ no_query-taken s r x sent asks ds t e u v =
     let d : ds ≡ deeds_at s x None z = u ∙ ap (λ (sent : Bool). deeds_at s x None (record r { sent = sent })) e ∙ deeds-marked s x None r in
     let is : asks_offer (row_at s x None z).next ≡ false = sym (offers s x None z) ∙ ap makes_offer (sym d) ∙ sym v ∙ t in
     ap (λ (b : Bool). if b then Some (offer_query s (limit_after (deeds_at s x None z) x z.limit)) else None) (sym is)
+
+some-where : (b : Bool) (q : Query) → b ≡ is_some (if b then Some q else None)
+some-where true q = refl
+some-where false q = refl
+
+-- whether a row makes an offer is whether it has a query
+pub asks-taken : (s : SourceSettings) (r : SourceRecord) (x : Stimulus) (sent asks : Bool) (ds : List Deed) →
+    sent ≡ (before_row x r).sent → ds ≡ deeds_at s x None (record r { sent = sent }) → asks ≡ makes_offer ds →
+    asks ≡ is_some (row_query s x (before_row x r))
+asks-taken s r x sent asks ds e u v =
+    let z = before_row x r in
+    let d : ds ≡ deeds_at s x None z = u ∙ ap (λ (sent : Bool). deeds_at s x None (record r { sent = sent })) e ∙ deeds-marked s x None r in
+    v ∙ ap makes_offer d ∙ offers s x None z
+    ∙ some-where (asks_offer (row_at s x None z).next) (offer_query s (limit_after (deeds_at s x None z) x z.limit))

@@ -1,5 +1,5 @@
 -- One step of the source's policy engine, and what is read of it.
-use Rattle.std.specs.Prelude.{ℕ, ◌*◌, max, fold, Bool, true, false, ◌&&◌, if◌then◌else◌, List, [], ◌∷◌, Option, Some, None, unwrap_or}
+use Rattle.std.specs.Prelude.{ℕ, ◌*◌, max, fold, Bool, true, false, not, ◌&&◌, if◌then◌else◌, List, [], ◌∷◌, Option, Some, None, unwrap_or}
 use Rattle.pd_timers.specs.declared.Timer.TheVariants as timer
 use Rattle.pd_timers.specs.Deadlines.{stopped}
 use Rattle.pd_objects.specs.Supply.{SupplyData}
@@ -19,7 +19,8 @@ use Rattle.pd_source.specs.declared.kinds.Deed.{Deed}
 use Rattle.pd_source.specs.declared.kinds.Deed.TheVariants as deed
 use Rattle.pd_source.specs.Record.{SourceSettings, SourceRecord, cable_current}
 use Rattle.pd_source.specs.Request.{power_of, contract_power}
-use Rattle.pd_source.specs.Table.{Row, Ended, holds, among, match_one, heard_of, is_request_valid, row_of, deeds_of_row, asks_offer}
+use Rattle.pd_source.specs.Table.{Row, Ended, holds, among, match_one, heard_of, is_request_valid, row_of, deeds_of_row}
+use Rattle.pd_source.specs.Table.{differs_from, asks_offer}
 use Rattle.pd_source.specs.Acts.{limit_from, all_after, all_wants}
 
 -- before the row is taken, a timer that falls due has ended, and Sent has set the mark
@@ -77,6 +78,10 @@ row_query s x r =
 -- whether OfferPoll falls due in Ready or Wait_New_Capabilities
 abbrev pub polls : State → Heard → Bool
 polls s h = among s (state.Ready ∷ state.WaitNewCapabilities ∷ []) && match_one h (Ended timer.OfferPoll ∷ [])
+
+-- whether a step finds the offer as it was delivered: OfferPoll falls due there, and the answer is no other offer
+abbrev pub finds_alike : Stimulus → Option Answer → SourceRecord → Bool
+finds_alike x a r = polls r.state (heard_of x) && not (differs_from r.delivered_offer a)
 
 -- whether Delay falls due in Negotiate_Capability
 abbrev pub decides : State → Heard → Bool

@@ -22,6 +22,7 @@ use std::marker::Model;
 
 mod asks;
 mod copies;
+mod polls;
 mod power;
 
 /// The current in mA that each cable carries (USB Type-C).

@@ -1,6 +1,6 @@
 //! What the engine asks of the shared budget, and what the guards of the rows ask of the engine.
 
-ghost use Rattle.std.specs.Prelude.{◌≡◌, ◌≤◌, length};
+ghost use Rattle.std.specs.Prelude.{◌≡◌, ◌≤◌, is_some, length};
 ghost use Rattle.pd_source.specs.Facts.{facts_of};
 ghost use Rattle.pd_source.specs.Table.{is_request_valid, differs_from};
 ghost use Rattle.pd_source.specs.Acts as acts;
@@ -35,6 +35,30 @@ impl Source {
             return self.fit_query();
         }
         self.row_query(stimulus)
+    }
+
+    /// Whether the engine asks anything of the shared budget before a step. No query is made for it.
+    #[tactic(auto, unfolding(crate::specs::Step::query_of))]
+    pub fn asks(&self, stimulus: &Stimulus) -> bool
+        ensures { result ≡ is_some (step.query_of self.now.settings stimulus.now self.now.record) }
+    {
+        let heard = heard_of(stimulus);
+        if polls(self.state, heard) {
+            return true;
+        }
+        if decides(self.state, heard) {
+            return self.fit_query().is_some();
+        }
+        self.row_asks(stimulus)
+    }
+
+    /// Whether a row is taken that makes an offer.
+    fn row_asks(&self, stimulus: &Stimulus) -> bool
+        ensures { result ≡ is_some
+            (step.row_query self.now.settings stimulus.now (step.before_row stimulus.now self.now.record)) }
+    {
+        let deeds = self.deeds(self.sent_before(stimulus), stimulus, &None);
+        makes_offer(deeds)
     }
 
     /// The query which currents may be offered through a cable of this limit.
@@ -123,7 +147,7 @@ impl Source {
 }
 
 /// Whether OfferPoll falls due in Ready or Wait_New_Capabilities.
-fn polls(state: State, heard: Heard) -> bool
+pub(super) fn polls(state: State, heard: Heard) -> bool
     ensures { result ≡ step.polls state heard }
 {
     matches!(state, State::Ready | State::WaitNewCapabilities)
@@ -138,7 +162,7 @@ fn decides(state: State, heard: Heard) -> bool
 }
 
 /// Whether the answer is another offer than this one.
-fn differs_from(offer: &[u32], answer: &Option<Answer>) -> bool
+pub(super) fn differs_from(offer: &[u32], answer: &Option<Answer>) -> bool
     ensures { result ≡ differs_from offer.now answer.now }
 {
     match answer {
