@@ -146,15 +146,15 @@ impl PortStep {
     }
 
     /// An act of the sink.
-    fn sink_act(&mut self, act: SinkAct)
-        requires { length self.old.faults.items + sink_faults_of act ≤ 8 }
-        ensures after { self.new ≡ sink_act act self.old }
-        ensures faults { length self.new.faults.items ≤ length self.old.faults.items + sink_faults_of act }
+    fn sink_act(&mut self, act: &SinkAct)
+        requires { length self.old.faults.items + sink_faults_of act.now ≤ 8 }
+        ensures after { self.new ≡ sink_act act.now self.old }
+        ensures faults { length self.new.faults.items ≤ length self.old.faults.items + sink_faults_of act.now }
     {
         match act {
             SinkAct::DropWaiting => self.wait(Side::Sink, Waiting::Nothing),
             SinkAct::ResetLayer => self.reset_on(Side::Sink, Channel::Sop),
-            SinkAct::Note(note) => self.note(sink_fault(note)),
+            SinkAct::Note(note) => self.note(sink_fault(*note)),
             SinkAct::Send(sending) => {
                 self.wait(Side::Sink, Waiting::Message(sink_message(sending)));
             }
@@ -163,14 +163,13 @@ impl PortStep {
     }
 
     /// The acts of the sink, in order.
-    fn sink_acts(&mut self, rest: &mut ArrayVec<SinkAct, 8>)
-        requires { length self.old.faults.items + sink_faults rest.old.items ≤ 8 }
-        ensures after { self.new ≡ sink_acts rest.old.items self.old }
-        ensures faults { length self.new.faults.items ≤ length self.old.faults.items + sink_faults rest.old.items }
+    fn sink_acts(&mut self, acts: &[SinkAct])
+        requires { length self.old.faults.items + sink_faults acts.now ≤ 8 }
+        ensures after { self.new ≡ sink_acts acts.now self.old }
+        ensures faults { length self.new.faults.items ≤ length self.old.faults.items + sink_faults acts.now }
     {
-        'acts: while !rest.is_empty() {
-            let next = rest.remove(0);
-            self.sink_act(next);
+        for act in acts {
+            self.sink_act(act);
         }
     }
 
@@ -184,12 +183,12 @@ impl PortStep {
     {
         let mut acts = ArrayVec::new();
         self.port.sink.step_into(t, stimulus, &mut acts);
-        self.sink_acts(&mut acts);
+        self.sink_acts(acts.as_slice());
     }
 
     /// An act of the plug.
-    fn plug_act(&mut self, act: PlugAct)
-        ensures after { self.new ≡ plug_act act self.old }
+    fn plug_act(&mut self, act: &PlugAct)
+        ensures after { self.new ≡ plug_act act.now self.old }
         ensures faults { self.new.faults ≡ self.old.faults }
     {
         match act {
@@ -201,13 +200,12 @@ impl PortStep {
     }
 
     /// The acts of the plug, in order.
-    fn plug_acts(&mut self, rest: &mut ArrayVec<PlugAct, 8>)
-        ensures after { self.new ≡ plug_acts rest.old.items self.old }
+    fn plug_acts(&mut self, acts: &[PlugAct])
+        ensures after { self.new ≡ plug_acts acts.now self.old }
         ensures faults { self.new.faults ≡ self.old.faults }
     {
-        'acts: while !rest.is_empty() {
-            let next = rest.remove(0);
-            self.plug_act(next);
+        for act in acts {
+            self.plug_act(act);
         }
     }
 
@@ -220,22 +218,22 @@ impl PortStep {
     {
         let mut acts = ArrayVec::new();
         self.port.plug.step_into(t, stimulus, &mut acts);
-        self.plug_acts(&mut acts);
+        self.plug_acts(acts.as_slice());
     }
 
     /// An act of the source.
-    fn source_act(&mut self, t: u64, act: SourceAct)
+    fn source_act(&mut self, t: u64, act: &SourceAct)
         requires time { t ≤ LAST_TIME }
-        requires room { length self.old.faults.items + source_faults_of act ≤ 8 }
-        ensures after { self.new ≡ source_act t act self.old }
-        ensures faults { length self.new.faults.items ≤ length self.old.faults.items + source_faults_of act }
+        requires room { length self.old.faults.items + source_faults_of act.now ≤ 8 }
+        ensures after { self.new ≡ source_act t act.now self.old }
+        ensures faults { length self.new.faults.items ≤ length self.old.faults.items + source_faults_of act.now }
     {
         match act {
             SourceAct::DropWaiting => self.wait(Side::Source, Waiting::Nothing),
             SourceAct::On => self.sink_steps(t, &SinkStimulus::Vbus),
             SourceAct::Off => {}
             SourceAct::ResetLayer => self.reset_on(Side::Source, Channel::Sop),
-            SourceAct::Note(note) => self.note(source_fault(note)),
+            SourceAct::Note(note) => self.note(source_fault(*note)),
             SourceAct::Send(sending) => {
                 self.wait(Side::Source, Waiting::Message(source_message(sending)));
             }
@@ -244,15 +242,14 @@ impl PortStep {
     }
 
     /// The acts of the source, in order.
-    fn source_acts(&mut self, t: u64, rest: &mut ArrayVec<SourceAct, 8>)
+    fn source_acts(&mut self, t: u64, acts: &[SourceAct])
         requires time { t ≤ LAST_TIME }
-        requires room { length self.old.faults.items + source_faults rest.old.items ≤ 8 }
-        ensures after { self.new ≡ source_acts t rest.old.items self.old }
-        ensures faults { length self.new.faults.items ≤ length self.old.faults.items + source_faults rest.old.items }
+        requires room { length self.old.faults.items + source_faults acts.now ≤ 8 }
+        ensures after { self.new ≡ source_acts t acts.now self.old }
+        ensures faults { length self.new.faults.items ≤ length self.old.faults.items + source_faults acts.now }
     {
-        'acts: while !rest.is_empty() {
-            let next = rest.remove(0);
-            self.source_act(t, next);
+        for act in acts {
+            self.source_act(t, act);
         }
     }
 
@@ -264,12 +261,17 @@ impl PortStep {
         ensures after { self.new ≡ source_steps t stimulus.now self.old }
         ensures faults { length self.new.faults.items ≤ length self.old.faults.items + 2 }
     {
+        if self.port.source.polls_again(t, stimulus, &self.answer) {
+            self.answer = None;
+            self.wait(Side::Source, Waiting::Nothing);
+            return;
+        }
         let mut acts = ArrayVec::new();
         self.port
             .source
             .step_into(t, stimulus, &self.answer, &mut acts);
         self.answer = None;
-        self.source_acts(t, &mut acts);
+        self.source_acts(t, acts.as_slice());
     }
 
     /// What a side has sent has reached its receiver.

@@ -87,14 +87,14 @@ fn one(object: u32) -> ArrayVec<u32, 7>
 }
 
 /// The message that the source sends.
-pub(crate) fn source_message(sending: SourceSending) -> Message
-    ensures { result ≡ source_message sending }
+pub(crate) fn source_message(sending: &SourceSending) -> Message
+    ensures { result ≡ source_message sending.now }
 {
     match sending {
         SourceSending::DiscoverIdentity => Message::of(Kind::VendorDefined, one(request())),
         SourceSending::SourceCapabilities(objects) => Message::of(
             Kind::SourceCapabilities,
-            objects,
+            copied(objects.as_slice()),
         ),
         SourceSending::Accept => Message::control(Kind::Accept),
         SourceSending::Reject => Message::control(Kind::Reject),
@@ -106,23 +106,26 @@ pub(crate) fn source_message(sending: SourceSending) -> Message
 }
 
 /// The message that the sink sends.
-pub(crate) fn sink_message(sending: SinkSending) -> Message
-    ensures { result ≡ sink_message sending }
+pub(crate) fn sink_message(sending: &SinkSending) -> Message
+    ensures { result ≡ sink_message sending.now }
 {
     match sending {
-        SinkSending::Request(object) => Message::of(Kind::Request, one(object)),
+        SinkSending::Request(object) => Message::of(Kind::Request, one(*object)),
         SinkSending::GetSourceCap => Message::control(Kind::GetSourceCap),
-        SinkSending::SinkCapabilities(objects) => Message::of(Kind::SinkCapabilities, objects),
+        SinkSending::SinkCapabilities(objects) => Message::of(
+            Kind::SinkCapabilities,
+            copied(objects.as_slice()),
+        ),
         SinkSending::Accept => Message::control(Kind::Accept),
         SinkSending::SoftReset => Message::control(Kind::SoftReset),
     }
 }
 
 /// The message that the plug sends.
-pub(crate) fn plug_message(objects: ArrayVec<u32, 7>) -> Message
-    ensures { result ≡ plug_message objects.items }
+pub(crate) fn plug_message(objects: &ArrayVec<u32, 7>) -> Message
+    ensures { result ≡ plug_message objects.now.items }
 {
-    Message::of(Kind::VendorDefined, objects)
+    Message::of(Kind::VendorDefined, copied(objects.as_slice()))
 }
 
 /// What the source notes.
