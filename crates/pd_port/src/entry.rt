@@ -3,7 +3,7 @@
 ghost use Rattle.std.specs.Prelude.{◌≡◌};
 ghost use Rattle.pd_port.specs.Changes.{contract_change};
 
-use crate::Due;
+use crate::{Due, What};
 use arrayvec::ArrayVec;
 use pd_line::{Fault, Start};
 use pd_objects::{Contract, Query};
@@ -31,6 +31,33 @@ pub struct Entry {
 }
 
 impl Entry {
+    ghost use Rattle.std.specs.Prelude.{None, []};
+    ghost use Rattle.pd_port.specs.declared.due.What.TheVariants.{Line};
+
+    /// An entry that tells of nothing yet, into which a step's is put.
+    pub fn new() -> Entry
+        ensures { result ≡ record {
+          at = 0;
+          due = record { time = 0; what = Line };
+          query = None;
+          faults = record { items = [] };
+          contract = None;
+          start = None;
+        } }
+    {
+        Entry {
+            at: 0,
+            due: Due {
+                time: 0,
+                what: What::Line,
+            },
+            query: None,
+            faults: ArrayVec::new(),
+            contract: None,
+            start: None,
+        }
+    }
+
     /// A copy, with all notes.
     pub fn copy(&self) -> Entry
         ensures { result ≡ self.now }

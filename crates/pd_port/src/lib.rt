@@ -9,6 +9,7 @@ mod happens;
 pub mod laws;
 mod meter;
 mod own_due;
+mod polls;
 mod port;
 
 pub use due::{Due, What};

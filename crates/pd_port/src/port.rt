@@ -1,17 +1,20 @@
 //! A port: what falls due on it, and its step.
 
-ghost use Rattle.std.specs.Prelude.{◌≡◌, ℕ, ◌+◌, ◌<◌, ◌≤◌, length, None, IsTrue, ◌↔◌};
+ghost use Rattle.std.specs.Prelude.{◌≡◌, ℕ, ◌+◌, ◌<◌, ◌≤◌, length, None, is_some, IsTrue, ◌↔◌};
 ghost use Rattle.std.specs.Option.{option_copied};
 ghost use Rattle.pd_line.specs.Record.{without_settings};
+ghost use Rattle.pd_line.specs.declared.port_step.PortStep.{PortStep};
 ghost use Rattle.pd_port.specs.OwnDue.{told_due};
-ghost use Rattle.pd_port.specs.Port.{due as the_due, detached, happens, portstep, source_settings};
+ghost use Rattle.pd_port.specs.Port.{due as the_due, detached, happens, portstep, source_settings, whole};
 
 use crate::asks::{is_budget, source_told};
 use crate::dues::{due_of_event, earlier_of};
 use crate::entry::change_of;
 use crate::happens::event_happens;
 use crate::own_due::{earlier_own_due, own_due_of_line, own_due_of_timer};
+use crate::polls::{is_poll, polls_again};
 use crate::{Due, Entry, Event, Meter, OwnDue, Settings, What};
+use arrayvec::ArrayVec;
 use pd_header::Side;
 use pd_line::stepping::{PortParts, PortStep};
 use pd_objects::{Answer, Contract, Query};
@@ -93,6 +96,37 @@ fn parts_at_rest(settings: &Settings) -> PortParts
     )
 }
 
+/// The parts become what the step of a port for this due leaves; its faults and what it starts are put in an entry.
+#[tactic(auto, unfolding(crate::specs::Port::portstep))]
+fn step_parts(
+    parts: &mut PortParts,
+    before: &Port,
+    due: &Due,
+    answer: &Option<Answer>,
+    entry: &mut Entry,
+)
+    requires { due.now.time ≤ LAST_TIME }
+    ensures parts { parts.new ≡ (portstep (whole before.now.settings before.now.port_record) due.now answer.now).port }
+    ensures entry { let u : PortStep = portstep (whole before.now.settings before.now.port_record) due.now answer.now in
+        entry.new ≡ record entry.old { faults = u.faults; start = u.start } }
+{
+    if is_poll(due) {
+        *parts = before.parts;
+        if polls_again(parts, due, answer) {
+            entry.faults = ArrayVec::new();
+            entry.start = None;
+            return;
+        }
+    }
+    let mut step = PortStep::at_rest(&before.parts);
+    give(&mut step, answer);
+    happens(&mut step, &before.settings, &due.what, due.time);
+    step.line_starts(due.time);
+    *parts = step.port;
+    entry.faults = step.faults;
+    entry.start = step.start;
+}
+
 impl Port {
     ghost use Rattle.pd_port.specs.Meter.{raised};
     ghost use Rattle.pd_port.specs.Port.{detached, due as the_due, ask, record_after, entry_of, hold};
@@ -142,6 +176,20 @@ impl Port {
         self.parts.source.ask(&stimulus)
     }
 
+    /// Whether the port asks anything of the shared budget before the step for this due. No query is made for it.
+    #[tactic(auto, unfolding(crate::specs::Port::ask))]
+    pub fn asks(&self, due: &Due) -> bool
+        ensures { result ≡ is_some (ask self.now.settings self.now.port_record due.now) }
+    {
+        if is_budget(&due.what) {
+            return true;
+        }
+        match source_told(&self.parts, &due.what) {
+            Some(stimulus) => self.parts.source.asks(&stimulus),
+            None => false,
+        }
+    }
+
     /// The step for this due, with the answer to what the port asked. The meter rises by one.
     #[tactic(auto, unfolding(crate::specs::Port::portstep))]
     pub fn step(&mut self, due: &Due, answer: Option<Answer>, meter: &mut Meter) -> Entry
@@ -155,7 +203,6 @@ impl Port {
     }
 
     /// The port becomes what the step of another one for this due leaves, where it is known what that one asks. The meter rises by one.
-    #[tactic(auto, unfolding(crate::specs::Port::portstep))]
     pub fn step_from(
         &mut self,
         before: &Port,
@@ -172,21 +219,36 @@ impl Port {
         ensures entry { result ≡ entry_of before.now.settings before.now.port_record due.now answer.now }
         ensures meter { meter.new ≡ raised meter.old 1 }
     {
+        let mut entry = Entry::new();
+        self.step_into(before, due, query, answer, meter, &mut entry);
+        entry
+    }
+
+    /// The same, with the entry put where it stays: it is long, and would be copied once more.
+    pub fn step_into(
+        &mut self,
+        before: &Port,
+        due: &Due,
+        query: Option<Query>,
+        answer: &Option<Answer>,
+        meter: &mut Meter,
+        entry: &mut Entry,
+    )
+        requires time { due.now.time ≤ LAST_TIME }
+        requires asks { query ≡ ask before.now.settings before.now.port_record due.now }
+        ensures after { self.new ≡ record before.now {
+          port_record = record_after before.now.settings before.now.port_record due.now answer.now;
+        } }
+        ensures entry { entry.new ≡ entry_of before.now.settings before.now.port_record due.now answer.now }
+        ensures meter { meter.new ≡ raised meter.old 1 }
+    {
         meter.rise();
-        let mut step = PortStep::at_rest(&before.parts);
-        give(&mut step, answer);
-        happens(&mut step, &before.settings, &due.what, due.time);
-        step.line_starts(due.time);
+        step_parts(&mut self.parts, before, due, answer, entry);
         self.settings = before.settings;
-        self.parts = step.port;
-        Entry {
-            at: due.time,
-            due: *due,
-            query,
-            faults: step.faults,
-            contract: change_of(before.contract(), self.contract()),
-            start: step.start,
-        }
+        entry.at = due.time;
+        entry.due = *due;
+        entry.query = query;
+        entry.contract = change_of(before.contract(), self.contract());
     }
 
     /// What the port holds of the shared budget, in microwatts.

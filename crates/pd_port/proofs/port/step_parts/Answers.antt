@@ -1,0 +1,35 @@
+use Rattle.std.proofs.Common.{ap, ◌∙◌}
+use Rattle.pd_line.specs.declared.port_step.PortStep.{PortStep}
+use Rattle.pd_port.specs.Port.{happens}
+use Rattle.pd_port.proofs.Steps.{portstep_is, led_whole}
+use Rattle.pd_port.proofs.Polled.{polled_entry}
+use Rattle.pd_port.proofs.port.step_parts.Goals as goal
+
+pub returns-then-polls_again-clause-parts : goal.returns-then-polls_again-clause-parts
+returns-then-polls_again-clause-parts c =
+    let d = c.args.due.now in let given = c.args.answer.now in
+    let done = led_whole c.args.before.now c.before-2.inside.settings c.before-2.inside.parts d given c.before-2.view_is c.before-2.invariant in
+    ap (λ (x : PortStep). x.port) (c.polls_again.ensures c.if-polls_again.true ∙ done)
+
+pub returns-then-polls_again-clause-entry : goal.returns-then-polls_again-clause-entry
+returns-then-polls_again-clause-entry c =
+    let d = c.args.due.now in let given = c.args.answer.now in
+    let done = led_whole c.args.before.now c.before-2.inside.settings c.before-2.inside.parts d given c.before-2.view_is c.before-2.invariant in
+    polled_entry c.args.entry.now _ c.polls_again.new.parts c.new-entry.result c.new-entry.ensures
+    (c.polls_again.ensures c.if-polls_again.true ∙ done)
+
+pub returns-clause-parts : goal.returns-clause-parts
+returns-clause-parts c =
+    let p = c.before-2.inside.parts in let d = c.args.due.now in let given = c.args.answer.now in
+    let is = portstep_is p d given c.at_rest-step.result c.happens.new.step c.line_starts.new.self c.at_rest-step.ensures
+    (c.happens.ensures ∙ ap (happens d.what d.time) c.give.ensures) c.line_starts.ensures.after in
+    let done = led_whole c.args.before.now c.before-2.inside.settings p d given c.before-2.view_is c.before-2.invariant in
+    ap (λ (x : PortStep). x.port) (is ∙ done)
+
+pub returns-clause-entry : goal.returns-clause-entry
+returns-clause-entry c =
+    let p = c.before-2.inside.parts in let d = c.args.due.now in let given = c.args.answer.now in
+    let is = portstep_is p d given c.at_rest-step.result c.happens.new.step c.line_starts.new.self c.at_rest-step.ensures
+    (c.happens.ensures ∙ ap (happens d.what d.time) c.give.ensures) c.line_starts.ensures.after in
+    let done = led_whole c.args.before.now c.before-2.inside.settings p d given c.before-2.view_is c.before-2.invariant in
+    ap (λ (x : PortStep). record c.args.entry.now { faults = x.faults; start = x.start }) (is ∙ done)
