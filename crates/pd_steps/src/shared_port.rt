@@ -118,7 +118,8 @@ impl SharedPort {
             return Err(AllocError);
         };
         // It is stepped from where it stood: what has just been written isn't read again.
-        room.entry = room.port.step_from(&self.stepped.port, due, &answer, meter);
+        room.port
+            .step_from(&self.stepped.port, due, &answer, meter, &mut room.entry);
         room.answer = answer;
         let step = SharedStep { stepped };
         self.stepped = step.stepped.clone()?;

@@ -3,9 +3,8 @@
 ghost use Rattle.std.specs.Prelude.{◌≡◌, None};
 
 use crate::timed_port::TimedPort;
-use arrayvec::ArrayVec;
 use pd_objects::Answer;
-use pd_port::{Due, Entry, What};
+use pd_port::Entry;
 
 /// A port as a step has left it, with the answer to what it had asked, and what the step left to be read. They stand in one block of
 /// memory, since all of them are kept, and let go, together.
@@ -26,17 +25,7 @@ impl Stepped {
         Stepped {
             port,
             answer: None,
-            entry: Entry {
-                at: 0,
-                due: Due {
-                    time: 0,
-                    what: What::Line,
-                },
-                query: None,
-                faults: ArrayVec::new(),
-                contract: None,
-                start: None,
-            },
+            entry: Entry::new(),
         }
     }
 }

@@ -126,28 +126,30 @@ impl TimedPort {
         })
     }
 
-    /// The port becomes what the step of another one for this due leaves, with the answer to what that one asked. The meter rises by one.
+    /// The port becomes what the step of another one for this due leaves, with the answer to what that one asked, and the step's entry
+    /// is put in its place. The meter rises by one.
     pub(crate) fn step_from(
         &mut self,
         before: &TimedPort,
         due: &Due,
         answer: &Option<Answer>,
         meter: &mut Meter,
-    ) -> Entry
+        entry: &mut Entry,
+    )
         requires { due.now.time ≤ LAST_TIME }
         ensures after { self.new ≡ record before.now {
           port_record = record_after before.now.settings before.now.port_record due.now answer.now;
         } }
-        ensures entry { result ≡ entry_of before.now.settings before.now.port_record due.now answer.now }
+        ensures entry { entry.new ≡ entry_of before.now.settings before.now.port_record due.now answer.now }
         ensures meter { meter.new ≡ raised meter.old 1 }
     {
         let query = before.ask(due);
-        let entry = self.port.step_from(&before.port, due, query, answer, meter);
+        self.port
+            .step_into(&before.port, due, query, answer, meter, entry);
         let own = self.port.own_due();
         self.own = own;
         self.asks = asks_at(&self.port, &own);
         self.hold = self.port.hold();
-        entry
     }
 }
 
@@ -156,7 +158,7 @@ fn asks_at(port: &Port, own: &OwnDue) -> bool
     ensures { result ≡ asks_at port.now (told_due own.now) }
 {
     match own.due() {
-        Some(due) => port.ask(&due).is_some(),
+        Some(due) => port.asks(&due),
         None => false,
     }
 }
