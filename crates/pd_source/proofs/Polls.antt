@@ -1,5 +1,5 @@
 -- What a step does that finds the offer as it was delivered.
-use Rattle.std.proofs.Common.{◌≡◌, ℕ, Bool, true, false, not, ◌&&◌, if◌then◌else◌, List, [], ◌∷◌, Option, refl, ap, ◌∙◌}
+use Rattle.std.proofs.Common.{◌≡◌, ℕ, Bool, true, false, not, if◌then◌else◌, List, [], ◌∷◌, Option, refl, ap, ◌∙◌}
 use Rattle.pd_timers.specs.declared.Timer.TheVariants as timer
 use Rattle.pd_timers.specs.Deadlines.{idle, started}
 use Rattle.pd_objects.specs.declared.query.Answer.{Answer}
