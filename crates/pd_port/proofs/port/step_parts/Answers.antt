@@ -7,14 +7,14 @@ use Rattle.pd_port.proofs.port.step_parts.Goals as goal
 
 pub returns-then-polls_again-clause-parts : goal.returns-then-polls_again-clause-parts
 returns-then-polls_again-clause-parts c =
-    let d = c.args.due.now in let given = c.args.answer.now in
-    let done = led_whole c.args.before.now c.before-2.inside.settings c.before-2.inside.parts d given c.before-2.view_is c.before-2.invariant in
+    let p = c.before-2.inside.parts in let d = c.args.due.now in let given = c.args.answer.now in
+    let done = led_whole c.args.before.now c.before-2.inside.settings p d given c.before-2.view_is c.before-2.invariant in
     ap (λ (x : PortStep). x.port) (c.polls_again.ensures c.if-polls_again.true ∙ done)
 
 pub returns-then-polls_again-clause-entry : goal.returns-then-polls_again-clause-entry
 returns-then-polls_again-clause-entry c =
-    let d = c.args.due.now in let given = c.args.answer.now in
-    let done = led_whole c.args.before.now c.before-2.inside.settings c.before-2.inside.parts d given c.before-2.view_is c.before-2.invariant in
+    let p = c.before-2.inside.parts in let d = c.args.due.now in let given = c.args.answer.now in
+    let done = led_whole c.args.before.now c.before-2.inside.settings p d given c.before-2.view_is c.before-2.invariant in
     polled_entry c.args.entry.now _ c.polls_again.new.parts c.new-entry.result c.new-entry.ensures
     (c.polls_again.ensures c.if-polls_again.true ∙ done)
 
