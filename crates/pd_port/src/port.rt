@@ -199,32 +199,13 @@ impl Port {
         ensures meter { meter.new ≡ raised meter.old 1 }
     {
         let before = self.copy();
-        self.step_from(&before, due, before.ask(due), &answer, meter)
-    }
-
-    /// The port becomes what the step of another one for this due leaves, where it is known what that one asks. The meter rises by one.
-    pub fn step_from(
-        &mut self,
-        before: &Port,
-        due: &Due,
-        query: Option<Query>,
-        answer: &Option<Answer>,
-        meter: &mut Meter,
-    ) -> Entry
-        requires time { due.now.time ≤ LAST_TIME }
-        requires asks { query ≡ ask before.now.settings before.now.port_record due.now }
-        ensures after { self.new ≡ record before.now {
-          port_record = record_after before.now.settings before.now.port_record due.now answer.now;
-        } }
-        ensures entry { result ≡ entry_of before.now.settings before.now.port_record due.now answer.now }
-        ensures meter { meter.new ≡ raised meter.old 1 }
-    {
         let mut entry = Entry::new();
-        self.step_into(before, due, query, answer, meter, &mut entry);
+        self.step_into(&before, due, before.ask(due), &answer, meter, &mut entry);
         entry
     }
 
-    /// The same, with the entry put where it stays: it is long, and would be copied once more.
+    /// The port becomes what the step of another one for this due leaves, where it is known what that one asks, and the step's entry is put
+    /// where it stays: it is long, and would be copied once more. The meter rises by one.
     pub fn step_into(
         &mut self,
         before: &Port,
