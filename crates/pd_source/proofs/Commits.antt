@@ -2,6 +2,7 @@
 use Rattle.std.proofs.Common.{◌≡◌, ◌≢◌, ◌⊎◌, ℕ, Bool, true, false, not, ◌&&◌, ◌||◌, if◌then◌else◌, List, [], ◌∷◌, Option, None, option_map}
 use Rattle.std.proofs.Common.{refl, sym, ap, ◌∙◌, inl, inr}
 use Rattle.std.specs.List.{list_all}
+use Rattle.std.proofs.lemmas.Bool.{not-true}
 use Rattle.pd_objects.specs.declared.contract.Contract.{Contract}
 use Rattle.pd_objects.specs.declared.query.Answer.{Answer}
 use Rattle.pd_source.specs.declared.kinds.State.{State}
@@ -62,13 +63,9 @@ contract-all s (d ∷ ds) now x a r old n h =
     contract-all s ds now x a (after s d now x a r) old (and-right (not (is_commit d)) (none_of is_commit ds) n)
     (contract-after s d now x a r old (and-left (not (is_commit d)) (none_of is_commit ds) n) h)
 
-is-false : (b : Bool) → not b ≡ true → b ≡ false
-is-false true h = absurd (cc)
-is-false false h = refl
-
 state-after : (s : SourceSettings) (d : Deed) (now : ℕ) (x : Stimulus) (a : Option Answer) (r : SourceRecord) →
     not (enters_ready d) ≡ true → is_in_ready r.state ≡ false → is_in_ready (after s d now x a r).state ≡ false
-state-after s (deed.Enter t) now x a r n h = is-false (is_in_ready t) n
+state-after s (deed.Enter t) now x a r n h = not-true (is_in_ready t) n
 state-after s _ now x a r n h = h
 
 state-all : (s : SourceSettings) (ds : List Deed) (now : ℕ) (x : Stimulus) (a : Option Answer) (r : SourceRecord) →

@@ -1,5 +1,6 @@
 -- What a step does that finds the offer as it was delivered.
 use Rattle.std.proofs.Common.{◌≡◌, ℕ, Bool, true, false, not, if◌then◌else◌, List, [], ◌∷◌, Option, refl, ap, ◌∙◌}
+use Rattle.std.proofs.lemmas.Bool.{not-true}
 use Rattle.pd_timers.specs.declared.Timer.TheVariants as timer
 use Rattle.pd_timers.specs.Deadlines.{idle, started}
 use Rattle.pd_objects.specs.declared.query.Answer.{Answer}
@@ -17,10 +18,6 @@ use Rattle.pd_source.specs.Step.{before_row, row_at, stepped, acts_of, polls, fi
 use Rattle.pd_source.proofs.Walk.{and-left, and-right}
 use Rattle.pd_source.proofs.Answered.{state-before}
 use Rattle.pd_source.proofs.Limits.{polling, again}
-
-is-false : (b : Bool) → not b ≡ true → b ≡ false
-is-false true h = absurd (cc)
-is-false false h = refl
 
 other : (b : Bool) (p q : Row) → b ≡ false → (if b then p else q) ≡ q
 other true p q h = absurd (cc)
@@ -52,7 +49,7 @@ row-again : (s : SourceSettings) (x : Stimulus) (a : Option Answer) (r : SourceR
 row-again s x a r h =
     let z = before_row x r in
     let p = and-left (polls r.state (heard_of x)) (not (differs_from r.delivered_offer a)) h in
-    let q = is-false (differs_from r.delivered_offer a)
+    let q = not-true (differs_from r.delivered_offer a)
     (and-right (polls r.state (heard_of x)) (not (differs_from r.delivered_offer a)) h) in
     polled-again (holds s a z) refl (ap (λ (offer : List ℕ). differs_from offer a) (offer-before x r) ∙ q) z.state (heard_of x)
     (ap (λ t. polls t (heard_of x)) (state-before x r) ∙ p)
