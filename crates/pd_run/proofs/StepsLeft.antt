@@ -44,7 +44,7 @@ steps_left_known plan past live s =
     ∙ ap (λ t. steps_left_of plan k (record { state = (standing plan past k).state; taken = t })) (s.taken_are k lt)))
 
 -- an event or a deadline is used up
-used : (plan : Plan) (p t : ℕ) (r : PortRecord) (d : Due) (a : Option Answer) → due r (slice_get (script_of plan p) t) ≡ Some d
+pub used : (plan : Plan) (p t : ℕ) (r : PortRecord) (d : Due) (a : Option Answer) → due r (slice_get (script_of plan p) t) ≡ Some d
     → pending (record_after (settings_of plan p) r d a) d.time + (length (script_of plan p) - taken_after t d) < pending r
     d.time + (length (script_of plan p) - t)
 used plan p t r d a e = cases d.what refl where

@@ -1,5 +1,6 @@
 pub mod Beside
 pub mod Cost
+pub mod Distinct
 pub mod Held
 pub mod Laws
 pub mod Live
