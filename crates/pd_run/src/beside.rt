@@ -167,7 +167,7 @@ fn same_scripts<const N: usize>(
 }
 
 // Whether both are the same events.
-fn same_events(events: &[Event], others: &[Event]) -> bool
+pub(crate) fn same_events(events: &[Event], others: &[Event]) -> bool
     ensures { IsTrue result ↔ (events.now ≡ others.now) }
 {
     match (events, others) {
@@ -189,7 +189,7 @@ fn have_same_budget<const N: usize>(old: &Plan<N>, plan: &Plan<N>) -> bool
 }
 
 // Whether both are the same changes in the same order.
-fn same_changes(changes: &[BudgetChange], others: &[BudgetChange]) -> bool
+pub(crate) fn same_changes(changes: &[BudgetChange], others: &[BudgetChange]) -> bool
     ensures { IsTrue result ↔ (changes.now ≡ others.now) }
 {
     match (changes, others) {

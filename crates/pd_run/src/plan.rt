@@ -1,11 +1,12 @@
 //! A plan, as a runner keeps it.
 
-ghost use Rattle.std.specs.Prelude.{◌≡◌, ℕ, ◌+◌, ◌-◌, ◌<◌, ◌≤◌, slice_get, map, All, IfOk};
+ghost use Rattle.std.specs.Prelude.{◌≡◌, ℕ, ◌+◌, ◌-◌, ◌<◌, ◌≤◌, ◌↔◌, slice_get, map, All, IfOk, IsTrue};
 ghost use Rattle.std.specs.Option.{option_copied};
 ghost use Rattle.pd_scenario.specs.Plan.{IsPlan, settings_of, script_of, floors_of, force};
 ghost use Rattle.pd_scenario.specs.Plans.{plan_of};
 ghost use Rattle.pd_run.specs.Start.{start_of};
 
+use crate::beside::{same_changes, same_events};
 use pd_changes::Changes;
 use pd_port::Port;
 use pd_scenario::{BudgetChange, Scenario};
@@ -65,6 +66,17 @@ impl<const N: usize> Plan<N> {
             forces,
             end: scenario.end_time(),
         })
+    }
+
+    /// Whether another plan asks the same.
+    pub fn same(&self, other: &Plan<N>) -> bool
+        ensures { IsTrue result ↔ (self.now ≡ other.now) }
+    {
+        same_changes(self.forces(), other.forces())
+            && self.end == other.end
+            && self.budget == other.budget
+            && all_same_settings(&self.settings, &other.settings)
+            && all_same_scripts(&self.scripts, &other.scripts)
     }
 
     /// What a port is set to.
@@ -154,6 +166,32 @@ impl<const N: usize> Plan<N> {
             ports.push(SharedPort::new(alloc, Port::new(settings))?)?;
         }
         Ok(ports)
+    }
+}
+
+// Whether these are the same settings in the same order.
+fn all_same_settings(settings: &[Settings], others: &[Settings]) -> bool
+    ensures { IsTrue result ↔ (settings.now ≡ others.now) }
+{
+    match (settings, others) {
+        ([], []) => true,
+        ([first, settings @ ..], [other, others @ ..]) => {
+            first.same(other) && all_same_settings(settings, others)
+        }
+        _ => false,
+    }
+}
+
+// Whether these are the same scripts in the same order.
+fn all_same_scripts(scripts: &[Vec<Event>], others: &[Vec<Event>]) -> bool
+    ensures { IsTrue result ↔ (map (λ v. v.items) scripts.now ≡ map (λ v. v.items) others.now) }
+{
+    match (scripts, others) {
+        ([], []) => true,
+        ([script, scripts @ ..], [other, others @ ..]) => {
+            same_events(script.as_slice(), other.as_slice()) && all_same_scripts(scripts, others)
+        }
+        _ => false,
     }
 }
 
