@@ -4,6 +4,7 @@ pub mod Counts
 pub mod Entries
 pub mod Course
 mod Following
+pub mod Former
 pub mod Fresh
 pub mod InTime
 pub mod Later

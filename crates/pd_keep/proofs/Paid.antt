@@ -1,14 +1,15 @@
 -- A run whose fresh moves are charged is paid for.
-use Rattle.std.proofs.Common.{ℕ, List, [], Option, None, Some, refl}
+use Rattle.std.proofs.Common.{◌≡◌, ℕ, List, [], Option, None, Some, refl, subst}
 use Rattle.pd_scenario.specs.Plan.{Plan}
 use Rattle.pd_run.specs.Cost.{IsPaid}
 use Rattle.pd_run.specs.Run.{Move, Run}
 use Rattle.pd_keep.specs.declared.kept.KeptRun.{KeptRun}
 use Rattle.pd_keep.specs.Cost.{IsRunOf, CostsFreshMoves}
-use Rattle.pd_keep.specs.Fresh.{IsCharged}
+use Rattle.pd_keep.specs.Fresh.{Running, IsCharged}
 use Rattle.pd_keep.specs.Rerun.{Costs}
 use Rattle.pd_keep.specs.Running.{running, Keeps}
-use Rattle.pd_keep.specs.Spans.{moves_of}
+use Rattle.pd_keep.specs.Kept.{RunData}
+use Rattle.pd_keep.specs.Spans.{moves_of, IsKept}
 use Rattle.pd_keep.proofs.Fresh.{all_fresh}
 
 kept_run : (n : ℕ) (run : Option (KeptRun n)) → Keeps n run → IsRunOf (running n run).plan (running n run).moves
@@ -19,6 +20,17 @@ pub paid_fresh : (n : ℕ) (old : Option (KeptRun n)) (plan : Plan) (moves : Lis
     → IsCharged (running n old) plan moves before after → IsPaid CostsFreshMoves (running n old).plan plan before after
 paid_fresh n old plan moves before after keeps run charge =
     (charge.0, ((running n old).moves, moves, kept_run n old keeps, run, charge.1), charge.2)
+
+-- so it is after what left run and meter as they were
+pub paid_anew : (n : ℕ) (run then : Option (KeptRun n)) (old : Running) (plan now : Plan) (spans : List RunData) (before mid after : ℕ)
+    → running n run ≡ old → then ≡ run → now ≡ plan → mid ≡ before → Keeps n run → IsKept n now spans
+    → IsCharged (running n then) now (moves_of spans) mid after → IsPaid CostsFreshMoves old.plan plan before after
+paid_anew n run then old plan now spans before mid after old_is then_is now_is mid_is keeps kept charge =
+    let charge_too = subst (λ (r : Option (KeptRun n)). IsCharged (running n r) now (moves_of spans) mid after) then_is charge in
+    subst (λ (r : Running). IsPaid CostsFreshMoves r.plan plan before after) old_is
+    (subst (λ (q : Plan). IsPaid CostsFreshMoves (running n run).plan q before after) now_is
+    (subst (λ (m : ℕ). IsPaid CostsFreshMoves (running n run).plan now m after) mid_is
+    (paid_fresh n run now (moves_of spans) mid after keeps kept.safe.run charge_too)))
 
 -- what a run costs beside what was kept
 pub charged_some : (n : ℕ) (run : KeptRun n) (plan : Plan) (moves : List Move) (before after : ℕ)

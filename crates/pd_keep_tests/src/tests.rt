@@ -77,6 +77,31 @@ fn of_an_ignored_event(rt: HostRuntime) -> Result<(), Fail> {
     Ok(())
 }
 
+/// A packet that is lost early and then isn't: what is taken back costs the moves that the run before had and this one hasn't, and so does
+/// the same edit when it is made again.
+#[test]
+fn of_a_loss_that_is_taken_back(rt: HostRuntime) -> Result<(), Fail> {
+    let back: [&[u8]; 2] = [b"insert 2 58800 1 lose", b"remove 2"];
+    let kept = cost::<1, Kept<1>>(rt.alloc(), PHONE, back.as_slice())?;
+    assert_eq!(rt; kept, Some((263, 6)));
+    assert!(rt; alike::<1>(rt.alloc(), PHONE, back.as_slice())?);
+    let again: [&[u8]; 3] = [
+        b"insert 2 58800 1 lose",
+        b"remove 2",
+        b"insert 2 58800 1 lose",
+    ];
+    let kept = cost::<1, Kept<1>>(rt.alloc(), PHONE, again.as_slice())?;
+    assert_eq!(rt; kept, Some((268, 11)));
+    assert!(rt; alike::<1>(rt.alloc(), PHONE, again.as_slice())?);
+    let other: [&[u8]; 3] = [
+        b"insert 2 58800 1 lose",
+        b"remove 2",
+        b"insert 2 55520 1 lose",
+    ];
+    assert!(rt; alike::<1>(rt.alloc(), PHONE, other.as_slice())?);
+    Ok(())
+}
+
 /// More power where there was enough changes no step.
 #[test]
 fn of_more_power(rt: HostRuntime) -> Result<(), Fail> {
