@@ -1,6 +1,7 @@
 -- What a port holds while its source steps.
 use Rattle.std.proofs.Common.{◌≡◌, ℕ, ◌≤◌, Bool, true, false, not, nat_le, if◌then◌else◌, List, [], ◌∷◌, Option, Some, None, option_map}
 use Rattle.std.proofs.Common.{fold, max, refl, sym, subst, ap, ◌∙◌, arith}
+use Rattle.std.proofs.lemmas.Bool.{not-true}
 use Rattle.std.proofs.lemmas.Bool.Decides.{nat_tests}
 use Rattle.pd_objects.specs.Supply.{SupplyData}
 use Rattle.pd_objects.specs.Answers.{IsAllowed, AreWithin}
@@ -150,10 +151,6 @@ held-after s floor free deed.Void now x a r least g t h =
     record { contract = omega arith; accepted = omega arith; draft = subst (λ n. n ≤ free) (sym (no-powers s floor)) least }
 held-after s floor free _ now x a r least g t h = record { contract = h.contract; accepted = h.accepted; draft = h.draft }
 
-not-true : (b : Bool) → not b ≡ true → b ≡ true → ⊥
-not-true true h k = absurd (cc)
-not-true false h k = absurd (cc)
-
 -- a row that accepts no request
 held-all_after : (s : SourceSettings) (floor free : ℕ) (ds : List Deed) (now : ℕ) (x : Stimulus) (a : Option Answer) (r : SourceRecord) →
     floor ≤ free → ((offer : List ℕ) → held s floor offer ≤ free → held s floor (draft_from a offer) ≤ free) → none_of is_take ds ≡ true →
@@ -161,7 +158,7 @@ held-all_after : (s : SourceSettings) (floor free : ℕ) (ds : List Deed) (now :
 held-all_after s floor free [] now x a r least g t h = h
 held-all_after s floor free (d ∷ ds) now x a r least g t h =
     held-all_after s floor free ds now x a (after s d now x a r) least g (and-right (not (is_take d)) (none_of is_take ds) t)
-    (held-after s floor free d now x a r least g (λ k. absurd (not-true (is_take d) (and-left (not (is_take d)) (none_of is_take ds) t) k))
+    (held-after s floor free d now x a r least g (λ k. let no = not-true (is_take d) (and-left (not (is_take d)) (none_of is_take ds) t) in absurd (cc))
     h)
 
 kept-after : (s : SourceSettings) (d : Deed) (now : ℕ) (x : Stimulus) (a : Option Answer) (r : SourceRecord) → not (is_keep d) ≡ true →

@@ -3,6 +3,7 @@ use Rattle.std.proofs.Common.{◌≡◌, ℕ, ◌≤◌, ◌-◌, inl, inr, zero
 use Rattle.std.proofs.Common.{[], ◌∷◌, Option, Some, None, option_map, unwrap_or, slice_get, slice_index, length, refl, sym, subst, ap, ◌∙◌}
 use Rattle.std.proofs.Common.{arith}
 use Rattle.std.specs.Option.{option_map_or}
+use Rattle.std.proofs.lemmas.Bool.{not-true}
 use Rattle.std.proofs.lemmas.Bool.Decides.{nat_tests}
 use Rattle.pd_symbols.specs.Words.{field}
 use Rattle.pd_timers.specs.Deadlines.{idle}
@@ -144,10 +145,6 @@ implied false c h e = absurd (cc)
 excluded : (b c : Bool) → not b || c ≡ true → c ≡ false → b ≡ false
 excluded true c h e = absurd (cc)
 excluded false c h e = refl
-
-pub not-true : (b : Bool) → not b ≡ true → b ≡ false
-not-true true h = absurd (cc)
-not-true false h = refl
 
 none-some : (o : Option ℕ) (n : ℕ) → o ≡ None → o ≡ Some n → ⊥
 none-some o n h k = absurd (cc)
