@@ -228,11 +228,4 @@ impl PortParts {
             && self.same_layers(other)
             && self.same_engines(other)
     }
-
-    /// A copy of all parts, with what the source is set to.
-    pub fn copy(&self) -> PortParts
-        ensures { result ≡ self.now }
-    {
-        *self
-    }
 }
