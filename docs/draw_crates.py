@@ -96,7 +96,8 @@ def pushed_apart(row, wanted):
 def placed(arrows, depth):
     """The middle of each crate and lane, and the row of each, from the top."""
     paths = chains(arrows, depth)
-    joined = {}
+    # A crate that neither uses another nor is used stands where it is put first.
+    joined = {name: [] for name in arrows}
     for path in paths:
         for upper, lower in zip(path, path[1:]):
             joined.setdefault(upper, []).append(lower)
@@ -108,7 +109,7 @@ def placed(arrows, depth):
     middle = {place: at * (BOX + GAP) for row in rows for at, place in enumerate(row)}
     for turn in range(60):
         for row in (rows if turn % 2 == 0 else rows[::-1]):
-            wanted = {it: sum(middle[at] for at in joined[it]) / len(joined[it]) for it in row}
+            wanted = {it: sum(middle[at] for at in joined[it] or [it]) / len(joined[it] or [it]) for it in row}
             row.sort(key=lambda it: (wanted[it], str(it)))
             middle.update(pushed_apart(row, wanted))
     least = min(middle[it] - width_of(it) / 2 for it in middle)
