@@ -133,7 +133,7 @@ impl<const N: usize> Live<N> {
     pub fn ports(&self, alloc: Global) -> Result<Vec<SharedPort>, AllocError>
         ensures { IfOk result (λ ports. ports.items ≡ self.now.ports) }
     {
-        let mut ports = Vec::new(alloc);
+        let mut ports = Vec::with_capacity(alloc, N)?;
         for port in &self.ports {
             ports.push(port.share()?)?;
         }
