@@ -10,20 +10,20 @@ use Rattle.pd_setup.specs.Settings.{SettingsData}
 use Rattle.pd_port.specs.Port.{PortData}
 use Rattle.pd_scenario.specs.Plan.{Plan, IsPlan, count, settings_of, no_settings}
 use Rattle.pd_run.specs.Live.{LiveData, StandsAfter, port_after}
-use Rattle.pd_run.specs.declared.beside.Agreement.{Agreement}
 use Rattle.pd_run.specs.declared.beside.Agreement.TheVariants as agreement
 use Rattle.pd_run.specs.Order.{EachAfter}
 use Rattle.pd_run.specs.Run.{Move, IsAnswered}
-use Rattle.pd_run.specs.UpTo.{before, AgreeInScripts, AgreeAs, AreAlike, AreAfter, StandsBeside}
+use Rattle.pd_run.specs.UpTo.{before, AgreeIn, AgreeInScripts, AgreeAs, AreAlike, AreAfter, StandsBeside}
 use Rattle.pd_run.proofs.Alike.{chained_alike, go_alike, answered_alike, between}
 use Rattle.pd_run.proofs.Cut.{All-nil, IsEarlier, starts_up_to, timely_all}
+use Rattle.pd_keep.specs.declared.rerun.Common.{Common}
 use Rattle.pd_keep.specs.declared.rerun.Standing.{Standing}
 use Rattle.pd_keep.specs.declared.rerun.Standing.TheVariants as standing
 use Rattle.pd_keep.specs.Fresh.{IsRepeated, AreFresh}
 use Rattle.pd_keep.specs.Kept.{KeptData, move_of, IsOwn}
 use Rattle.pd_keep.specs.Kept.{RunData}
 use Rattle.pd_keep.specs.Spans.{kept_of_spans, moves_of, end_of, begins_at, BeginsAfter, IsKept}
-use Rattle.pd_keep.specs.Rerun.{Stands, Costs, ComesTo, BeginsWith, IsShared, GoesOnWith}
+use Rattle.pd_keep.specs.Rerun.{Stands, Costs, ComesTo, BeginsWith, HaveInCommon, IsShared, GoesOnWith}
 use Rattle.pd_keep.specs.Rerun.{AreKnown, AreStanding, BeginsWithMarked, IsOld, IsSoFar, AreOver, AreThose, IsDone}
 use Rattle.pd_keep.specs.Kept.{left_by}
 use Rattle.pd_keep.specs.Places.{StandAs}
@@ -90,10 +90,10 @@ begins_both n a moves b others s is alike begun = record {
 
 -- the ports of a run that comes to a span of the old run's stand alike, where it is seen that they do
 pub comes_alike : (n : ℕ) (old : Plan) (old_spans : List RunData) (span : RunData) (plan : Plan) (spans : List RunData) (at : ℕ)
-    (agree : Agreement) (st : Standing n) → (c : ComesTo n old old_spans span plan spans at agree st) → AreStanding n st span
+    (common : Common) (st : Standing n) → (c : ComesTo n old old_spans span plan spans at common st) → AreStanding n st span
     → AreAlike old (before at (moves_of old_spans)) plan (moves_of spans)
-comes_alike n old old_spans span plan spans at agree standing.Alike c h = c.stands.alike
-comes_alike n old old_spans span plan spans at agree (standing.Apart live alike) c h =
+comes_alike n old old_spans span plan spans at common standing.Alike c h = c.stands.alike
+comes_alike n old old_spans span plan spans at common (standing.Apart live alike) c h =
     let w = in_span n old old_spans c.place span c.kept c.there in
     let begun : BeginsAfter n old (before at (moves_of old_spans)) span =
     subst (λ t. BeginsAfter n old (before t (moves_of old_spans)) span) (sym c.at_is) w.begun in
@@ -108,10 +108,10 @@ own_too a b k set h = record {
 
 -- a span at whose beginning the ports stand alike, and in which both plans have the same scripts, stands beside the run
 stands_beside : (n : ℕ) (old : Plan) (old_spans : List RunData) (span : RunData) (plan : Plan) (spans : List RunData) (at : ℕ)
-    (agree : Agreement) (st : Standing n) → ComesTo n old old_spans span plan spans at agree st → AreStanding n st span
+    (common : Common) (st : Standing n) → ComesTo n old old_spans span plan spans at common st → AreStanding n st span
     → AgreeInScripts old plan at span.to
     → StandsBeside old plan (moves_of old_spans) (moves_of spans) (map move_of span.moves) at span.to
-stands_beside n old old_spans span plan spans at agree st c standing scripts =
+stands_beside n old old_spans span plan spans at common st c standing scripts =
     let to = span.to in
     let all : List Move = moves_of old_spans in
     let mid : List Move = map move_of span.moves in
@@ -122,7 +122,7 @@ stands_beside n old old_spans span plan spans at agree st c standing scripts =
     record {
       run = c.kept.safe.run;
       up = c.far.up;
-      alike = comes_alike n old old_spans span plan spans at agree st c standing;
+      alike = comes_alike n old old_spans span plan spans at common st c standing;
       scripts = scripts;
       rising = omega (arith, e, r);
       soon = omega (arith, e, needed);
@@ -132,10 +132,10 @@ stands_beside n old old_spans span plan spans at agree st c standing scripts =
 
 -- the run goes on with its moves
 goes_with : (n : ℕ) (old : Plan) (old_spans : List RunData) (span : RunData) (plan : Plan) (spans : List RunData) (at : ℕ)
-    (agree : Agreement) (st : Standing n) → ComesTo n old old_spans span plan spans at agree st
+    (common : Common) (st : Standing n) → ComesTo n old old_spans span plan spans at common st
     → StandsBeside old plan (moves_of old_spans) (moves_of spans) (map move_of span.moves) at span.to
     → GoesOnWith n plan (moves_of spans) span
-goes_with n old old_spans span plan spans at agree st c s =
+goes_with n old old_spans span plan spans at common st c s =
     let all : List Move = moves_of old_spans in
     let w = in_span n old old_spans c.place span c.kept c.there in
     let begun : BeginsAfter n old (before at all) span =
@@ -148,16 +148,16 @@ goes_with n old old_spans span plan spans at agree st c s =
 
 -- and shares it where its moves have the answers that the plan's budget gives
 shares : (n : ℕ) (old : Plan) (old_spans : List RunData) (span : RunData) (plan : Plan) (spans : List RunData) (at : ℕ)
-    (agree : Agreement) (st : Standing n) → ComesTo n old old_spans span plan spans at agree st
+    (common : Common) (st : Standing n) → ComesTo n old old_spans span plan spans at common st
     → StandsBeside old plan (moves_of old_spans) (moves_of spans) (map move_of span.moves) at span.to
     → EachAfter (IsAnswered plan) (moves_of spans) (map move_of span.moves)
     → IsShared n old old_spans span plan (moves_of spans) at
-shares n old old_spans span plan spans at agree st c s answered =
+shares n old old_spans span plan spans at common st c s answered =
     let to = span.to in
     let moves : List Move = moves_of spans in
     let all : List Move = moves_of old_spans in
     let mid : List Move = map move_of span.moves in
-    let with = goes_with n old old_spans span plan spans at agree st c s in
+    let with = goes_with n old old_spans span plan spans at common st c s in
     let parts = between old all mid at to s.run s.is_between in
     let on = go_alike old plan all moves mid at to s answered in
     let e = c.at_is in
@@ -192,35 +192,41 @@ shares n old old_spans span plan spans at agree st c s answered =
 
 -- where both plans ask the same, they have them
 pub shares_both : (n : ℕ) (old : Plan) (old_spans : List RunData) (span : RunData) (plan : Plan) (spans : List RunData) (at : ℕ)
-    (st : Standing n) → ComesTo n old old_spans span plan spans at agreement.Both st → AreStanding n st span
+    (common : Common) (st : Standing n) → common.agree ≡ agreement.Both → ComesTo n old old_spans span plan spans at common st
+    → AreStanding n st span
     → IsShared n old old_spans span plan (moves_of spans) at
-shares_both n old old_spans span plan spans at st c standing =
-    let s = stands_beside n old old_spans span plan spans at agreement.Both st c standing c.agrees.scripts in
-    shares n old old_spans span plan spans at agreement.Both st c s
-    (answered_alike old plan (moves_of old_spans) (moves_of spans) (map move_of span.moves) at span.to s c.agrees)
+shares_both n old old_spans span plan spans at common st is c standing =
+    let both : AgreeIn old plan at span.to = subst (λ g. AgreeAs g old plan at span.to) is c.in_common.agrees in
+    let s = stands_beside n old old_spans span plan spans at common st c standing both.scripts in
+    shares n old old_spans span plan spans at common st c s
+    (answered_alike old plan (moves_of old_spans) (moves_of spans) (map move_of span.moves) at span.to s both)
 
 -- where they have the same scripts, the run goes on with the moves, and shares the span if these are answered
 pub goes_on_with : (n : ℕ) (old : Plan) (old_spans : List RunData) (span : RunData) (plan : Plan) (spans : List RunData) (at : ℕ)
-    (st : Standing n) → ComesTo n old old_spans span plan spans at agreement.Scripts st → AreStanding n st span
+    (common : Common) (st : Standing n) → common.agree ≡ agreement.Scripts → ComesTo n old old_spans span plan spans at common st
+    → AreStanding n st span
     → GoesOnWith n plan (moves_of spans) span
-goes_on_with n old old_spans span plan spans at st c standing =
-    goes_with n old old_spans span plan spans at agreement.Scripts st c
-    (stands_beside n old old_spans span plan spans at agreement.Scripts st c standing c.agrees.0)
+goes_on_with n old old_spans span plan spans at common st is c standing =
+    goes_with n old old_spans span plan spans at common st c
+    (stands_beside n old old_spans span plan spans at common st c standing
+    (subst (λ g. AgreeAs g old plan at span.to) is c.in_common.agrees).0)
 
 pub shares_answered : (n : ℕ) (old : Plan) (old_spans : List RunData) (span : RunData) (plan : Plan) (spans : List RunData) (at : ℕ)
-    (st : Standing n) → ComesTo n old old_spans span plan spans at agreement.Scripts st → AreStanding n st span
+    (common : Common) (st : Standing n) → common.agree ≡ agreement.Scripts → ComesTo n old old_spans span plan spans at common st
+    → AreStanding n st span
     → ((past : List Move) → GoesOnWith n plan past span → EachAfter (IsAnswered plan) past (map move_of span.moves))
     → IsShared n old old_spans span plan (moves_of spans) at
-shares_answered n old old_spans span plan spans at st c standing answered =
-    let s = stands_beside n old old_spans span plan spans at agreement.Scripts st c standing c.agrees.0 in
-    shares n old old_spans span plan spans at agreement.Scripts st c s
-    (answered (moves_of spans) (goes_with n old old_spans span plan spans at agreement.Scripts st c s))
+shares_answered n old old_spans span plan spans at common st is c standing answered =
+    let s = stands_beside n old old_spans span plan spans at common st c standing
+    (subst (λ g. AgreeAs g old plan at span.to) is c.in_common.agrees).0 in
+    shares n old old_spans span plan spans at common st c s
+    (answered (moves_of spans) (goes_with n old old_spans span plan spans at common st c s))
 
 -- the ports at the beginning of a span are where the run stands, where they stand alike
 pub resumes : (n : ℕ) (old : Plan) (old_spans : List RunData) (span : RunData) (plan : Plan) (spans : List RunData) (at : ℕ)
-    (agree : Agreement) → ComesTo n old old_spans span plan spans at agree standing.Alike
+    (common : Common) → ComesTo n old old_spans span plan spans at common standing.Alike
     → (length span.first ≡ n) × AreAfter plan (moves_of spans) span.first
-resumes n old old_spans span plan spans at agree c =
+resumes n old old_spans span plan spans at common c =
     let w = in_span n old old_spans c.place span c.kept c.there in
     let begun : BeginsAfter n old (before at (moves_of old_spans)) span =
     subst (λ t. BeginsAfter n old (before t (moves_of old_spans)) span) (sym c.at_is) w.begun in
@@ -231,9 +237,9 @@ resumes n old old_spans span plan spans at agree c =
 
 -- the span of the old run begins with those that are marked
 pub known_at : (n : ℕ) (old : Plan) (old_spans : List RunData) (span : RunData) (plan : Plan) (spans : List RunData) (at : ℕ)
-    (agree : Agreement) (st : Standing n) → ComesTo n old old_spans span plan spans at agree st → AreKnown n st span
-known_at n old old_spans span plan spans at agree standing.Alike c = tt
-known_at n old old_spans span plan spans at agree (standing.Apart live alike) c = λ p lt yes.
+    (common : Common) (st : Standing n) → ComesTo n old old_spans span plan spans at common st → AreKnown n st span
+known_at n old old_spans span plan spans at common standing.Alike c = tt
+known_at n old old_spans span plan spans at common (standing.Apart live alike) c = λ p lt yes.
     let w = in_span n old old_spans c.place span c.kept c.there in
     let begun : BeginsAfter n old (before at (moves_of old_spans)) span =
     subst (λ t. BeginsAfter n old (before t (moves_of old_spans)) span) (sym c.at_is) w.begun in
@@ -242,20 +248,20 @@ known_at n old old_spans span plan spans at agree (standing.Apart live alike) c 
 
 -- it begins with all where they are taken up from it
 pub known_all : (n : ℕ) (old : Plan) (old_spans : List RunData) (span : RunData) (plan : Plan) (spans : List RunData) (at : ℕ)
-    (agree : Agreement) (live : LiveData) (alike : List Bool) → ComesTo n old old_spans span plan spans at agree standing.Alike
+    (common : Common) (live : LiveData) (alike : List Bool) → ComesTo n old old_spans span plan spans at common standing.Alike
     → StandsAfter plan (moves_of spans) live → BeginsWithMarked n span live alike
-known_all n old old_spans span plan spans at agree live alike c stands = λ p lt yes.
-    let r = resumes n old old_spans span plan spans at agree c in
+known_all n old old_spans span plan spans at common live alike c stands = λ p lt yes.
+    let r = resumes n old old_spans span plan spans at common c in
     let many = r.0 in
     let known : p < count plan = omega (arith, c.far.is_plan.settings_count) in
     (omega (arith, many, lt), r.1 p known ∙ sym (stands.ports_are p known))
 
 -- ports that stand as the span leaves them stand as the old run's at its end
 pub known_then : (n : ℕ) (old : Plan) (old_spans : List RunData) (span : RunData) (plan : Plan) (spans : List RunData) (at : ℕ)
-    (agree : Agreement) (st : Standing n) (live : LiveData) (alike : List Bool) → ComesTo n old old_spans span plan spans at agree st
+    (common : Common) (st : Standing n) (live : LiveData) (alike : List Bool) → ComesTo n old old_spans span plan spans at common st
     → StandAs n alike live (left_by span.first span.moves)
     → StandAs n alike live (port_after old (before span.to (moves_of old_spans)))
-known_then n old old_spans span plan spans at agree st live alike c h = λ p lt yes.
+known_then n old old_spans span plan spans at common st live alike c h = λ p lt yes.
     let w = in_span n old old_spans c.place span c.kept c.there in
     let past : List Move = before (begins_at old_spans c.place) (moves_of old_spans) in
     h p lt yes ∙ left_after n old past span p w.begun w.own lt ∙ ap (λ (l : List Move). port_after old l p) (sym w.is_next)
@@ -349,11 +355,11 @@ past_all spans k e =
     (λ (past : length spans ≤ k). past) (cases_lt k (length spans))
 
 -- a run that comes to the beginning of an old run's span
-pub comes_to : (n : ℕ) (old : Plan) (old_spans spans : List RunData) (s : RunData) (plan : Plan) (k at from : ℕ) (agree : Agreement)
+pub comes_to : (n : ℕ) (old : Plan) (old_spans spans : List RunData) (s : RunData) (plan : Plan) (k at from : ℕ) (common : Common)
     (st : Standing n) → IsOld n old old_spans → IsSoFar n plan spans at → Stands n old old_spans plan (moves_of spans) at st
     → at ≡ begins_at old_spans k → slice_get old_spans k ≡ Some s → at ≤ plan.end → from ≡ at
-    → AgreeAs agree old plan from s.to → ComesTo n old old_spans s plan spans at agree st
-comes_to n old old_spans spans s plan k at from agree st is_old far stands at_is there soon now agrees = record {
+    → HaveInCommon common old plan from s.to → ComesTo n old old_spans s plan spans at common st
+comes_to n old old_spans spans s plan k at from common st is_old far stands at_is there soon now in_common = record {
   place = k;
   kept = is_kept_of n old old_spans k s is_old there;
   there = there;
@@ -361,7 +367,7 @@ comes_to n old old_spans spans s plan k at from agree st is_old far stands at_is
   far = far;
   soon = soon;
   stands = stands;
-  agrees = subst (λ t. AgreeAs agree old plan t s.to) now agrees;
+  in_common = subst (λ t. HaveInCommon common old plan t s.to) now in_common;
 }
 
 -- all of a list from a time on are so from a later time on

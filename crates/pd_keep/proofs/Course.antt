@@ -1,7 +1,7 @@
 -- How far a span has come of which some ports follow an older run.
 use Rattle.std.proofs.Common.{◌≡◌, ◌≢◌, ◌⊎◌, ⊎_elim, ℕ, ◌+◌, ◌-◌, ◌<◌, ◌≤◌, Bool, true, false, List, [], ◌∷◌, ◌++◌, length, map}
 use Rattle.std.proofs.Common.{All, Option, None, Some, refl, ap, sym, ◌∙◌, subst, arith, drop, get_or, set, take, slice_index_or}
-use Rattle.std.proofs.Common.{option_map, slice_set, append_assoc, zero, suc, MatchOption, replicate}
+use Rattle.std.proofs.Common.{IsTrue, option_map, slice_set, append_assoc, zero, suc, MatchOption, replicate}
 use Rattle.std.proofs.lemmas.List.{get_or-set_same, get_or-set_other, length-set, length-map, length_push, map-append, append-nil}
 use Rattle.std.proofs.lemmas.List.{get_or_default, length-append, length-drop, length-take-le, take_all}
 use Rattle.std.proofs.lemmas.List.Elements.{All-push}
@@ -11,7 +11,7 @@ use Rattle.std.proofs.lemmas.Option.{slice_get_within}
 use Rattle.pd_objects.specs.declared.query.Answer.{Answer}
 use Rattle.pd_port.specs.declared.due.Due.{Due}
 use Rattle.pd_port.specs.Meter.{raised}
-use Rattle.pd_port.specs.Port.{PortData, ask}
+use Rattle.pd_port.specs.Port.{PortData, ask, record_after}
 use Rattle.pd_ledger.specs.Account.{Account}
 use Rattle.pd_ledger.specs.Offer.{answer_of}
 use Rattle.pd_scenario.specs.Plan.{Plan, count, settings_of, force}
@@ -19,10 +19,9 @@ use Rattle.pd_run.specs.Live.{LiveData, StandsAfter, StandsBut, IsNext, at_budge
 use Rattle.pd_run.specs.Live.{moved_port, moved_live, next_move}
 use Rattle.pd_run.specs.Live.{IsNextBeside, reply_at, taken_up}
 use Rattle.pd_run.specs.Order.{IsNoLater}
-use Rattle.pd_run.specs.Run.{Move, NoneLater, GoesOn, standing}
+use Rattle.pd_run.specs.Run.{Move, NoneLater, GoesOn, IsAnswered, standing}
 use Rattle.pd_run.specs.Start.{no_port}
 use Rattle.pd_run.specs.StepsLeft.{steps_left}
-use Rattle.pd_run.specs.declared.beside.Agreement.{Agreement}
 use Rattle.pd_run.specs.UpTo.{before, AgreeInScripts, PortIsAlike}
 use Rattle.pd_run.proofs.Alike.{between, none_later-back, stands_aside_too, in_both}
 use Rattle.pd_run.proofs.Cut.{All-nil, All-append, IsEarlier, IsLater, up_to}
@@ -37,10 +36,11 @@ use Rattle.pd_keep.specs.declared.kept_move.Place.{Place}
 use Rattle.pd_keep.specs.Charge.{Charges}
 use Rattle.pd_keep.specs.Following.{GoBeside, CanFollow, HasCome, HasCameOn, HasPassed, IsAway, IsNextFollowed, IsPassing, IsThrough}
 use Rattle.pd_keep.specs.Following.{AreNumbered, ComesApart, ComesFirst, ComesAfter, followed_to, IsLate, IsFirstFollowed, IsOwnNext}
-use Rattle.pd_keep.specs.Following.{IsOwnTurn, IsFollowedTurn}
+use Rattle.pd_keep.specs.Following.{HoldAlike, IsOwnTurn, IsFollowedTurn, KeepHold, ShareAlike}
 use Rattle.pd_keep.specs.Fresh.{IsRepeated, AreFresh}
-use Rattle.pd_keep.specs.Kept.{KeptData, RunData, kept_of, move_of, left_by, IsKnown, IsOwn, AreBefore, moves_from}
+use Rattle.pd_keep.specs.Kept.{KeptData, RunData, held_by, kept_of, move_of, left_by, IsKnown, IsOwn, AreBefore, moves_from}
 use Rattle.pd_keep.specs.Places.{StandAs}
+use Rattle.pd_keep.specs.declared.rerun.Common.{Common}
 use Rattle.pd_keep.specs.declared.rerun.Standing.{Standing}
 use Rattle.pd_keep.specs.Rerun.{BeginsWithMarked, ComesTo, Costs, IsNextSpan}
 use Rattle.pd_keep.specs.Spans.{BeginsAfter, moves_of}
@@ -51,6 +51,7 @@ use Rattle.pd_keep.proofs.InTime.{none_later-last, before_later}
 use Rattle.pd_keep.proofs.Later.{due_later_yet}
 use Rattle.pd_keep.proofs.Made.{kept_is_next, kept_is_own, charges_those}
 use Rattle.pd_keep.proofs.Places.{left_after, moves_from-more}
+use Rattle.pd_keep.proofs.Shares.{answered_there, held_both, held_own, held_past}
 use Rattle.pd_keep.proofs.Shows.{begins_same, begins_with_live}
 
 -- moves of a span are none before its beginning
@@ -260,11 +261,12 @@ pub came_followed : (n : ℕ) (a : Plan) (all : List Move) (old : RunData) (b : 
     → IsNextFollowed old.moves course.away course.at at → at < length old.moves
     → IsPassing b (past ++ map move_of course.span.moves) course.away h.whole live (slice_index_or old.moves at d)
     → HasPassed b (past ++ map move_of course.span.moves) course.away h.whole on (slice_index_or old.moves at d)
-    → on.ports ≡ live.ports → then.at ≡ at + 1 → then.from ≡ course.from → then.away ≡ course.away → then.places ≡ course.places
+    → on.ports ≡ live.ports → course.at ≡ at → then.at ≡ at + 1 → then.from ≡ course.from → then.same_holds ≡ course.same_holds
+    → then.away ≡ course.away → then.places ≡ course.places
     → then.span.first ≡ course.span.first → then.span.moves ≡ course.span.moves ++ slice_index_or old.moves at d ∷ []
     → HasCameOn n a all old b past from most first meter then on (length course.span.moves)
-came_followed n a all old b past from most first meter course then live on at d h next lt is passed ports at_is from_is away_is places_is
-    first_is moves_is =
+came_followed n a all old b past from most first meter course then live on at d h next lt is passed ports here at_is from_is held_is
+    away_is places_is first_is moves_is =
     let k : KeptData = slice_index_or old.moves at d in
     let kept : List KeptData = course.span.moves in
     let others : List Move = past ++ map move_of kept in
@@ -299,6 +301,11 @@ came_followed n a all old b past from most first meter course then live on at d 
             (subst (λ (l : List Move). PortIsAlike a b (front ++ take (at + 1) mid) l p old.to) (sym more)
             (subst (λ (m : Move). PortIsAlike a b (front ++ take (at + 1) mid) (others ++ m ∷ []) p old.to) mid_is
             (alike_on a b front mid w.0 others old.to at p (move_of d) f inside known there)));
+        held = λ yes.
+            let there = subst (λ i. HoldAlike a b from old.to (front ++ take i mid) others) here (h.held (sym held_is ∙ yes)) in
+            subst (λ i. HoldAlike a b from old.to (front ++ take i mid) (past ++ map move_of then.span.moves)) (sym at_is)
+            (subst (HoldAlike a b from old.to (front ++ take (at + 1) mid)) (sym more)
+            (held_both a b front w.0 others old.moves from old.to at d f h.beside.own lt there is.own is.goes));
         room = (ap length away_is ∙ h.room.0, ap length places_is ∙ h.room.1);
         placed = λ p less here.
             let here_p = ap (λ (l : List Bool). slice_index_or l p false) (sym away_is) ∙ here in
@@ -349,14 +356,16 @@ pub came_own : (n : ℕ) (a : Plan) (all : List Move) (old : RunData) (b : Plan)
     → (h : IsOwnTurn n a all old b past from most first before_it course live port d)
     → asked ≡ at_budget live (force b d.time) → answer ≡ reply_at asked (port - 1) d
     → on ≡ moved_live b asked (port - 1) d
-    → then.at ≡ course.at → then.from ≤ length old.moves → AreBefore old.moves then.from d.time → then.away ≡ course.away
+    → then.at ≡ course.at → then.from ≤ length old.moves → AreBefore old.moves then.from d.time
+    → (IsTrue then.same_holds → IsTrue course.same_holds × (held_by (port_at on (port - 1)) ≡ held_by (port_at live (port - 1))))
+    → then.away ≡ course.away
     → then.places ≡ slice_set course.places (port - 1) place → then.span.first ≡ course.span.first
     → then.span.moves ≡ course.span.moves ++ kept_of port (port_at asked (port - 1)) d answer ∷ []
     → IsKnown old.first old.moves (port - 1) place (moved_port asked (port - 1) d)
     → Charges old.moves (kept_of port (port_at asked (port - 1)) d answer) before_it after_it
     → HasCameOn n a all old b past from most first after_it then on (length course.span.moves)
 came_own n a all old b past from most first before_it after_it course then live asked on port d answer place o asked_is answer_is on_is
-    at_is from_in from_before away_is places_is first_is moves_is known_place charges =
+    at_is from_in from_before held_is away_is places_is first_is moves_is known_place charges =
     let h = o.come in
     let p = port - 1 in
     let kept : List KeptData = course.span.moves in
@@ -396,6 +405,19 @@ came_own n a all old b past from most first before_it after_it course then live 
     next.first.soon in
     let z : PortData = moved_port asked p d in
     let ports : on.ports ≡ slice_set asked.ports p z = ap (λ (l : LiveData). l.ports) on_is in
+    let at_p : port_at on p ≡ z =
+    ap (λ (l : List PortData). get_or l p no_port) ports
+    ∙ get_or-set_same asked.ports p z no_port (omega (arith, but.ports_count, known)) in
+    let left_is : held_by k.after ≡ held_by (port_at on p) =
+    ap (λ (o : Option Answer). held_by (record { settings = x.settings; port_record = record_after x.settings x.port_record d o }))
+    answer_is ∙ ap held_by (sym at_p) in
+    let goes_k : GoesOn b others (move_of k) =
+    subst (GoesOn b others) (sym same) (record {
+      known = known;
+      before_is = refl;
+      due_is = sym (s.dues_are p known) ∙ next.first.is_due;
+      entry_is = refl;
+    }) in
     let isnt_p : (q : ℕ) → IsAway course.away q → p ≢ q = λ q away e. absurd (let t = ap (λ i. slice_index_or course.away i false) e ∙
     away in
     let f = o.here in cc) in
@@ -412,6 +434,11 @@ came_own n a all old b past from most first before_it after_it course then live 
             subst (λ i. PortIsAlike a b (front ++ take i mid) (past ++ map move_of then.span.moves) q old.to) (sym at_is)
             (subst (λ (l : List Move). PortIsAlike a b (front ++ take course.at mid) l q old.to) (sym more)
             (stands_aside_too a b old.to (front ++ take course.at mid) others (move_of k) q (isnt_p q away_q) (h.alike q lt away_q)));
+        held = λ yes.
+            subst (λ i. HoldAlike a b from old.to (front ++ take i mid) (past ++ map move_of then.span.moves)) (sym at_is)
+            (subst (HoldAlike a b from old.to (front ++ take course.at mid)) (sym more)
+            (held_own a b from old.to (front ++ take course.at mid) others k (h.held (held_is yes).0) own_k goes_k
+            (left_is ∙ (held_is yes).1 ∙ ap (λ (l : LiveData). held_by (port_at l p)) (sym asked_is))));
         room = (ap length away_is ∙ h.room.0, ap length places_is ∙ length-set course.places p place ∙ h.room.1);
         placed = λ q lt here.
             let here_q = ap (λ (l : List Bool). slice_index_or l q false) (sym away_is) ∙ here in
@@ -460,12 +487,12 @@ pub turned : (n : ℕ) (a : Plan) (all : List Move) (old : RunData) (b : Plan) (
     (course then : Course) (live on : LiveData) (k : KeptData) (place : Place)
     → (h : IsFollowedTurn n a all old b past from most first meter course live) → slice_index_or old.moves course.at k ≡ k
     → course.at < length old.moves
-    → on ≡ taken_up b live (k.port - 1) k.before → then.at ≡ course.at → then.from ≡ course.from
+    → on ≡ taken_up b live (k.port - 1) k.before → then.at ≡ course.at → then.from ≡ course.from → then.same_holds ≡ course.same_holds
     → then.away ≡ slice_set course.away (k.port - 1) false → then.places ≡ slice_set course.places (k.port - 1) (Some place)
     → then.span ≡ course.span → IsKnown old.first old.moves (k.port - 1) (Some place) k.before
     → IsOwnTurn n a all old b past from most first meter then on k.port k.due
-turned n a all old b past from most first meter course then live on k place t k_is inside on_is at_is from_is away_is places_is span_is
-    known_place =
+turned n a all old b past from most first meter course then live on k place t k_is inside on_is at_is from_is held_is away_is places_is
+    span_is known_place =
     let h = t.come in
     let p = k.port - 1 in
     let others : List Move = past ++ map move_of course.span.moves in
@@ -506,6 +533,9 @@ turned n a all old b past from most first meter course then live on k place t k_
           let away_q : IsAway course.away q = sym (get_or-set_other course.away p q false false isnt) ∙ set_q in
           subst (λ i. PortIsAlike a b (front ++ take i mid) (past ++ map move_of then.span.moves) q old.to) (sym at_is)
           (subst (λ (l : List Move). PortIsAlike a b (front ++ take course.at mid) l q old.to) (sym others_is) (h.alike q lt away_q));
+      held = λ yes.
+          subst (λ i. HoldAlike a b from old.to (front ++ take i mid) (past ++ map move_of then.span.moves)) (sym at_is)
+          (subst (HoldAlike a b from old.to (front ++ take course.at mid)) (sym others_is) (h.held (sym held_is ∙ yes)));
       room = (
         ap length away_is ∙ length-set course.away p false ∙ room,
         ap length places_is
@@ -643,26 +673,41 @@ turn_port n a all old b past from most first meter course live k t is =
 -- How far it has come at the next move that is followed, and at another budget.
 
 pub advanced : (n : ℕ) (a : Plan) (all : List Move) (old : RunData) (b : Plan) (past : List Move) (from most first meter : ℕ)
-    (course : Course) (live : LiveData) (at : ℕ) (d : KeptData) → HasCome n a all old b past from most first meter course live
-    → IsNextFollowed old.moves course.away course.at at
-    → HasCome n a all old b past from most first meter (record course { at = at }) live
-advanced n a all old b past from most first meter course live at d h next = record {
-  beside = h.beside;
-  whole = h.whole;
-  but = h.but;
-  within = next.within;
-  alike = λ p lt away. alike_there n a all old b past from most first meter course live at d p h next lt away;
-  room = h.room;
-  placed = h.placed;
-  looked = h.looked;
-  passed = h.passed;
-  own = h.own;
-  begun = h.begun;
-  earlier = h.earlier;
-  later = h.later;
-  few = h.few;
-  cost = h.cost;
-}
+    (course then : Course) (live : LiveData) (d : KeptData) → HasCome n a all old b past from most first meter course live
+    → IsNextFollowed old.moves then.away course.at then.at
+    → (IsTrue then.same_holds → IsTrue course.same_holds × KeepHold old.moves course.at then.at)
+    → then ≡ record course { at = then.at; same_holds = then.same_holds }
+    → HasCome n a all old b past from most first meter then live
+advanced n a all old b past from most first meter course then live d h next_then keep is =
+    let at = then.at in
+    let next : IsNextFollowed old.moves course.away course.at at =
+    subst (λ (l : List Bool). IsNextFollowed old.moves l course.at at) (ap (λ (c : Course). c.away) is) next_then in
+    subst (λ (c : Course). HasCome n a all old b past from most first meter c live) (sym is) (record {
+      beside = h.beside;
+      whole = h.whole;
+      but = h.but;
+      within = next.within;
+      alike = λ p lt away. alike_there n a all old b past from most first meter course live at d p h next lt away;
+      held = λ known.
+          let w = followed_by n a all old b past from h.beside in
+          let others : List Move = past ++ map move_of course.span.moves in
+          let from_on = next.from_on in
+          let within = next.within in
+          let there : course.at + (at - course.at) ≡ at = omega arith in
+          subst (λ i. HoldAlike a b from old.to (before from all ++ take i (map move_of old.moves)) others) there
+          (held_past a b (before from all) w.0 others old.moves from old.to course.at (at - course.at) d w.1 h.beside.own (omega arith)
+          (λ i k ge lt. (keep known).1 i k ge (omega arith)) (h.held (keep known).0));
+      room = h.room;
+      placed = h.placed;
+      looked = h.looked;
+      passed = h.passed;
+      own = h.own;
+      begun = h.begun;
+      earlier = h.earlier;
+      later = h.later;
+      few = h.few;
+      cost = h.cost;
+    })
 
 pub come_budget : (n : ℕ) (a : Plan) (all : List Move) (old : RunData) (b : Plan) (past : List Move) (from most first meter : ℕ)
     (course : Course) (live : LiveData) (budget : ℕ) → HasCome n a all old b past from most first meter course live
@@ -673,6 +718,7 @@ come_budget n a all old b past from most first meter course live budget h = reco
   but = StandsBut-budget b (past ++ map move_of course.span.moves) course.away h.whole live budget h.but;
   within = h.within;
   alike = h.alike;
+  held = h.held;
   room = h.room;
   placed = h.placed;
   looked = h.looked;
@@ -685,42 +731,22 @@ come_budget n a all old b past from most first meter course live budget h = reco
   cost = h.cost;
 }
 
--- the turn of a port that follows, whose move isn't answered as before
-pub followed_turn : (n : ℕ) (a : Plan) (all : List Move) (old : RunData) (b : Plan) (past : List Move) (from most first meter : ℕ)
-    (course : Course) (live on : LiveData) (at budget : ℕ) (d : KeptData)
-    → (h : HasCome n a all old b past from most first meter course live) → IsNextFollowed old.moves course.away course.at at
-    → ((k : KeptData) → IsPassing b (past ++ map move_of course.span.moves) course.away h.whole live (slice_index_or old.moves at k))
-    → on ≡ at_budget live budget
-    → IsFollowedTurn n a all old b past from most first meter (record course { at = at }) on
-unfolding advanced come_budget
-followed_turn n a all old b past from most first meter course live on at budget d h next is on_is =
-    subst (λ (l : LiveData). IsFollowedTurn n a all old b past from most first meter (record course { at = at }) l) (sym on_is) (record {
-      come = come_budget n a all old b past from most first meter (record course { at = at }) live budget
-          (advanced n a all old b past from most first meter course live at d h next);
-      passing = λ k. record {
-        but = StandsBut-budget b (past ++ map move_of course.span.moves) course.away h.whole live budget (is k).but;
-        there = (is k).there;
-        next = IsNext-budget b h.whole (slice_index_or old.moves at k).port (slice_index_or old.moves at k).due budget (is k).next;
-        goes = (is k).goes;
-        own = (is k).own;
-      };
-    })
-
 -- the turn of a port that moves for itself
 pub own_is_turn : (n : ℕ) (a : Plan) (all : List Move) (old : RunData) (b : Plan) (past : List Move) (from most first meter : ℕ)
-    (course : Course) (live : LiveData) (at port : ℕ) (due : Due) (own : Option (ℕ × Due)) (d : KeptData)
-    → HasCome n a all old b past from most first meter course live → IsNextFollowed old.moves course.away course.at at
+    (course : Course) (live : LiveData) (port : ℕ) (due : Due) (own : Option (ℕ × Due)) (d : KeptData)
+    → HasCome n a all old b past from most first meter course live → IsNextFollowed old.moves course.away course.at course.at
     → own ≡ Some (port, due) → IsOwnNext b live old.to own
-    → ((k : KeptData) → at < length old.moves → MatchOption own ⊥ (λ r. ComesAfter (slice_index_or old.moves at k) r.0 r.1))
-    → IsOwnTurn n a all old b past from most first meter (record course { at = at }) live port due
-unfolding advanced
-own_is_turn n a all old b past from most first meter course live at port due own d h next is own_next after =
+    → ((k : KeptData) → course.at < length old.moves
+    → MatchOption own ⊥ (λ r. ComesAfter (slice_index_or old.moves course.at k) r.0 r.1))
+    → IsOwnTurn n a all old b past from most first meter course live port due
+own_is_turn n a all old b past from most first meter course live port due own d h next is own_next after =
     let e : IsOwnNext b live old.to (Some (port, due)) = subst (IsOwnNext b live old.to) is own_next in
-    let turn = own_turn n a all old b past from most first meter course live at port due h next
-    (λ k lt. subst (λ (o : Option (ℕ × Due)). MatchOption o ⊥ (λ r. ComesAfter (slice_index_or old.moves at k) r.0 r.1)) is (after k lt))
+    let turn = own_turn n a all old b past from most first meter course live course.at port due h next
+    (λ k lt.
+    subst (λ (o : Option (ℕ × Due)). MatchOption o ⊥ (λ r. ComesAfter (slice_index_or old.moves course.at k) r.0 r.1)) is (after k lt))
     e.0 e.1 d in
     record {
-      come = advanced n a all old b past from most first meter course live at d h next;
+      come = h;
       here = turn.0;
       next = turn.1;
       soon = e.1;
@@ -784,6 +810,25 @@ first_passing n a all old b past from most first meter course begun live at own 
     (first_followed_at old.moves course.away at own brief q) q.inside (q.first d) (own_next_on b begun live old.to own dues own_next)
     there.0 there.1
 
+-- where all ports hold as much as in the old run, it has the answer that it had there
+pub first_answered : (n : ℕ) (a : Plan) (all : List Move) (old : RunData) (b : Plan) (past : List Move) (from most first meter : ℕ)
+    (course : Course) (whole live : LiveData) (d : KeptData)
+    → HasCome n a all old b past from most first meter course live → course.at < length old.moves
+    → IsPassing b (past ++ map move_of course.span.moves) course.away whole live (slice_index_or old.moves course.at d)
+    → IsTrue course.same_holds
+    → IsAnswered b (past ++ map move_of course.span.moves) (move_of (slice_index_or old.moves course.at d))
+first_answered n a all old b past from most first meter course whole live d h lt is alike =
+    let k : KeptData = slice_index_or old.moves course.at d in
+    let mid : List Move = map move_of old.moves in
+    let w = followed_by n a all old b past from h.beside in
+    let long = length-map old.moves move_of in
+    let inside : course.at < length mid = omega arith in
+    let mid_is : get_or mid course.at (move_of d) ≡ move_of k = mid_at old.moves course.at d in
+    answered_there a b (before from all) w.0 (past ++ map move_of course.span.moves) old.moves from old.to course.at d w.1 lt (h.held alike)
+    (sym (h.beside.own course.at d lt).settings ∙ is.own.settings)
+    (subst (λ (m : Move). from ≤ m.due.time) mid_is (later_in n a all old b past from h.beside course.at (move_of d) inside))
+    (subst (λ (m : Move). m.due.time < old.to) mid_is (w.1.early course.at (move_of d) inside))
+
 -- and once it has passed the span has it
 pub first_passed : (n : ℕ) (a : Plan) (all : List Move) (old : RunData) (b : Plan) (past : List Move) (from most first meter : ℕ)
     (course : Course) (begun live on : LiveData) (at : ℕ) (own : Option (ℕ × Due)) (brief : Brief) (d : KeptData)
@@ -794,7 +839,7 @@ pub first_passed : (n : ℕ) (a : Plan) (all : List Move) (old : RunData) (b : P
 first_passed n a all old b past from most first meter course begun live on at own brief d h numbered q own_next dues le passed ports =
     let is = first_passing n a all old b past from most first meter course begun live at own brief d h numbered q own_next dues in
     (came_followed n a all old b past from most first meter (followed_to course old.moves at) (followed_to course old.moves (at + 1))
-    live on at d h (first_followed_at old.moves course.away at own brief q) q.inside is passed ports refl refl refl refl refl
+    live on at d h (first_followed_at old.moves course.away at own brief q) q.inside is passed ports refl refl refl refl refl refl refl
     (followed_more course old.moves at d le q.inside)).come
 
 -- where none has followed yet
@@ -830,21 +875,21 @@ followed_count course moves at le within =
 
 -- none is left
 pub none_left_through : (n : ℕ) (a : Plan) (all : List Move) (old : RunData) (b : Plan) (past : List Move) (from most first meter : ℕ)
-    (course : Course) (live : LiveData) (at : ℕ) (own : Option (ℕ × Due)) (d : KeptData)
-    → HasCome n a all old b past from most first meter course live → IsNextFollowed old.moves course.away course.at at
-    → own ≡ None → IsOwnNext b live old.to own
-    → ((k : KeptData) → at < length old.moves → MatchOption own ⊥ (λ r. ComesAfter (slice_index_or old.moves at k) r.0 r.1))
-    → IsThrough n a all old b past from most first meter (record course { at = at }) live
-none_left_through n a all old b past from most first meter course live at own d h next is own_next after =
+    (course : Course) (live : LiveData) (own : Option (ℕ × Due)) (d : KeptData)
+    → HasCome n a all old b past from most first meter course live → own ≡ None → IsOwnNext b live old.to own
+    → ((k : KeptData) → course.at < length old.moves
+    → MatchOption own ⊥ (λ r. ComesAfter (slice_index_or old.moves course.at k) r.0 r.1))
+    → IsThrough n a all old b past from most first meter course live
+none_left_through n a all old b past from most first meter course live own d h is own_next after =
     let late : IsLate b live old.to = subst (IsOwnNext b live old.to) is own_next in
-    let over : length old.moves ≤ at =
+    let over : length old.moves ≤ course.at =
     ⊎_elim
-    (λ (lt : at < length old.moves).
-    absurd (subst (λ (o : Option (ℕ × Due)). MatchOption o ⊥ (λ r. ComesAfter (slice_index_or old.moves at d) r.0 r.1)) is (after d lt)))
-    (λ (le : length old.moves ≤ at). le)
-    (cases_lt at (length old.moves)) in
-    all_through n a all old b past from most first meter (record course { at = at }) live
-    (advanced n a all old b past from most first meter course live at d h next) over late d
+    (λ (lt : course.at < length old.moves).
+    absurd (subst (λ (o : Option (ℕ × Due)). MatchOption o ⊥ (λ r. ComesAfter (slice_index_or old.moves course.at d) r.0 r.1)) is
+    (after d lt)))
+    (λ (le : length old.moves ≤ course.at). le)
+    (cases_lt course.at (length old.moves)) in
+    all_through n a all old b past from most first meter course live h over late d
 
 -- The beginning and the end of a span.
 
@@ -861,12 +906,13 @@ pub no_places : (p : ℕ) → get_or (replicate 8 no_place) p None ≡ None
 no_places p = all_none 8 p
 
 pub come_first : (n : ℕ) (a : Plan) (all : List Move) (old : RunData) (b : Plan) (past : List Move) (from meter : ℕ)
-    (alike : List Bool) (places : List (Option Place)) (span : RunData) (live on : LiveData)
-    → CanFollow n a all old b past from alike live → StandsBut b past alike live on → length alike ≡ 8 → length places ≡ 8
+    (alike : List Bool) (share same : Bool) (places : List (Option Place)) (span : RunData) (live on : LiveData)
+    → CanFollow n a all old b past from alike share live → (IsTrue same → HoldAlike a b from old.to (before from all) past)
+    → StandsBut b past alike live on → length alike ≡ 8 → length places ≡ 8
     → ((p : ℕ) → slice_index_or places p None ≡ None) → span.first ≡ live.ports → span.moves ≡ [] → meter ≡ raised meter 0
     → HasCome n a all old b past from (steps_left b live) meter meter
-    (record { at = 0; from = 0; away = alike; places = places; span = span }) on
-come_first n a all old b past from meter alike places span live on h but room room_too none first moves same =
+    (record { at = 0; from = 0; same_holds = same; away = alike; places = places; span = span }) on
+come_first n a all old b past from meter alike share same places span live on h held but room room_too none first moves spent =
     let no_more : past ++ map move_of span.moves ≡ past = ap (λ (l : List KeptData). past ++ map move_of l) moves ∙ append-nil past in
     record {
       beside = h.beside;
@@ -876,7 +922,10 @@ come_first n a all old b past from meter alike places span live on h but room ro
       alike = λ p lt away.
           subst (λ (l : List Move). PortIsAlike a b (before from all ++ []) l p old.to) (sym no_more)
           (subst (λ (l : List Move). PortIsAlike a b l past p old.to) (sym (append-nil (before from all)))
-          (begins_alike n a all old b past from alike live p h lt away));
+          (begins_alike n a all old b past from alike share live p h lt away));
+      held = λ yes.
+          subst (λ (l : List Move). HoldAlike a b from old.to (before from all ++ []) l) (sym no_more)
+          (subst (λ (l : List Move). HoldAlike a b from old.to l past) (sym (append-nil (before from all))) (held yes));
       room = (room, room_too);
       placed = λ p lt here. subst (λ (v : Option Place). IsKnown old.first old.moves p v (port_at on p)) (sym (none p)) tt;
       looked = omega arith;
@@ -887,7 +936,7 @@ come_first n a all old b past from meter alike places span live on h but room ro
       later = subst (λ (l : List KeptData). All (IsLater from) (map move_of l)) (sym moves) (All-nil (IsLater from));
       few = (let e = ap length moves in omega arith);
       cost = λ olds own those. subst (λ (l : List KeptData). Costs a (map move_of olds) b (map move_of l) meter meter) (sym moves)
-          (0, refl, same);
+          (0, refl, spent);
     }
 
 -- the old span leaves the ports that have followed as the new one does
@@ -954,9 +1003,10 @@ known_through n a all old b past from most first meter course live then marks t 
 -- A run that comes to a span with ports of its own.
 
 pub go_beside : (n : ℕ) (a : Plan) (old_spans : List RunData) (old : RunData) (b : Plan) (spans : List RunData) (from : ℕ)
-    (agree : Agreement) (alike : List Bool) (live : LiveData) → ComesApart n a old_spans old b spans from agree alike live
-    → AgreeInScripts a b from old.to → CanFollow n a (moves_of old_spans) old b (moves_of spans) from alike live
-go_beside n a old_spans old b spans from agree alike live h scripts =
+    (common : Common) (alike : List Bool) (share : Bool) (live : LiveData) → ComesApart n a old_spans old b spans from common alike live
+    → AgreeInScripts a b from old.to → (IsTrue share → ShareAlike a b from old.to)
+    → CanFollow n a (moves_of old_spans) old b (moves_of spans) from alike share live
+go_beside n a old_spans old b spans from common alike share live h scripts shares =
     let all : List Move = moves_of old_spans in
     let w = in_span n a old_spans h.place old h.kept h.there in
     let needed = h.kept.reach.needed h.place (slice_get_within old_spans h.place old h.there) in
@@ -978,6 +1028,7 @@ go_beside n a old_spans old b spans from agree alike live h scripts =
       };
       known = h.known;
       stands = h.stands;
+      shares = shares;
     }
 
 -- the ports of the span's moves are numbered from 1 to n
@@ -995,10 +1046,10 @@ numbered_in n a all old b past from h = λ i k lt.
 
 -- with the ports where they stand
 pub apart_at : (n : ℕ) (a : Plan) (old_spans : List RunData) (old : RunData) (b : Plan) (spans : List RunData) (from : ℕ)
-    (agree : Agreement) (standing : Standing n) (alike : List Bool) (live : LiveData)
-    → ComesTo n a old_spans old b spans from agree standing → StandsAfter b (moves_of spans) live → BeginsWithMarked n old live alike
-    → ComesApart n a old_spans old b spans from agree alike live
-apart_at n a old_spans old b spans from agree standing alike live h stands known = record {
+    (common : Common) (standing : Standing n) (alike : List Bool) (live : LiveData)
+    → ComesTo n a old_spans old b spans from common standing → StandsAfter b (moves_of spans) live → BeginsWithMarked n old live alike
+    → ComesApart n a old_spans old b spans from common alike live
+apart_at n a old_spans old b spans from common standing alike live h stands known = record {
   place = h.place;
   kept = h.kept;
   there = h.there;
@@ -1007,5 +1058,5 @@ apart_at n a old_spans old b spans from agree standing alike live h stands known
   soon = h.soon;
   stands = stands;
   known = known;
-  agrees = h.agrees;
+  in_common = h.in_common;
 }

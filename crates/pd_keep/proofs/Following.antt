@@ -27,7 +27,7 @@ use Rattle.pd_port.specs.declared.due.What.TheVariants as what
 use Rattle.pd_run.specs.Start.{no_port}
 use Rattle.pd_keep.specs.declared.kept_move.Brief.{Brief}
 use Rattle.pd_keep.specs.Following.{IsPassing, HasPassed, CanFollow, GoBeside}
-use Rattle.pd_keep.specs.Kept.{KeptData, RunData, IsBrief, kept_of, move_of, held_by}
+use Rattle.pd_keep.specs.Kept.{KeptData, RunData, IsBrief, KeepsHold, kept_of, move_of, held_by}
 use Rattle.pd_keep.proofs.Asked.{hold_left}
 
 -- stands where there is no move
@@ -231,18 +231,16 @@ passed_to n plan past away whole live k budget left is h answered left_is =
       less = steps_left_less n plan past whole then p d is h.but.stands h.next.first on.stands;
     }
 
--- a quiet one is
-pub passed_quiet : (n : ℕ) (plan : Plan) (past : List Move) (away : List Bool) (whole live : LiveData) (k : KeptData) (b : Brief)
-    → IsPlan n plan → IsPassing plan past away whole live k → IsBrief k b → b.stirs ≡ false
+-- one that is answered and keeps its port's hold leaves the shared budget as it is
+pub passed_still : (n : ℕ) (plan : Plan) (past : List Move) (away : List Bool) (whole live : LiveData) (k : KeptData) (b : Brief)
+    → IsPlan n plan → IsPassing plan past away whole live k → IsBrief k b → IsAnswered plan past (move_of k) → KeepsHold k
     → HasPassed plan past away whole
     (record live { taken = slice_set live.taken (b.port - 1) (had_with (slice_index live.taken (b.port - 1)) b.is_event) }) k
-passed_quiet n plan past away whole live k b is h brief none =
+passed_still n plan past away whole live k b is h brief answered keeps =
     let p = k.port - 1 in
-    let quiet = brief.quiet none in
-    let answered = unasked plan past (move_of k) h.goes quiet.unasked quiet.unanswered in
     let left : ℕ = held_by k.after in
     let held : left ≡ hold (settings_of plan p) (standing plan past p).state =
-    quiet.same_hold ∙ ap (λ (s : SettingsData). hold s k.before.port_record) h.own.settings
+    keeps ∙ ap (λ (s : SettingsData). hold s k.before.port_record) h.own.settings
     ∙ ap (hold (settings_of plan p)) h.goes.before_is in
     let on = passed_to n plan past away whole live k live.account.budget left is h answered refl in
     let at : on_live live p k.due live.account.budget left
@@ -255,7 +253,17 @@ passed_quiet n plan past away whole live k b is h brief none =
     (sym brief.port) in
     subst (λ (l : LiveData). HasPassed plan past away whole l k) (at ∙ told) on
 
--- and so is one that is answered as before
+-- a quiet one does
+pub passed_quiet : (n : ℕ) (plan : Plan) (past : List Move) (away : List Bool) (whole live : LiveData) (k : KeptData) (b : Brief)
+    → IsPlan n plan → IsPassing plan past away whole live k → IsBrief k b → b.stirs ≡ false
+    → HasPassed plan past away whole
+    (record live { taken = slice_set live.taken (b.port - 1) (had_with (slice_index live.taken (b.port - 1)) b.is_event) }) k
+passed_quiet n plan past away whole live k b is h brief none =
+    let quiet = brief.quiet none in
+    passed_still n plan past away whole live k b is h brief
+    (unasked plan past (move_of k) h.goes quiet.unasked quiet.unanswered) quiet.same_hold
+
+-- and another, answered as before, as it leaves it
 pub passed_answered : (n : ℕ) (plan : Plan) (past : List Move) (away : List Bool) (whole live then : LiveData) (k : KeptData) (left : ℕ)
     → IsPlan n plan → IsPassing plan past away whole live k → IsAnswered plan past (move_of k) → left ≡ held_by k.after
     → then ≡ followed plan live (k.port - 1) k.due left → HasPassed plan past away whole then k
@@ -292,9 +300,10 @@ followed_by n a all old b past from h =
 
 -- ports that stand as the old run's do, and have the same scripts, stand alike
 pub begins_alike : (n : ℕ) (a : Plan) (all : List Move) (old : RunData) (b : Plan) (past : List Move) (from : ℕ) (alike : List Bool)
-    (live : LiveData) (p : ℕ) → CanFollow n a all old b past from alike live → p < n → slice_index_or alike p false ≡ true
+    (share : Bool) (live : LiveData) (p : ℕ) → CanFollow n a all old b past from alike share live → p < n
+    → slice_index_or alike p false ≡ true
     → PortIsAlike a b (before from all) past p old.to
-begins_alike n a all old b past from alike live p h lt there =
+begins_alike n a all old b past from alike share live p h lt there =
     let w = h.beside in
     let known_a : p < count a = omega (arith, w.is_plan.settings_count) in
     let known_b : p < count b = omega (arith, w.is_plan_too.settings_count) in

@@ -13,4 +13,5 @@ pub mod Paid
 pub mod Noted
 pub mod Parted
 pub mod Places
+pub mod Shares
 pub mod Shows

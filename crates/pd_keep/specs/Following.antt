@@ -1,18 +1,18 @@
 -- Ports that follow an older run through a span of it.
 use Rattle.std.specs.Prelude.{◌≡◌, ◌⊎◌, ℕ, ◌+◌, ◌-◌, ◌<◌, ◌≤◌, ◌++◌, ◌∷◌, [], List, length, map, take, All, Bool, true}
-use Rattle.std.specs.Prelude.{false, Option, None, Some}
+use Rattle.std.specs.Prelude.{false, Option, None, Some, IsTrue}
 use Rattle.std.specs.Prelude.{slice_get, slice_index_or}
 use Rattle.pd_port.specs.declared.due.Due.{Due}
-use Rattle.pd_scenario.specs.Plan.{Plan, IsPlan, count}
-use Rattle.pd_run.specs.declared.beside.Agreement.{Agreement}
+use Rattle.pd_scenario.specs.Plan.{Plan, IsPlan, count, floors_of, force}
 use Rattle.pd_run.specs.Live.{LiveData, StandsAfter, StandsBut, IsNext, due_at, port_at}
-use Rattle.pd_run.specs.Run.{Move, Run, GoesOn, IsAnswered, NoneLater}
+use Rattle.pd_run.specs.Run.{Move, Run, GoesOn, IsAnswered, NoneLater, holds_after}
 use Rattle.pd_run.specs.StepsLeft.{steps_left}
-use Rattle.pd_run.specs.UpTo.{before, IsUpTo, AgreeAs, AgreeInScripts, PortIsAlike}
+use Rattle.pd_run.specs.UpTo.{before, IsUpTo, AgreeInScripts, PortIsAlike}
 use Rattle.pd_keep.specs.declared.follow.Course.{Course}
-use Rattle.pd_keep.specs.Kept.{KeptData, RunData, move_of, moves_from, IsBrief, IsKnown, IsOwn, AreBefore}
+use Rattle.pd_keep.specs.Kept.{KeptData, RunData, move_of, moves_from, IsBrief, IsKnown, IsOwn, KeepsHold, AreBefore}
 use Rattle.pd_keep.specs.declared.kept_move.Brief.{Brief}
-use Rattle.pd_keep.specs.Rerun.{AreThose, Costs, BeginsWithMarked, IsSoFar}
+use Rattle.pd_keep.specs.declared.rerun.Common.{Common}
+use Rattle.pd_keep.specs.Rerun.{AreThose, Costs, HaveInCommon, BeginsWithMarked, IsSoFar}
 use Rattle.pd_keep.specs.Spans.{BeginsAfter, IsKept, begins_at, moves_of}
 
 -- a port, numbered from 0 here, is marked
@@ -49,6 +49,10 @@ pub record IsNextFollowed (moves : List KeptData) (away : List Bool) (from at : 
   pub none : (i : ℕ) (k : KeptData) → from ≤ i → i < at → slice_index_or away ((slice_index_or moves i k).port - 1) false ≡ false
   pub there : (k : KeptData) → at < length moves → IsAway away ((slice_index_or moves at k).port - 1)
 
+-- moves from one place to another leave their ports holding as much as before
+abbrev pub KeepHold : List KeptData → ℕ → ℕ → Type 0
+KeepHold moves from at = (i : ℕ) (k : KeptData) → from ≤ i → i < at → KeepsHold (slice_index_or moves i k)
+
 -- this is the brief of a move of a port that follows, and the move comes before what is next on other ports
 pub record IsFirstFollowed (moves : List KeptData) (away : List Bool) (at : ℕ) (own : Option (ℕ × Due)) (b : Brief) : Type 0 where
   pub inside : at < length moves
@@ -71,17 +75,28 @@ pub record GoBeside (n : ℕ) (a : Plan) (all : List Move) (old : RunData) (b : 
   pub soon_too : from ≤ b.end
   pub up : IsUpTo b past from
 
--- ports of which those that are marked stand as the old run's do there, and may follow it
+-- two plans share alike from one time to another: the floors are the same, and at each instant the budget
+pub record ShareAlike (a b : Plan) (from to : ℕ) : Type 0 where
+  pub floors : floors_of a ≡ floors_of b
+  pub budget : (t : ℕ) → from ≤ t → t < to → force a t ≡ force b t
+
+-- and each port holds as much after these moves of the one as after those of the other
+pub record HoldAlike (a b : Plan) (from to : ℕ) (moves others : List Move) : Type 0 where
+  pub share : ShareAlike a b from to
+  pub holds : holds_after a moves ≡ holds_after b others
+
+-- ports of which those that are marked stand as the old run's do there, and may follow it; it may be known that both plans share alike
 pub record CanFollow (n : ℕ) (a : Plan) (all : List Move) (old : RunData) (b : Plan) (past : List Move) (from : ℕ) (alike : List Bool)
-    (live : LiveData) : Type 0 where
+    (share : Bool) (live : LiveData) : Type 0 where
   pub beside : GoBeside n a all old b past from
   pub known : BeginsWithMarked n old live alike
   pub stands : StandsAfter b past live
+  pub shares : IsTrue share → ShareAlike a b from old.to
 
 -- A run beside an old one comes to the beginning of a span of it with ports of its own, of which those that are marked stand as the
--- old run's, and is told how far both plans ask the same in the span.
+-- old run's, and is told what both plans have in common in the span.
 pub record ComesApart (n : ℕ) (a : Plan) (old_spans : List RunData) (old : RunData) (b : Plan) (spans : List RunData) (from : ℕ)
-    (agree : Agreement) (alike : List Bool) (live : LiveData) : Type 0 where
+    (common : Common) (alike : List Bool) (live : LiveData) : Type 0 where
   pub place : ℕ
   pub kept : IsKept n a old_spans
   pub there : slice_get old_spans place ≡ Some old
@@ -90,7 +105,7 @@ pub record ComesApart (n : ℕ) (a : Plan) (old_spans : List RunData) (old : Run
   pub soon : from ≤ b.end
   pub stands : StandsAfter b (moves_of spans) live
   pub known : BeginsWithMarked n old live alike
-  pub agrees : AgreeAs agree a b from old.to
+  pub in_common : HaveInCommon common a b from old.to
 
 -- a move of a port that follows is the next one where all ports stand
 pub record IsPassing (plan : Plan) (past : List Move) (away : List Bool) (whole live : LiveData) (k : KeptData) : Type 0 where
@@ -108,7 +123,8 @@ pub record HasPassed (plan : Plan) (past : List Move) (away : List Bool) (whole 
   pub less : steps_left plan then < steps_left plan whole
 
 -- How far a span has come of which some ports follow: where all ports stand; that those that follow stand as the old run's do after so
--- many of its moves; what is kept of the others; that the moves of the span are the run so far; and what they cost, beside the old run's.
+-- many of its moves; whether all ports are known to hold as much as the old run's do then; what is kept of the others; that the moves of
+-- the span are the run so far; and what they cost, beside the old run's.
 pub record HasCome (n : ℕ) (a : Plan) (all : List Move) (old : RunData) (b : Plan) (past : List Move) (from most first meter : ℕ)
     (course : Course) (live : LiveData) : Type 0 where
   pub beside : GoBeside n a all old b past from
@@ -117,6 +133,8 @@ pub record HasCome (n : ℕ) (a : Plan) (all : List Move) (old : RunData) (b : P
   pub within : course.at ≤ length old.moves
   pub alike : (p : ℕ) → p < n → IsAway course.away p
       → PortIsAlike a b (before from all ++ take course.at (map move_of old.moves)) (past ++ map move_of course.span.moves) p old.to
+  pub held : IsTrue course.same_holds → HoldAlike a b from old.to (before from all ++ take course.at (map move_of old.moves))
+      (past ++ map move_of course.span.moves)
   pub room : (length course.away ≡ 8) × (length course.places ≡ 8)
   pub placed : (p : ℕ) → p < n → slice_index_or course.away p false ≡ false
       → IsKnown old.first old.moves p (slice_index_or course.places p None) (port_at live p)

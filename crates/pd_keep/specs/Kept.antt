@@ -95,24 +95,29 @@ pub record AreLast (first : List PortData) (moves : List KeptData) (lasts : List
 abbrev pub held_by : PortData → ℕ
 held_by x = hold x.settings x.port_record
 
+-- a move leaves its port holding as much as before
+abbrev pub KeepsHold : KeptData → Type 0
+KeepsHold k = held_by k.after ≡ held_by k.before
+
 -- a move asks nothing of the shared budget, and its port holds as much after it as before
 pub record IsQuiet (k : KeptData) : Type 0 where
   pub unasked : k.entry.query ≡ None
   pub unanswered : k.answer ≡ None
-  pub same_hold : held_by k.after ≡ held_by k.before
+  pub same_hold : KeepsHold k
 
--- this is the brief of a move: when it was, of which port, whether for an event, and what the port held before it; and it is quiet,
--- unless it is marked as one that may not be
+-- this is the brief of a move: when it was, of which port, whether for an event, and what the port held before it; it is quiet, unless
+-- it is marked as one that may not be, and keeps its port's hold where it is marked so
 pub record IsBrief (k : KeptData) (b : Brief) : Type 0 where
   pub time : b.time ≡ k.due.time
   pub port : b.port ≡ k.port
   pub event : b.is_event ≡ is_event k.due.what
   pub quiet : b.stirs ≡ false → IsQuiet k
+  pub keeps : b.keeps_hold ≡ true → KeepsHold k
   pub held : b.held ≡ held_by k.before
 
 -- stands where there is no move
 abbrev pub no_brief : Brief
-no_brief = record { time = 0; port = 0; is_event = false; stirs = true; held = 0 }
+no_brief = record { time = 0; port = 0; is_event = false; stirs = true; keeps_hold = false; held = 0 }
 
 -- these are the briefs of moves
 pub record AreBrief (moves : List KeptData) (briefs : List Brief) : Type 0 where

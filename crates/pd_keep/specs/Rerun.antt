@@ -1,14 +1,14 @@
 -- A run beside an older one.
 use Rattle.std.specs.Prelude.{◌≡◌, ◌⊎◌, ℕ, ◌<◌, ◌≤◌, ◌++◌, ◌↔◌, List, [], length, map, slice_get, Some, All, Contains}
-use Rattle.std.specs.Prelude.{Bool, true, false, slice_index_or}
+use Rattle.std.specs.Prelude.{Bool, IsTrue, true, false, slice_index_or}
 use Rattle.pd_port.specs.Meter.{raised}
-use Rattle.pd_scenario.specs.Plan.{Plan, IsPlan}
+use Rattle.pd_scenario.specs.Plan.{Plan, IsPlan, floors_of}
 use Rattle.pd_run.specs.Live.{LiveData, StandsAfter, port_at, port_after}
 use Rattle.pd_run.specs.Start.{no_port}
-use Rattle.pd_run.specs.declared.beside.Agreement.{Agreement}
 use Rattle.pd_run.specs.Order.{EachAfter}
 use Rattle.pd_run.specs.Run.{Move, GoesOn}
 use Rattle.pd_run.specs.UpTo.{before, IsUpTo, AgreeAs, AreAlike}
+use Rattle.pd_keep.specs.declared.rerun.Common.{Common}
 use Rattle.pd_keep.specs.declared.rerun.Standing.{Standing}
 use Rattle.pd_keep.specs.declared.rerun.Standing.TheVariants as standing
 use Rattle.pd_keep.specs.Fresh.{AreFresh}
@@ -60,9 +60,14 @@ pub record IsNextSpan (n : ℕ) (plan : Plan) (moves : List Move) (from : ℕ) (
   pub later : All (λ m. from ≤ m.due.time) (map move_of span.moves)
   pub up : IsUpTo plan (moves ++ map move_of span.moves) span.to
 
--- a run beside an old one comes to the beginning of a span of the old one, and is told how far both plans ask the same in it
+-- this is in common from one time to another: so far two plans ask the same, and where they are said to have the same floors they do
+pub record HaveInCommon (common : Common) (a b : Plan) (from to : ℕ) : Type 0 where
+  pub agrees : AgreeAs common.agree a b from to
+  pub floors : IsTrue common.same_floors → floors_of a ≡ floors_of b
+
+-- a run beside an old one comes to the beginning of a span of the old one, and is told what both plans have in common in it
 pub record ComesTo (n : ℕ) (old : Plan) (old_spans : List RunData) (span : RunData) (plan : Plan) (spans : List RunData) (at : ℕ)
-    (agree : Agreement) (standing : Standing n) : Type 0 where
+    (common : Common) (standing : Standing n) : Type 0 where
   pub place : ℕ
   pub kept : IsKept n old old_spans
   pub there : slice_get old_spans place ≡ Some span
@@ -70,7 +75,7 @@ pub record ComesTo (n : ℕ) (old : Plan) (old_spans : List RunData) (span : Run
   pub far : IsSoFar n plan spans at
   pub soon : at ≤ plan.end
   pub stands : Stands n old old_spans plan (moves_of spans) at standing
-  pub agrees : AgreeAs agree old plan at span.to
+  pub in_common : HaveInCommon common old plan at span.to
 
 -- a span of an old run is one of the run too: it goes on with it, none of its moves is fresh, and the ports stand alike after it
 pub record IsShared (n : ℕ) (old : Plan) (old_spans : List RunData) (span : RunData) (plan : Plan) (moves : List Move) (at : ℕ) : Type 0

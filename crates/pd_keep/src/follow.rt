@@ -5,11 +5,12 @@ ghost use Rattle.std.specs.Prelude.{All, Bool, MatchOption, None, true, false, s
 ghost use Rattle.pd_port.specs.Port.{PortData};
 ghost use Rattle.pd_scenario.specs.Plan.{Plan as PlanData, count, force};
 ghost use Rattle.pd_run.specs.Live.{LiveData, StandsAfter, StandsBut, at_budget, port_at};
-ghost use Rattle.pd_run.specs.Run.{Move};
+ghost use Rattle.pd_run.specs.Run.{Move, IsAnswered};
+ghost use Rattle.pd_run.specs.Start.{no_port};
 ghost use Rattle.pd_keep.specs.Following.{AreNumbered, CanFollow, ComesAfter, ComesFirst, HasCome, HasCameOn, HasPassed, IsAway};
 ghost use Rattle.pd_keep.specs.Following.{followed_to, IsFirstFollowed, IsFollowedTurn, IsNextFollowed, IsOwnNext, IsOwnTurn};
-ghost use Rattle.pd_keep.specs.Following.{IsPassing, IsThrough};
-ghost use Rattle.pd_keep.specs.Kept.{KeptData, move_of, moves_from, IsBrief, IsKnown, IsMade, IsOwn, AreInTime, left_by};
+ghost use Rattle.pd_keep.specs.Following.{IsPassing, IsThrough, KeepHold};
+ghost use Rattle.pd_keep.specs.Kept.{KeptData, move_of, moves_from, IsBrief, IsKnown, IsMade, IsOwn, AreInTime, held_by, left_by};
 ghost use Rattle.pd_keep.specs.Places.{StandAs};
 ghost use Rattle.pd_keep.specs.Rerun.{AreThose, Costs, IsNextSpan};
 
@@ -20,11 +21,13 @@ use pd_run::{Live, Plan};
 use std::alloc::{AllocError, Global};
 
 /// How far a span has come beside an older one: so many moves of the older one are past; before another of its places all are of earlier
-/// times; these ports follow it, and the others stand at these places in it; and the moves of the span.
+/// times; whether both plans are known to share alike in it, and each port to hold as much now as in the older run; these ports follow
+/// it, and the others stand at these places in it; and the moves of the span.
 #[derive(Drop)]
 pub struct Course {
     pub at: usize,
     pub from: usize,
+    pub same_holds: bool,
     pub away: [bool; 8],
     pub places: [Option<Place>; 8],
     pub span: KeptMoves,
@@ -41,6 +44,33 @@ fn next_followed(old: &KeptMoves, from: usize, away: &[bool; 8]) -> usize
         at += 1;
     }
     at
+}
+
+// The older run's moves of ports that don't follow are past, up to the first move whose port follows.
+fn pass_over(old: &KeptMoves, course: &mut Course)
+    requires numbered { AreNumbered 8 old.now.moves }
+    requires within { course.old.at ≤ length old.now.moves }
+    ensures next { IsNextFollowed old.now.moves course.new.away course.old.at course.new.at }
+    ensures held { IsTrue course.new.same_holds → IsTrue course.old.same_holds
+        × KeepHold old.now.moves course.old.at course.new.at }
+    ensures rest { course.new ≡ record course.old { at = course.new.at; same_holds = course.new.same_holds } }
+{
+    let at = next_followed(old, course.at, &course.away);
+    course.same_holds = course.same_holds && keep_hold(old, course.at, at);
+    course.at = at;
+}
+
+// Whether no move from a place to another changes what its port holds.
+fn keep_hold(old: &KeptMoves, from: usize, to: usize) -> bool
+    requires within { to ≤ length old.now.moves }
+    ensures { IsTrue result → KeepHold old.now.moves from to }
+{
+    for i in from..to {
+        if !old.brief(i).keeps_hold {
+            return false;
+        }
+    }
+    true
 }
 
 // Whether a move's port follows.
@@ -96,7 +126,7 @@ fn pass_on<const N: usize>(
     let _len = old.len();
     let mut at = course.at;
     while let Some(brief) = first_followed(old, at, &course.away, own) {
-        if !passes(old, at, &brief, plan, live) {
+        if !passes(old, at, &brief, course.same_holds, plan, live) {
             return at;
         }
         at += 1;
@@ -124,11 +154,20 @@ fn first_followed(
     None
 }
 
-// A port that follows moves as in the older run, where its move stirs nothing, or has the answer that the shared budget gives.
+// Whether a move's answer is known, and its port's hold stays: it stirs nothing, or all ports hold as much as in the older run.
+fn is_known(brief: &Brief, same_holds: bool) -> bool
+    ensures { IsTrue result → (brief.now.stirs ≡ false) ⊎ (IsTrue same_holds × (brief.now.keeps_hold ≡ true)) }
+{
+    !brief.stirs || same_holds && brief.keeps_hold
+}
+
+// A port that follows moves as in the older run, where its move stirs nothing, or has the answer that the shared budget gives. Where all
+// ports hold as much as in the older run it has, and isn't asked again.
 fn passes<const N: usize>(
     old: &KeptMoves,
     at: usize,
     brief: &Brief,
+    same_holds: bool,
     plan: &Plan<N>,
     live: &mut Live<N>,
 ) -> bool
@@ -138,6 +177,7 @@ fn passes<const N: usize>(
         → IsPassing plan.now past away whole live.old (slice_index_or old.now.moves at k)) }
     ensures passed { IsTrue result → (past : List Move) (away : List Bool) (whole : LiveData) (k : KeptData)
         → IsPassing plan.now past away whole live.old (slice_index_or old.now.moves at k)
+        → (IsTrue same_holds → IsAnswered plan.now past (move_of (slice_index_or old.now.moves at k)))
         → HasPassed plan.now past away whole live.new (slice_index_or old.now.moves at k) }
     ensures ports { live.new.ports ≡ live.old.ports }
     ensures dues { live.new.dues ≡ live.old.dues }
@@ -145,7 +185,7 @@ fn passes<const N: usize>(
         → live.new ≡ at_budget live.old (force plan.now (slice_index_or old.now.moves at k).due.time) }
 {
     let _end = plan.end();
-    if !brief.stirs {
+    if is_known(brief, same_holds) {
         live.pass(brief.port, brief.is_event);
         return true;
     }
@@ -174,6 +214,7 @@ fn move_own<const N: usize>(
     ensures next { IfOk result (λ own. IsOwnNext plan.now live.new old.now.to own) }
     ensures rises { meter.old ≤ meter.new }
 {
+    let held = live.hold(port);
     let answer = live.reply_beside(plan, port, &due);
     course.from = skip(old, course.from, due.time);
     let left = course.places[port - 1];
@@ -191,6 +232,7 @@ fn move_own<const N: usize>(
     )?;
     course.span.push(port, kept, marks)?;
     course.places[port - 1] = place;
+    course.same_holds = course.same_holds && live.hold(port) == held;
     Ok(next_before(live, plan, old.to()))
 }
 
@@ -288,7 +330,7 @@ fn turn<const N: usize>(
     ensures rises { meter.old ≤ meter.new }
 {
     let (_end, _len) = (plan.end(), old.len());
-    course.at = next_followed(old, course.at, &course.away);
+    pass_over(old, course);
     let passed = pass_on(old, course, plan, live, own);
     if passed > course.at {
         course.span.push_all_again(old, course.at, passed)?;
@@ -296,6 +338,21 @@ fn turn<const N: usize>(
         return Ok(true);
     }
     turn_at(alloc, old, course, plan, live, own, meter)
+}
+
+// Whether each port holds as much as at the beginning of a span. Those that are marked stand as there.
+fn hold_alike<const N: usize>(old: &KeptMoves, alike: &[bool; 8], live: &Live<N>) -> bool
+    requires few { N ≤ 8 }
+    requires count { length old.now.first ≡ N }
+    ensures { IsTrue result → (p : ℕ) → p < N → slice_index_or alike.now p false ≡ false
+        → held_by (slice_index_or old.now.first p no_port) ≡ held_by (port_at live.now p) }
+{
+    for port in 0..N {
+        if !alike[port] && old.first_hold(port) != live.hold(port + 1) {
+            return false;
+        }
+    }
+    true
 }
 
 // From here on these ports follow.
@@ -333,8 +390,8 @@ fn take_up<const N: usize>(
     Ok(())
 }
 
-/// The moves of a run up to the end of an older one's span, through which the ports that are marked follow it. Which ports are known to
-/// stand then as the older run's. The meter rises by the moves that the older one doesn't have.
+/// The moves of a run up to the end of an older one's span, through which the ports that are marked follow it; both plans may be known to
+/// share alike in it. Which ports are known to stand then as the older run's. The meter rises by the moves that the older one doesn't have.
 ///
 /// # Errors
 /// There is no memory. The ports stand anywhere.
@@ -342,6 +399,7 @@ pub fn follow_span<const N: usize>(
     alloc: Global,
     old: &KeptMoves,
     alike: &[bool; 8],
+    share: bool,
     plan: &Plan<N>,
     live: &mut Live<N>,
     meter: &mut Meter,
@@ -350,24 +408,28 @@ pub fn follow_span<const N: usize>(
     requires in_time { AreInTime old.now.moves }
     requires numbered { AreNumbered N old.now.moves }
     requires follows { (a : PlanData) × (all : List Move) × (past : List Move) × (from : ℕ)
-        × CanFollow N a all old.now plan.now past from alike.now live.old }
+        × CanFollow N a all old.now plan.now past from alike.now share live.old }
     ensures span { IfOk result (λ r. (a : PlanData) (all : List Move) (past : List Move) (from : ℕ)
-        → CanFollow N a all old.now plan.now past from alike.now live.old → IsNextSpan N plan.now past from r.0 × (r.0.to ≡ old.now.to)) }
+        → CanFollow N a all old.now plan.now past from alike.now share live.old
+        → IsNextSpan N plan.now past from r.0 × (r.0.to ≡ old.now.to)) }
     ensures stands { IfOk result (λ r. (a : PlanData) (all : List Move) (past : List Move) (from : ℕ)
-        → CanFollow N a all old.now plan.now past from alike.now live.old
+        → CanFollow N a all old.now plan.now past from alike.now share live.old
         → StandsAfter plan.now (past ++ map move_of r.0.moves) live.new) }
     ensures known { IfOk result (λ r. StandAs N r.1 live.new (left_by old.now.first old.now.moves)) }
     ensures cost { IfOk result (λ r. (a : PlanData) (all : List Move) (past : List Move) (from : ℕ) (olds : List KeptData)
-        → CanFollow N a all old.now plan.now past from alike.now live.old → All (IsOwn a) olds → AreThose olds from old.now.to old.now.moves
+        → CanFollow N a all old.now plan.now past from alike.now share live.old → All (IsOwn a) olds
+        → AreThose olds from old.now.to old.now.moves
         → Costs a (map move_of olds) plan.now (map move_of r.0.moves) meter.old meter.new) }
     ensures rises { meter.old ≤ meter.new }
 {
     let (_end, _count) = (plan.end(), meter.count());
     let span = KeptMoves::with_room(alloc, live.ports(alloc)?, old.shareable()?)?;
+    let same_holds = share && hold_alike(old, alike, live);
     set_aside(live, alike);
     let mut course = Course {
         at: 0,
         from: 0,
+        same_holds,
         away: *alike,
         places: [None; 8],
         span,

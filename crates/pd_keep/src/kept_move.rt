@@ -9,8 +9,8 @@ ghost use Rattle.pd_run.specs.Run.{Move, IsAnswered};
 ghost use Rattle.pd_run.specs.Start.{no_port};
 ghost use Rattle.pd_run.specs.UpTo.{AreAfter};
 ghost use Rattle.pd_keep.specs.Asked.{IsAsked};
-ghost use Rattle.pd_keep.specs.Kept.{KeptData, IsBrief, IsLeft, IsMade, IsKnown, IsQuiet, held_by, kept_of, left_by, move_of, moves_from};
-ghost use Rattle.pd_keep.specs.Kept.{marks_kept, shown_of};
+ghost use Rattle.pd_keep.specs.Kept.{KeptData, IsBrief, IsLeft, IsMade, IsKnown, IsQuiet, KeepsHold, held_by, kept_of, left_by, move_of};
+ghost use Rattle.pd_keep.specs.Kept.{marks_kept, moves_from, shown_of};
 
 use crate::presence::Presence;
 use pd_objects::Answer;
@@ -132,7 +132,14 @@ impl KeptMove {
     fn stirs(&self) -> bool
         ensures { result ≡ false → IsQuiet self.now }
     {
-        self.entry().query.is_some() || self.answer().is_some() || self.left() != self.before.hold()
+        self.entry().query.is_some() || self.answer().is_some() || !self.keeps_hold()
+    }
+
+    // Whether its port holds as much of the shared budget as before.
+    fn keeps_hold(&self) -> bool
+        ensures { IsTrue result ↔ KeepsHold self.now }
+    {
+        self.left() == self.before.hold()
     }
 
     // Its brief.
@@ -145,20 +152,22 @@ impl KeptMove {
             port: self.port,
             is_event: matches!(due.what, What::Event(_)),
             stirs: self.stirs(),
+            keeps_hold: self.keeps_hold(),
             held: self.before.hold(),
         }
     }
 }
 
 /// What of a move is looked at where ports go on as in the run that has it: when it was, in microseconds, its port, numbered from 1,
-/// whether it was for an event, whether it asked the shared budget or changed what its port holds, and what that held before it, in
-/// microwatts.
+/// whether it was for an event, whether it asked the shared budget or changed what its port holds, whether it left that as it was, and
+/// what the port held before it, in microwatts.
 #[derive(Clone, Copy)]
 pub struct Brief {
     pub time: u64,
     pub port: usize,
     pub is_event: bool,
     pub stirs: bool,
+    pub keeps_hold: bool,
     pub held: u64,
 }
 
@@ -294,6 +303,14 @@ impl KeptMoves {
             Some(first) => first.stands_as(port),
             None => false,
         }
+    }
+
+    /// What a port at a place holds of the shared budget before the moves, in microwatts.
+    pub fn first_hold(&self, place: usize) -> u64
+        requires { place < length self.now.first }
+        ensures { result ≡ held_by (slice_index_or self.now.first place no_port) }
+    {
+        self.first[place].hold()
     }
 
     /// The ports as they are before the moves, for one more owner.

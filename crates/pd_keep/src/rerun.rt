@@ -4,18 +4,18 @@ ghost use Rattle.std.specs.Prelude.{◌≡◌, ◌⊎◌, ℕ, ◌+◌, ◌*◌,
 ghost use Rattle.std.specs.Prelude.{◌↔◌, [], List, IfOk, OnOk, IsTrue, map, length, All, Some, None, false, true, cond};
 ghost use Rattle.std.specs.Prelude.{slice_index_or};
 ghost use Rattle.pd_port.specs.Port.{PortData};
-ghost use Rattle.pd_run.specs.declared.beside.Agreement.{Agreement as AgreementData};
-ghost use Rattle.pd_scenario.specs.Plan.{Plan as PlanData, IsPlan};
+ghost use Rattle.pd_scenario.specs.Plan.{Plan as PlanData, IsPlan, floors_of};
 ghost use Rattle.pd_run.specs.Live.{StandsAfter, port_at};
 ghost use Rattle.pd_run.specs.Run.{Move};
 ghost use Rattle.pd_run.specs.Start.{no_port};
-ghost use Rattle.pd_run.specs.UpTo.{IsUpTo, AgreeAs, AgreeInScripts};
+ghost use Rattle.pd_run.specs.UpTo.{IsUpTo, AgreeInScripts};
 ghost use Rattle.pd_keep.specs.Kept.{KeptData, move_of, IsMade, IsOwn, AreInTime};
 ghost use Rattle.pd_keep.specs.Kept.{RunData, IsKnown, left_by};
-ghost use Rattle.pd_keep.specs.Following.{AreNumbered, CanFollow, ComesApart};
+ghost use Rattle.pd_keep.specs.Following.{AreNumbered, CanFollow, ComesApart, ShareAlike};
+ghost use Rattle.pd_keep.specs.declared.rerun.Common.{Common as CommonData};
 ghost use Rattle.pd_keep.specs.Places.{ArePlaced, StandAs};
 ghost use Rattle.pd_keep.specs.Rerun.{IsOld, IsSoFar, Stands, Costs, ComesTo, AreStanding, AreThose, IsDone, IsShared, AreOver};
-ghost use Rattle.pd_keep.specs.Rerun.{AreKnown, BeginsWith, BeginsWithMarked};
+ghost use Rattle.pd_keep.specs.Rerun.{AreKnown, BeginsWith, BeginsWithMarked, HaveInCommon};
 ghost use Rattle.pd_keep.specs.Spans.{IsKept, kept_of_spans, moves_of};
 
 use crate::answered::are_answered;
@@ -35,6 +35,13 @@ use std::rc::Rc;
 pub enum Standing<const N: usize> {
     Alike,
     Apart(Live<N>, [bool; 8]),
+}
+
+/// What two plans have in common in a span: how far they ask the same in it, and whether their ports are known to have the same floors.
+#[derive(Clone, Copy)]
+pub struct Common {
+    pub agree: Agreement,
+    pub same_floors: bool,
 }
 
 /// The run of a plan, beside an older one or none. The meter rises by the moves that the older run doesn't have.
@@ -88,6 +95,7 @@ fn run_beside<const N: usize>(
     let _count = meter.count();
     let _places = old_spans.count();
     let mut beside = Beside::new(alloc, old, plan)?;
+    let same_floors = have_same_floors(old, plan);
     let live = Live::new(alloc, plan)?.with_spare(spare.take_all(alloc));
     let mut standing = Standing::Apart(live, [false; 8]);
     let mut at = 0;
@@ -97,11 +105,25 @@ fn run_beside<const N: usize>(
             return Ok((at, standing));
         };
         let agree = beside.advance(old, plan, span.to());
-        standing = next_spans(alloc, span, plan, at, agree, standing, spans, spare, meter)?;
+        let common = Common { agree, same_floors };
+        standing = next_spans(alloc, span, plan, at, common, standing, spans, spare, meter)?;
         at = span.to();
         place += 1;
     }
     Ok((at, standing))
+}
+
+// Whether each port has the same floor in both plans.
+fn have_same_floors<const N: usize>(old: &Plan<N>, plan: &Plan<N>) -> bool
+    ensures { IsTrue result → floors_of old.now ≡ floors_of plan.now }
+{
+    let _ends = (old.end(), plan.end());
+    for place in 0..N {
+        if old.settings(place + 1).floor_mw() != plan.settings(place + 1).floor_mw() {
+            return false;
+        }
+    }
+    true
 }
 
 // The spans of a run up to the end of the older one's.
@@ -110,27 +132,27 @@ fn next_spans<const N: usize>(
     old: &Rc<KeptMoves>,
     plan: &Plan<N>,
     at: u64,
-    agree: Agreement,
+    common: Common,
     standing: Standing<N>,
     spans: &mut Spans,
     spare: &mut SpareSteps,
     meter: &mut Meter,
 ) -> Result<Standing<N>, AllocError>
     requires comes { (old_plan : PlanData) × (old_spans : List RunData)
-        × ComesTo N old_plan old_spans old.now.value plan.now spans.old at agree standing }
+        × ComesTo N old_plan old_spans old.now.value plan.now spans.old at common standing }
     ensures so_far { OnOk result (IsSoFar N plan.now spans.new old.now.value.to) }
     ensures stands { IfOk result (λ then. (old_plan : PlanData) (old_spans : List RunData)
-        → ComesTo N old_plan old_spans old.now.value plan.now spans.old at agree standing.entry
+        → ComesTo N old_plan old_spans old.now.value plan.now spans.old at common standing.entry
         → Stands N old_plan old_spans plan.now (moves_of spans.new) old.now.value.to then) }
     ensures cost { OnOk result ((old_plan : PlanData) (old_spans : List RunData) (first : ℕ)
-        → ComesTo N old_plan old_spans old.now.value plan.now spans.old at agree standing.entry
+        → ComesTo N old_plan old_spans old.now.value plan.now spans.old at common standing.entry
         → Costs old_plan (moves_of old_spans) plan.now (moves_of spans.old) first meter.old
         → Costs old_plan (moves_of old_spans) plan.now (moves_of spans.new) first meter.new) }
     ensures rises { meter.old ≤ meter.new }
 {
     let _end = plan.end();
     let _count = meter.count();
-    let shared = is_shared(alloc, old, plan, agree, &standing)?;
+    let shared = is_shared(alloc, old, plan, common, &standing)?;
     if shared {
         spans.push(old.clone()?)?;
         if let Standing::Apart(live, _) = standing {
@@ -139,7 +161,7 @@ fn next_spans<const N: usize>(
         return Ok(Standing::Alike);
     }
     let (mut live, alike) = standing_live(alloc, old, plan, at, standing, spare)?;
-    let alike = go_on(alloc, old, plan, at, agree, &mut live, alike, spans, meter)?;
+    let alike = go_on(alloc, old, plan, at, common, &mut live, alike, spans, meter)?;
     Ok(Standing::Apart(live, alike))
 }
 
@@ -149,16 +171,16 @@ fn is_shared<const N: usize>(
     alloc: Global,
     old: &KeptMoves,
     plan: &Plan<N>,
-    agree: Agreement,
+    common: Common,
     standing: &Standing<N>,
 ) -> Result<bool, AllocError>
     requires comes { (old_plan : PlanData) × (old_spans : List RunData) × (spans : List RunData) × (at : ℕ)
-        × ComesTo N old_plan old_spans old.now plan.now spans at agree standing.now }
+        × ComesTo N old_plan old_spans old.now plan.now spans at common standing.now }
     ensures { IfOk result (λ shared. IsTrue shared → (old_plan : PlanData) (old_spans : List RunData) (spans : List RunData) (at : ℕ)
-        → ComesTo N old_plan old_spans old.now plan.now spans at agree standing.now
+        → ComesTo N old_plan old_spans old.now plan.now spans at common standing.now
         → IsShared N old_plan old_spans old.now plan.now (moves_of spans) at) }
 {
-    match agree {
+    match common.agree {
         Agreement::Not => Ok(false),
         Agreement::Both => Ok(stands_alike(standing, old)),
         Agreement::Scripts => {
@@ -179,12 +201,12 @@ fn standing_live<const N: usize>(
     standing: Standing<N>,
     spare: &mut SpareSteps,
 ) -> Result<(Live<N>, [bool; 8]), AllocError>
-    requires comes { (old_plan : PlanData) × (old_spans : List RunData) × (spans : List RunData) × (agree : AgreementData)
-        × ComesTo N old_plan old_spans old.now plan.now spans at agree standing }
-    ensures stands { IfOk result (λ r. (old_plan : PlanData) (old_spans : List RunData) (spans : List RunData) (agree : AgreementData)
-        → ComesTo N old_plan old_spans old.now plan.now spans at agree standing.entry → StandsAfter plan.now (moves_of spans) r.0) }
-    ensures known { IfOk result (λ r. (old_plan : PlanData) (old_spans : List RunData) (spans : List RunData) (agree : AgreementData)
-        → ComesTo N old_plan old_spans old.now plan.now spans at agree standing.entry → BeginsWithMarked N old.now r.0 r.1) }
+    requires comes { (old_plan : PlanData) × (old_spans : List RunData) × (spans : List RunData) × (common : CommonData)
+        × ComesTo N old_plan old_spans old.now plan.now spans at common standing }
+    ensures stands { IfOk result (λ r. (old_plan : PlanData) (old_spans : List RunData) (spans : List RunData) (common : CommonData)
+        → ComesTo N old_plan old_spans old.now plan.now spans at common standing.entry → StandsAfter plan.now (moves_of spans) r.0) }
+    ensures known { IfOk result (λ r. (old_plan : PlanData) (old_spans : List RunData) (spans : List RunData) (common : CommonData)
+        → ComesTo N old_plan old_spans old.now plan.now spans at common standing.entry → BeginsWithMarked N old.now r.0 r.1) }
 {
     match standing {
         Standing::Alike => {
@@ -223,13 +245,23 @@ fn begins_with<const N: usize>(span: &KeptMoves, live: &Live<N>, alike: &[bool; 
 }
 
 // Whether both plans have the same scripts.
-fn have_same_scripts(agree: Agreement) -> bool
-    ensures { IsTrue result → (a : PlanData) (b : PlanData) (from to : ℕ) → AgreeAs agree a b from to → AgreeInScripts a b from to }
+fn have_same_scripts(common: Common) -> bool
+    ensures { IsTrue result → (a : PlanData) (b : PlanData) (from to : ℕ) → HaveInCommon common a b from to → AgreeInScripts a b from to }
 {
-    match agree {
+    match common.agree {
         Agreement::Not => false,
         Agreement::Both => true,
         Agreement::Scripts => true,
+    }
+}
+
+// Whether both plans are known to share alike.
+fn share_alike(common: Common) -> bool
+    ensures { IsTrue result → (a : PlanData) (b : PlanData) (from to : ℕ) → HaveInCommon common a b from to → ShareAlike a b from to }
+{
+    match common.agree {
+        Agreement::Both => common.same_floors,
+        Agreement::Not | Agreement::Scripts => false,
     }
 }
 
@@ -240,26 +272,27 @@ fn go_on<const N: usize>(
     old: &KeptMoves,
     plan: &Plan<N>,
     from: u64,
-    agree: Agreement,
+    common: Common,
     live: &mut Live<N>,
     alike: [bool; 8],
     spans: &mut Spans,
     meter: &mut Meter,
 ) -> Result<[bool; 8], AllocError>
     requires comes { (a : PlanData) × (old_spans : List RunData)
-        × ComesApart N a old_spans old.now plan.now spans.old from agree alike live.old }
+        × ComesApart N a old_spans old.now plan.now spans.old from common alike live.old }
     ensures so_far { OnOk result (IsSoFar N plan.now spans.new old.now.to) }
     ensures stands { OnOk result (StandsAfter plan.now (moves_of spans.new) live.new) }
     ensures known { IfOk result (λ alike. StandAs N alike live.new (left_by old.now.first old.now.moves)) }
     ensures cost { OnOk result ((a : PlanData) (old_spans : List RunData) (first : ℕ)
-        → ComesApart N a old_spans old.now plan.now spans.old from agree alike live.old
+        → ComesApart N a old_spans old.now plan.now spans.old from common alike live.old
         → Costs a (moves_of old_spans) plan.now (moves_of spans.old) first meter.old
         → Costs a (moves_of old_spans) plan.now (moves_of spans.new) first meter.new) }
     ensures rises { meter.old ≤ meter.new }
 {
     let (_end, _count, to) = (plan.end(), meter.count(), old.to());
-    if have_same_scripts(agree) {
-        return follow_on(alloc, old, plan, from, live, alike, spans, meter);
+    if have_same_scripts(common) {
+        let share = share_alike(common);
+        return follow_on(alloc, old, plan, from, share, live, alike, spans, meter);
     }
     run_on(alloc, old, plan, from, to, live, alike, spans, meter)
 }
@@ -270,6 +303,7 @@ fn follow_on<const N: usize>(
     old: &KeptMoves,
     plan: &Plan<N>,
     from: u64,
+    share: bool,
     live: &mut Live<N>,
     alike: [bool; 8],
     spans: &mut Spans,
@@ -280,18 +314,19 @@ fn follow_on<const N: usize>(
     requires numbered { AreNumbered N old.now.moves }
     requires soon { from ≤ plan.now.end }
     requires so_far { IsSoFar N plan.now spans.old from }
-    requires follows { (a : PlanData) × (all : List Move) × CanFollow N a all old.now plan.now (moves_of spans.old) from alike live.old }
+    requires follows { (a : PlanData) × (all : List Move)
+        × CanFollow N a all old.now plan.now (moves_of spans.old) from alike share live.old }
     ensures so_far { OnOk result (IsSoFar N plan.now spans.new old.now.to) }
     ensures stands { OnOk result (StandsAfter plan.now (moves_of spans.new) live.new) }
     ensures known { IfOk result (λ alike. StandAs N alike live.new (left_by old.now.first old.now.moves)) }
     ensures cost { OnOk result ((a : PlanData) (all : List Move) (olds : List KeptData) (first : ℕ)
-        → CanFollow N a all old.now plan.now (moves_of spans.old) from alike live.old → All (IsOwn a) olds
+        → CanFollow N a all old.now plan.now (moves_of spans.old) from alike share live.old → All (IsOwn a) olds
         → AreThose olds from old.now.to old.now.moves
         → Costs a (map move_of olds) plan.now (moves_of spans.old) first meter.old
         → Costs a (map move_of olds) plan.now (moves_of spans.new) first meter.new) }
     ensures rises { meter.old ≤ meter.new }
 {
-    let (span, alike) = follow_span(alloc, old, &alike, plan, live, meter)?;
+    let (span, alike) = follow_span(alloc, old, &alike, share, plan, live, meter)?;
     spans.push(Rc::new(alloc, span)?)?;
     Ok(alike)
 }

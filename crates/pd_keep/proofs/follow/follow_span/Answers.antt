@@ -5,15 +5,23 @@ use Rattle.pd_keep.specs.Following.{IsOwnNext}
 use Rattle.pd_keep.specs.Kept.{KeptData, RunData, move_of}
 use Rattle.pd_keep.specs.Rerun.{Costs}
 use Rattle.pd_keep.proofs.Course.{come_first, no_places, through_span, known_through, followed_left}
+use Rattle.pd_keep.proofs.Shares.{held_first}
+use Rattle.pd_keep.proofs.follow.follow_span.Goals.{then-share, else-share}
 use Rattle.pd_keep.proofs.follow.follow_span.Goals as goal
 
 pub loop-course-init : goal.loop-course-init
 loop-course-init g c = record {
   come = λ a all past from h.
       let fits = c.count-count.ensures.fits in
-      come_first g.row.N a all c.args.old.now c.args.plan.now past from c.args.meter.now c.args.alike.now _ c.in_ok-span.span
-      c.args.live.now
-      c.set_aside.new.live h (c.set_aside.ensures c.args.plan.now past c.end-end.ensures.is_plan.settings_count h.stands) c.told-alike
+      come_first g.row.N a all c.args.old.now c.args.plan.now past from c.args.meter.now c.args.alike.now c.args.share
+      c.if-share.same_holds _ c.in_ok-span.span c.args.live.now c.set_aside.new.live h
+      (elim c.if-share.branch [
+        | then-share w ↦ λ known.
+            held_first g.row.N a all c.args.old.now c.args.plan.now past from c.args.alike.now c.args.share c.args.live.now h
+            w.if-share.true (w.hold_alike-same_holds.ensures (sym w.same_holds-is ∙ known))
+        | else-share w ↦ λ known. absurd (let none = sym w.if-share.false ∙ sym w.same_holds-is ∙ known in cc)
+      ])
+      (c.set_aside.ensures c.args.plan.now past c.end-end.ensures.is_plan.settings_count h.stands) c.told-alike
       refl no_places
       (ap (λ (r : RunData). r.first) c.in_ok-span.ensures ∙ c.in_ok-ports.ensures) (ap (λ (r : RunData). r.moves) c.in_ok-span.ensures)
       (omega arith);

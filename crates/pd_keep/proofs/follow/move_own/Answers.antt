@@ -1,6 +1,9 @@
-use Rattle.std.proofs.Common.{◌++◌, ◌∷◌, [], List, map, ap, ◌∙◌, arith, refl}
-use Rattle.pd_keep.specs.Kept.{KeptData, RunData, move_of}
+use Rattle.std.proofs.Common.{◌≡◌, ◌-◌, ◌++◌, ◌∷◌, [], IsTrue, List, map, ap, sym, ◌∙◌, arith, refl}
+use Rattle.std.proofs.lemmas.Bool.{eqb-true}
+use Rattle.pd_run.specs.Live.{port_at}
+use Rattle.pd_keep.specs.Kept.{KeptData, RunData, held_by, move_of}
 use Rattle.pd_keep.proofs.Course.{came_own, own_asked, own_before, own_is_next, own_left, own_place}
+use Rattle.pd_keep.proofs.follow.move_own.Goals.{then-course, else-course}
 use Rattle.pd_keep.proofs.follow.move_own.Goals as goal
 
 pub skip-course-requires-clause-before : goal.skip-course-requires-clause-before
@@ -61,8 +64,16 @@ pub returns-clause-came : goal.returns-clause-came
 returns-clause-came g c = λ a all past from most first o.
     let kept : List KeptData = c.args.course.now.span.moves in
     let moves_is = ap (λ (x : RunData). x.moves) c.in_ok-push.ensures ∙ ap (λ (z : KeptData). kept ++ z ∷ []) c.in_ok-kept.ensures.kept in
+    let held : IsTrue c.if-course.course → IsTrue c.args.course.now.same_holds
+    × (held_by (port_at c.make.new.live (c.args.port - 1)) ≡ held_by (port_at c.args.live.now (c.args.port - 1))) =
+    elim c.if-course.branch [
+      | then-course w ↦ λ known.
+          let same : w.hold.result ≡ c.hold-held.result = eqb-true _ _ (sym w.course-is ∙ known) in
+          (w.if-course.true, sym w.hold.ensures ∙ same ∙ c.hold-held.ensures)
+      | else-course w ↦ λ known. absurd (let none = sym w.if-course.false ∙ sym w.course-is ∙ known in cc)
+    ] in
     came_own g.row.N a all c.args.old.now c.args.plan.now past from most first c.args.meter.now c.make.new.meter c.args.course.now _
     c.args.live.now c.reply_beside-answer.new.self c.make.new.live c.args.port c.args.due c.reply_beside-answer.result
     c.in_ok-kept.place o c.reply_beside-answer.ensures.budget c.reply_beside-answer.ensures.answer c.in_ok-kept.ensures.moved refl
-    c.skip-course.ensures.within c.skip-course.ensures.before refl refl (ap (λ (x : RunData). x.first) c.in_ok-push.ensures) moves_is
+    c.skip-course.ensures.within c.skip-course.ensures.before held refl refl (ap (λ (x : RunData). x.first) c.in_ok-push.ensures) moves_is
     c.in_ok-kept.ensures.found c.in_ok-kept.ensures.charges

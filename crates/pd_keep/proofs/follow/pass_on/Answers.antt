@@ -2,7 +2,7 @@ use Rattle.std.proofs.Common.{◌≡◌, ◌-◌, ◌<◌, ◌≤◌, ◌++◌, 
 use Rattle.std.proofs.lemmas.Bool.{cases_lt}
 use Rattle.pd_keep.specs.Following.{HasCome, followed_to}
 use Rattle.pd_keep.specs.Kept.{RunData, left_by, move_of, moves_from}
-use Rattle.pd_keep.proofs.Course.{come_budget, come_here, first_passed, first_passing, passing_left}
+use Rattle.pd_keep.proofs.Course.{come_budget, come_here, first_answered, first_passed, first_passing, passing_left}
 use Rattle.pd_keep.proofs.Following.{some_kept}
 use Rattle.pd_keep.proofs.follow.pass_on.Goals as goal
 
@@ -84,12 +84,14 @@ loop-brief-preserved g c =
       within = omega arith;
       come = λ a all past from most first meter begun.
           let h = x.come a all past from most first meter begun in
+          let is = first_passing g.row.N a all old plan past from most first meter course c.args.live.now c.loop-brief.live at
+          c.args.own.now c.in-Some.brief some_kept h c.requires.numbered q c.requires.own x.dues in
           first_passed g.row.N a all old plan past from most first meter course c.args.live.now c.loop-brief.live c.passes.new.live at
           c.args.own.now c.in-Some.brief some_kept h c.requires.numbered q c.requires.own x.dues x.from_on
           (c.passes.ensures.passed c.if-not-passes.false (past ++ map move_of (followed_to course old.moves at).span.moves) course.away
-          h.whole some_kept
-          (first_passing g.row.N a all old plan past from most first meter course c.args.live.now c.loop-brief.live at c.args.own.now
-          c.in-Some.brief some_kept h c.requires.numbered q c.requires.own x.dues)) c.passes.ensures.ports;
+          h.whole some_kept is
+          (first_answered g.row.N a all old plan past from most first meter (followed_to course old.moves at) h.whole c.loop-brief.live
+          some_kept h q.inside is)) c.passes.ensures.ports;
       go = λ i k le lt.
           let h = x.come r.0 r.1 r.2 r.3 r.4 r.5 r.6 r.7 in
           ⊎_elim

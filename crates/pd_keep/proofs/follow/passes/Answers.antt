@@ -1,9 +1,9 @@
-use Rattle.std.proofs.Common.{◌≡◌, ◌-◌, List, ap, sym, ◌∙◌, subst, arith, slice_index, slice_index_or}
+use Rattle.std.proofs.Common.{◌≡◌, ⊎_elim, ◌-◌, true, false, IsTrue, List, ap, sym, ◌∙◌, subst, arith, slice_index, slice_index_or}
 use Rattle.std.proofs.lemmas.List.{get_or_default}
 use Rattle.pd_run.specs.Live.{LiveData}
 use Rattle.pd_keep.specs.Following.{IsPassing, HasPassed}
 use Rattle.pd_keep.specs.Kept.{KeptData, move_of}
-use Rattle.pd_keep.proofs.Following.{passing_few, passing_holds, passed_answered, passed_quiet, some_kept}
+use Rattle.pd_keep.proofs.Following.{passing_few, passing_holds, passed_answered, passed_quiet, passed_still, some_kept}
 use Rattle.pd_keep.proofs.follow.passes.Goals as goal
 
 pub pass-requires : goal.pass-requires
@@ -30,12 +30,18 @@ pass-requires g c =
       ),
     )
 
-pub returns-then-not-brief-clause-passed : goal.returns-then-not-brief-clause-passed
-returns-then-not-brief-clause-passed g c = λ _ past away whole d passing.
+pub returns-then-is_known-clause-passed : goal.returns-then-is_known-clause-passed
+returns-then-is_known-clause-passed g c = λ _ past away whole d passing answered.
     let plan = c.args.plan.now in
     subst (λ (l : LiveData). HasPassed plan past away whole l (slice_index_or c.args.old.now.moves c.args.at d)) (sym c.pass.ensures)
-    (passed_quiet g.row.N plan past away whole c.args.live.now (slice_index_or c.args.old.now.moves c.args.at d) c.args.brief.now
-    c.end-end.ensures.is_plan passing (c.requires.brief d) c.if-not-brief.true)
+    (⊎_elim
+    (λ (quiet : c.args.brief.now.stirs ≡ false).
+    passed_quiet g.row.N plan past away whole c.args.live.now (slice_index_or c.args.old.now.moves c.args.at d) c.args.brief.now
+    c.end-end.ensures.is_plan passing (c.requires.brief d) quiet)
+    (λ (alike : IsTrue c.args.same_holds × (c.args.brief.now.keeps_hold ≡ true)).
+    passed_still g.row.N plan past away whole c.args.live.now (slice_index_or c.args.old.now.moves c.args.at d) c.args.brief.now
+    c.end-end.ensures.is_plan passing (c.requires.brief d) (answered alike.0) ((c.requires.brief d).keeps alike.1))
+    (c.is_known.ensures c.if-is_known.true))
 
 pub follow-requires : goal.follow-requires
 follow-requires g c =
@@ -76,7 +82,7 @@ follow-requires g c =
     )
 
 pub returns-clause-passed : goal.returns-clause-passed
-returns-clause-passed g c = λ told past away whole d passing.
+returns-clause-passed g c = λ told past away whole d passing alike.
     let plan = c.args.plan.now in
     let moves : List KeptData = c.args.old.now.moves in
     let k : KeptData = c.kept-kept.result.now in

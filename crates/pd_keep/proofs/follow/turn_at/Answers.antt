@@ -1,5 +1,5 @@
-use Rattle.std.proofs.Common.{◌<◌, arith, refl, length}
-use Rattle.pd_keep.proofs.Course.{passing, followed_turn, own_is_turn, none_left_through}
+use Rattle.std.proofs.Common.{◌<◌, arith, length}
+use Rattle.pd_keep.proofs.Course.{passing, own_is_turn, none_left_through}
 use Rattle.pd_keep.proofs.Following.{some_kept}
 use Rattle.pd_keep.proofs.follow.turn_at.Goals as goal
 
@@ -25,12 +25,14 @@ leave-requires g c =
                 r.3,
                 r.4,
                 r.5,
-                followed_turn g.row.N r.0 r.1 c.args.old.now plan r.2 r.3 r.4 r.5 c.args.meter.now c.args.course.now c.args.live.now
-                    c.args.live.now at c.args.live.now.account.budget some_kept r.6 c.requires.here (λ k.
-                    let first = c.comes_first.ensures.first c.if-comes_first.true k in
-                    let numbered = c.requires.numbered at k first.0 in
-                    passing g.row.N r.0 r.1 c.args.old.now plan r.2 r.3 r.4 r.5 c.args.meter.now c.args.course.now c.args.live.now at
-                    c.args.own.now k r.6 c.requires.here first.0 first.1 c.requires.own numbered.0 numbered.1) refl,
+                record {
+                  come = r.6;
+                  passing = λ k.
+                      let first = c.comes_first.ensures.first c.if-comes_first.true k in
+                      let numbered = c.requires.numbered at k first.0 in
+                      passing g.row.N r.0 r.1 c.args.old.now plan r.2 r.3 r.4 r.5 c.args.meter.now c.args.course.now c.args.live.now at
+                      c.args.own.now k r.6 c.requires.here first.0 first.1 c.requires.own numbered.0 numbered.1;
+                },
               ),
             ),
           ),
@@ -56,7 +58,7 @@ move_own-requires g c =
               r.4,
               r.5,
               own_is_turn g.row.N r.0 r.1 c.args.old.now c.args.plan.now r.2 r.3 r.4 r.5 c.args.meter.now c.args.course.now c.args.live.now
-                  c.args.course.now.at c.in-Some.port c.in-Some.due c.args.own.now some_kept r.6
+                  c.in-Some.port c.in-Some.due c.args.own.now some_kept r.6
                   c.requires.here
                   c.in-Some.is c.requires.own (c.comes_first.ensures.other c.if-comes_first.false),
             ),
@@ -70,22 +72,24 @@ returns-then-comes_first-clause-came g c = λ _ a all past from most first h.
     let plan = c.args.plan.now in
     let at = c.args.course.now.at in
     c.in_ok-own.ensures.came a all past from most first
-    (followed_turn g.row.N a all c.args.old.now plan past from most first c.args.meter.now c.args.course.now c.args.live.now
-    c.args.live.now at c.args.live.now.account.budget some_kept h c.requires.here (λ k.
-    let comes = c.comes_first.ensures.first c.if-comes_first.true k in
-    let numbered = c.requires.numbered at k comes.0 in
-    passing g.row.N a all c.args.old.now plan past from most first c.args.meter.now c.args.course.now c.args.live.now at
-    c.args.own.now k h c.requires.here comes.0 comes.1 c.requires.own numbered.0 numbered.1) refl)
+    (record {
+      come = h;
+      passing = λ k.
+          let comes = c.comes_first.ensures.first c.if-comes_first.true k in
+          let numbered = c.requires.numbered at k comes.0 in
+          passing g.row.N a all c.args.old.now plan past from most first c.args.meter.now c.args.course.now c.args.live.now at
+          c.args.own.now k h c.requires.here comes.0 comes.1 c.requires.own numbered.0 numbered.1;
+    })
 
 pub returns-in_default-clause-through : goal.returns-in_default-clause-through
 returns-in_default-clause-through g c = λ _ a all past from most first h.
     none_left_through g.row.N a all c.args.old.now c.args.plan.now past from most first c.args.meter.now c.args.course.now c.args.live.now
-    c.args.course.now.at c.args.own.now some_kept h c.requires.here c.in_default.is c.requires.own
+    c.args.own.now some_kept h c.in_default.is c.requires.own
     (c.comes_first.ensures.other c.if-comes_first.false)
 
 pub returns-clause-came : goal.returns-clause-came
 returns-clause-came g c = λ _ a all past from most first h.
     c.in_ok-own-2.ensures.came a all past from most first
     (own_is_turn g.row.N a all c.args.old.now c.args.plan.now past from most first c.args.meter.now c.args.course.now c.args.live.now
-    c.args.course.now.at c.in-Some.port c.in-Some.due c.args.own.now some_kept h c.requires.here
+    c.in-Some.port c.in-Some.due c.args.own.now some_kept h c.requires.here
     c.in-Some.is c.requires.own (c.comes_first.ensures.other c.if-comes_first.false))

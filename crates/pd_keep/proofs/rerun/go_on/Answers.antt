@@ -12,9 +12,10 @@ follow_on-requires g c =
     let h = c.requires.comes in
     let k = h.2 in
     let w = in_span g.row.N h.0 h.1 k.place c.args.old.now k.kept k.there in
-    let scripts = c.have_same_scripts.ensures c.if-have_same_scripts.true h.0 c.args.plan.now c.args.from c.args.old.now.to k.agrees in
-    let can = go_beside g.row.N h.0 h.1 c.args.old.now c.args.plan.now c.args.spans.now c.args.from c.args.agree c.args.alike
-    c.args.live.now k scripts in
+    let scripts = c.have_same_scripts.ensures c.if-have_same_scripts.true h.0 c.args.plan.now c.args.from c.args.old.now.to k.in_common in
+    let can = go_beside g.row.N h.0 h.1 c.args.old.now c.args.plan.now c.args.spans.now c.args.from c.args.common c.args.alike
+    c.share_alike-share.result c.args.live.now k scripts
+    (λ share. c.share_alike-share.ensures share h.0 c.args.plan.now c.args.from c.args.old.now.to k.in_common) in
     let numbered = numbered_in g.row.N h.0 (moves_of h.1) c.args.old.now c.args.plan.now (moves_of c.args.spans.now) c.args.from
     can.beside in
     (omega arith, (omega arith, (w.made, (w.in_time, (numbered, (k.soon, (k.far, (h.0, moves_of h.1, can))))))))
@@ -27,10 +28,11 @@ returns-then-have_same_scripts-clause-cost g c =
     let w = in_span g.row.N a old_spans k.place c.args.old.now k.kept k.there in
     let those : AreThose all c.args.from c.args.old.now.to c.args.old.now.moves =
     subst (λ t. AreThose all t c.args.old.now.to c.args.old.now.moves) (sym k.from_is) w.those in
-    let scripts = c.have_same_scripts.ensures c.if-have_same_scripts.true a c.args.plan.now c.args.from c.args.old.now.to k.agrees in
+    let scripts = c.have_same_scripts.ensures c.if-have_same_scripts.true a c.args.plan.now c.args.from c.args.old.now.to k.in_common in
     paid a (moves_of old_spans) all first
-    (go_beside g.row.N a old_spans c.args.old.now c.args.plan.now c.args.spans.now c.args.from c.args.agree c.args.alike c.args.live.now k
-    scripts) k.kept.own those so_far)
+    (go_beside g.row.N a old_spans c.args.old.now c.args.plan.now c.args.spans.now c.args.from c.args.common c.args.alike
+    c.share_alike-share.result c.args.live.now k scripts
+    (λ share. c.share_alike-share.ensures share a c.args.plan.now c.args.from c.args.old.now.to k.in_common)) k.kept.own those so_far)
     c.follow_on.ensures.cost
 
 pub run_on-requires : goal.run_on-requires

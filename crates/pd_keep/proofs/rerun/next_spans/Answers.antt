@@ -25,8 +25,8 @@ returns-then-shared-clause-so_far g c =
     let old_plan = h.0 in
     let old_spans : List RunData = h.1 in
     let k = h.2 in
-    let there : ComesTo g.row.N old_plan old_spans c.deref.result.now plan spans at c.args.agree c.args.standing =
-    subst (λ (s : RunData). ComesTo g.row.N old_plan old_spans s plan spans at c.args.agree c.args.standing) (sym read) k in
+    let there : ComesTo g.row.N old_plan old_spans c.deref.result.now plan spans at c.args.common c.args.standing =
+    subst (λ (s : RunData). ComesTo g.row.N old_plan old_spans s plan spans at c.args.common c.args.standing) (sym read) k in
     let shared : IsShared g.row.N old_plan old_spans old plan (moves_of spans) at =
     subst (λ (s : RunData). IsShared g.row.N old_plan old_spans s plan (moves_of spans) at) read
     (c.in_ok-shared.ensures c.if-shared.true old_plan old_spans spans at there) in
@@ -41,8 +41,8 @@ returns-then-shared-clause-stands g c = λ old_plan old_spans k.
     let is : c.in_ok-clone.field-0.value ≡ old = c.in_ok-clone.ensures.cases in
     let pushed : c.push.new.self ≡ spans ++ old ∷ [] = c.in_ok-push.ensures ∙ ap (λ (s : RunData). spans ++ s ∷ []) is in
     let read : c.deref.result.now ≡ old = c.deref.ensures in
-    let there : ComesTo g.row.N old_plan old_spans c.deref.result.now plan spans at c.args.agree c.args.standing =
-    subst (λ (s : RunData). ComesTo g.row.N old_plan old_spans s plan spans at c.args.agree c.args.standing) (sym read) k in
+    let there : ComesTo g.row.N old_plan old_spans c.deref.result.now plan spans at c.args.common c.args.standing =
+    subst (λ (s : RunData). ComesTo g.row.N old_plan old_spans s plan spans at c.args.common c.args.standing) (sym read) k in
     let shared : IsShared g.row.N old_plan old_spans old plan (moves_of spans) at =
     subst (λ (s : RunData). IsShared g.row.N old_plan old_spans s plan (moves_of spans) at) read
     (c.in_ok-shared.ensures c.if-shared.true old_plan old_spans spans at there) in
@@ -57,8 +57,8 @@ returns-then-shared-clause-cost g c = λ old_plan old_spans first k so_far.
     let is : c.in_ok-clone.field-0.value ≡ old = c.in_ok-clone.ensures.cases in
     let pushed : c.push.new.self ≡ spans ++ old ∷ [] = c.in_ok-push.ensures ∙ ap (λ (s : RunData). spans ++ s ∷ []) is in
     let read : c.deref.result.now ≡ old = c.deref.ensures in
-    let there : ComesTo g.row.N old_plan old_spans c.deref.result.now plan spans at c.args.agree c.args.standing =
-    subst (λ (s : RunData). ComesTo g.row.N old_plan old_spans s plan spans at c.args.agree c.args.standing) (sym read) k in
+    let there : ComesTo g.row.N old_plan old_spans c.deref.result.now plan spans at c.args.common c.args.standing =
+    subst (λ (s : RunData). ComesTo g.row.N old_plan old_spans s plan spans at c.args.common c.args.standing) (sym read) k in
     let shared : IsShared g.row.N old_plan old_spans old plan (moves_of spans) at =
     subst (λ (s : RunData). IsShared g.row.N old_plan old_spans s plan (moves_of spans) at) read
     (c.in_ok-shared.ensures c.if-shared.true old_plan old_spans spans at there) in
@@ -70,15 +70,15 @@ pub go_on-requires : goal.go_on-requires
 go_on-requires g c =
     let h = c.requires.comes in
     let old : RunData = c.args.old.now.value in
-    let k : ComesTo g.row.N h.0 h.1 c.deref-2.result.now c.args.plan.now c.args.spans.now c.args.at c.args.agree c.args.standing =
-    subst (λ (s : RunData). ComesTo g.row.N h.0 h.1 s c.args.plan.now c.args.spans.now c.args.at c.args.agree c.args.standing)
+    let k : ComesTo g.row.N h.0 h.1 c.deref-2.result.now c.args.plan.now c.args.spans.now c.args.at c.args.common c.args.standing =
+    subst (λ (s : RunData). ComesTo g.row.N h.0 h.1 s c.args.plan.now c.args.spans.now c.args.at c.args.common c.args.standing)
     (sym c.deref-2.ensures) h.2 in
-    let apart : ComesApart g.row.N h.0 h.1 old c.args.plan.now c.args.spans.now c.args.at c.args.agree c.in_ok-live.alike
+    let apart : ComesApart g.row.N h.0 h.1 old c.args.plan.now c.args.spans.now c.args.at c.args.common c.in_ok-live.alike
     c.in_ok-live.live =
-    apart_at g.row.N h.0 h.1 old c.args.plan.now c.args.spans.now c.args.at c.args.agree c.args.standing c.in_ok-live.alike
-    c.in_ok-live.live h.2 (c.in_ok-live.ensures.stands h.0 h.1 c.args.spans.now c.args.agree k)
+    apart_at g.row.N h.0 h.1 old c.args.plan.now c.args.spans.now c.args.at c.args.common c.args.standing c.in_ok-live.alike
+    c.in_ok-live.live h.2 (c.in_ok-live.ensures.stands h.0 h.1 c.args.spans.now c.args.common k)
     (subst (λ (s : RunData). BeginsWithMarked g.row.N s c.in_ok-live.live c.in_ok-live.alike) c.deref-2.ensures
-    (c.in_ok-live.ensures.known h.0 h.1 c.args.spans.now c.args.agree k)) in
+    (c.in_ok-live.ensures.known h.0 h.1 c.args.spans.now c.args.common k)) in
     rw c.deref-3.ensures (omega arith, (omega arith, (h.0, h.1, apart)))
 
 pub returns-clause-so_far : goal.returns-clause-so_far
@@ -90,7 +90,7 @@ returns-clause-stands g c = λ old_plan old_spans k.
     let old : RunData = c.args.old.now.value in
     record {
       stands = c.in_ok-alike.ensures.stands;
-      known = known_then g.row.N old_plan old_spans old c.args.plan.now c.args.spans.now c.args.at c.args.agree c.args.standing
+      known = known_then g.row.N old_plan old_spans old c.args.plan.now c.args.spans.now c.args.at c.args.common c.args.standing
           c.go_on.new.live c.in_ok-alike.alike k
           (subst (λ (s : RunData). StandAs g.row.N c.in_ok-alike.alike c.go_on.new.live (left_by s.first s.moves))
           c.deref-3.ensures c.in_ok-alike.ensures.known);
@@ -99,16 +99,16 @@ returns-clause-stands g c = λ old_plan old_spans k.
 pub returns-clause-cost : goal.returns-clause-cost
 returns-clause-cost g c = λ old_plan old_spans first h so_far.
     let old : RunData = c.args.old.now.value in
-    let k : ComesTo g.row.N old_plan old_spans c.deref-2.result.now c.args.plan.now c.args.spans.now c.args.at c.args.agree
+    let k : ComesTo g.row.N old_plan old_spans c.deref-2.result.now c.args.plan.now c.args.spans.now c.args.at c.args.common
     c.args.standing =
-    subst (λ (s : RunData). ComesTo g.row.N old_plan old_spans s c.args.plan.now c.args.spans.now c.args.at c.args.agree c.args.standing)
+    subst (λ (s : RunData). ComesTo g.row.N old_plan old_spans s c.args.plan.now c.args.spans.now c.args.at c.args.common c.args.standing)
     (sym c.deref-2.ensures) h in
-    let apart : ComesApart g.row.N old_plan old_spans old c.args.plan.now c.args.spans.now c.args.at c.args.agree c.in_ok-live.alike
+    let apart : ComesApart g.row.N old_plan old_spans old c.args.plan.now c.args.spans.now c.args.at c.args.common c.in_ok-live.alike
     c.in_ok-live.live =
-    apart_at g.row.N old_plan old_spans old c.args.plan.now c.args.spans.now c.args.at c.args.agree c.args.standing c.in_ok-live.alike
-    c.in_ok-live.live h (c.in_ok-live.ensures.stands old_plan old_spans c.args.spans.now c.args.agree k)
+    apart_at g.row.N old_plan old_spans old c.args.plan.now c.args.spans.now c.args.at c.args.common c.args.standing c.in_ok-live.alike
+    c.in_ok-live.live h (c.in_ok-live.ensures.stands old_plan old_spans c.args.spans.now c.args.common k)
     (subst (λ (s : RunData). BeginsWithMarked g.row.N s c.in_ok-live.live c.in_ok-live.alike) c.deref-2.ensures
-    (c.in_ok-live.ensures.known old_plan old_spans c.args.spans.now c.args.agree k)) in
+    (c.in_ok-live.ensures.known old_plan old_spans c.args.spans.now c.args.common k)) in
     c.in_ok-alike.ensures.cost old_plan old_spans first
-    (subst (λ (s : RunData). ComesApart g.row.N old_plan old_spans s c.args.plan.now c.args.spans.now c.args.at c.args.agree
+    (subst (λ (s : RunData). ComesApart g.row.N old_plan old_spans s c.args.plan.now c.args.spans.now c.args.at c.args.common
     c.in_ok-live.alike c.in_ok-live.live) (sym c.deref-3.ensures) apart) so_far

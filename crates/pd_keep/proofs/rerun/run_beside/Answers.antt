@@ -3,6 +3,7 @@ use Rattle.std.proofs.lemmas.List.{take_all}
 use Rattle.std.proofs.lemmas.Option.{slice_get_within}
 use Rattle.pd_run.specs.UpTo.{AgreeAs}
 use Rattle.pd_keep.specs.Kept.{RunData}
+use Rattle.pd_keep.specs.declared.rerun.Common.{Common}
 use Rattle.pd_keep.specs.Rerun.{ComesTo}
 use Rattle.pd_keep.specs.Spans.{moves_of, end_of, begins_at}
 use Rattle.pd_keep.proofs.Beside.{so_far_none, done_alike, over_from, past_all, comes_to, is_kept_of}
@@ -37,10 +38,15 @@ next_spans-requires g c =
     let s : RunData = c.in-Some.span.now.value in
     let there : slice_get old_spans place ≡ Some s = sym c.in-Some.ensures in
     let to_is : c.to.result ≡ s.to = c.to.ensures ∙ ap (λ (r : RunData). r.to) c.deref.ensures in
-    let comes : ComesTo g.row.N old old_spans s plan spans at c.advance-agree.result c.loop-at.standing =
-    comes_to g.row.N old old_spans spans s plan place at c.loop-at.beside.at c.advance-agree.result c.loop-at.standing c.requires.old
+    let common : Common = record { agree = c.advance-agree.result; same_floors = c.have_same_floors-same_floors.result } in
+    let comes : ComesTo g.row.N old old_spans s plan spans at common c.loop-at.standing =
+    comes_to g.row.N old old_spans spans s plan place at c.loop-at.beside.at
+    common c.loop-at.standing c.requires.old
     i.so_far i.stands i.begins there (omega arith) i.now
-    (subst (λ t. AgreeAs c.advance-agree.result old plan c.loop-at.beside.at t) to_is c.advance-agree.ensures.agree) in
+    (record {
+      agrees = subst (λ t. AgreeAs c.advance-agree.result old plan c.loop-at.beside.at t) to_is c.advance-agree.ensures.agree;
+      floors = c.have_same_floors-same_floors.ensures;
+    }) in
     (omega arith, (omega arith, (old, old_spans, comes)))
 
 pub loop-at-smaller : goal.loop-at-smaller
@@ -61,10 +67,15 @@ loop-at-preserved g c =
     let s : RunData = c.in-Some.span.now.value in
     let there : slice_get old_spans place ≡ Some s = sym c.in-Some.ensures in
     let to_is : c.to.result ≡ s.to = c.to.ensures ∙ ap (λ (r : RunData). r.to) c.deref.ensures in
-    let comes : ComesTo g.row.N old old_spans s plan spans at c.advance-agree.result c.loop-at.standing =
-    comes_to g.row.N old old_spans spans s plan place at c.loop-at.beside.at c.advance-agree.result c.loop-at.standing c.requires.old
+    let common : Common = record { agree = c.advance-agree.result; same_floors = c.have_same_floors-same_floors.result } in
+    let comes : ComesTo g.row.N old old_spans s plan spans at common c.loop-at.standing =
+    comes_to g.row.N old old_spans spans s plan place at c.loop-at.beside.at
+    common c.loop-at.standing c.requires.old
     i.so_far i.stands i.begins there (omega arith) i.now
-    (subst (λ t. AgreeAs c.advance-agree.result old plan c.loop-at.beside.at t) to_is c.advance-agree.ensures.agree) in
+    (record {
+      agrees = subst (λ t. AgreeAs c.advance-agree.result old plan c.loop-at.beside.at t) to_is c.advance-agree.ensures.agree;
+      floors = c.have_same_floors-same_floors.ensures;
+    }) in
     let end_is : c.to-at.result ≡ s.to = c.to-at.ensures ∙ ap (λ (r : RunData). r.to) c.deref-in-loop-at.ensures in
     let one : suc place ≡ place + 1 = omega arith in
     let next : begins_at old_spans (place + 1) ≡ s.to = ap (begins_at old_spans) (sym one) ∙ end_next 0 old_spans place s there in
