@@ -70,7 +70,7 @@ def edits(end):
         "middle: a packet is lost half-way": disturbed(end // 2, 100),
         "port: a device leaves after 1 s, until the next comes": lambda n: (f"insert {SPARE} {SECOND + n} {1 + n % PORTS} detach", f"remove {SPARE}"),
         "cable: one that nobody uses is added": lambda n: ("cable spare ack 5000", "cable spare drop"),
-        "budget: less by 1 mW": lambda n: ("budget 399999", "budget 400000"),
+        "budget: less by some mW": lambda n: (f"budget {399_999 - n}", "budget 400000"),
         "caps: other supplies of a port": lambda n: (f"caps {1 + n % PORTS} 5000 3000", f"caps {1 + n % PORTS} {offers}"),
     }
 
