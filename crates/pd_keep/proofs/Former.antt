@@ -1,5 +1,6 @@
 -- Two runs have as many moves of each other: what is fresh of the one beside the other tells what is fresh of the other beside the one.
-use Rattle.std.proofs.Common.{◌≡◌, ℕ, ◌+◌, ◌-◌, ◌<◌, ◌≤◌, ◌^◌, Option, Some, None, option_map, suc, zero, ⊎_elim, inl, inr, List, [], ◌∷◌, ◌++◌, length}
+use Rattle.std.proofs.Common.{◌≡◌, ℕ, ◌+◌, ◌-◌, ◌<◌, ◌≤◌, ◌^◌, Option, Some, None, option_map, suc, zero, ⊎_elim, inl, inr, List}
+use Rattle.std.proofs.Common.{[], ◌∷◌, ◌++◌, length}
 use Rattle.std.proofs.Common.{refl, ap, sym, ◌∙◌, subst, arith, Contains}
 use Rattle.std.proofs.Common.{length-append}
 use Rattle.std.proofs.Math.Seq.{get_or-append_seam}
@@ -46,7 +47,8 @@ later : (x : Move) (xs : List Move) (m : Move) → Contains xs m → Contains (x
 later x xs m at = (suc at.0, omega (arith, at.1), at.2)
 
 -- a move that none of the old ones is the same as, and that isn't the same as one more, is fresh beside all of them
-still_fresh : (a b : Plan) (old : List Move) (x h : Move) → (IsRepeated b old a h → ⊥) → (IsSame b x a h → ⊥) → IsRepeated b (x ∷ old) a h → ⊥
+still_fresh : (a b : Plan) (old : List Move) (x h : Move) → (IsRepeated b old a h → ⊥) → (IsSame b x a h → ⊥)
+    → IsRepeated b (x ∷ old) a h → ⊥
 still_fresh a b old x h none other (o, (zero, lt, is), same) = other (subst (λ (y : Move). IsSame b y a h) (sym is) same)
 still_fresh a b old x h none other (o, (suc k, lt, is), same) = none (o, (k, omega (arith, lt), is), same)
 
@@ -140,7 +142,8 @@ apart past (y ∷ xs) x o there differ (suc at, lt, is) =
 distinct_after : (plan : Plan) (past xs : List Move) → EachAfter Differs past xs → AreDistinct plan xs
 distinct_after plan past [] differ = tt
 distinct_after plan past (x ∷ xs) differ = (
-  λ o at same. apart (past ++ x ∷ []) xs x o (length past, omega (arith, length-append past (x ∷ [])), get_or-append_seam past x [] x) differ.1 at
+  λ o at same.
+      apart (past ++ x ∷ []) xs x o (length past, omega (arith, length-append past (x ∷ [])), get_or-append_seam past x [] x) differ.1 at
       same.port same.before same.due,
   distinct_after plan (past ++ x ∷ []) xs differ.1,
 )
@@ -202,7 +205,8 @@ traded_rises len common before after fits after_is = omega (arith, fits, after_i
 
 -- no more are fresh than there are
 pub charged_few : (n : ℕ) (run : Option (KeptRun n)) (plan : Plan) (spans : List RunData) (len first last fresh : ℕ)
-    → len ≡ length (kept_of_spans spans) → first ≡ 0 → fresh ≡ last → IsCharged (running n run) plan (moves_of spans) first last → fresh ≤ len
+    → len ≡ length (kept_of_spans spans) → first ≡ 0 → fresh ≡ last → IsCharged (running n run) plan (moves_of spans) first last
+    → fresh ≤ len
 charged_few n None plan spans len first last fresh len_is none is charge =
     omega (arith, charge.1, charge.2, length-map (kept_of_spans spans) move_of, len_is, none, is)
 charged_few n (Some run) plan spans len first last fresh len_is none is charge =
@@ -218,7 +222,8 @@ charged_few n (Some run) plan spans len first last fresh len_is none is charge =
 
 -- a run and the one before have in common what isn't fresh
 pub former_is : (n : ℕ) (run : Option (KeptRun n)) (plan : Plan) (spans : List RunData) (len first last fresh : ℕ) → Keeps n run
-    → len ≡ length (kept_of_spans spans) → len < 2 ^ 64 → first ≡ 0 → fresh ≡ last → IsCharged (running n run) plan (moves_of spans) first last
+    → len ≡ length (kept_of_spans spans) → len < 2 ^ 64 → first ≡ 0 → fresh ≡ last
+    → IsCharged (running n run) plan (moves_of spans) first last
     → IsFormer n (option_map (in_common n (len - fresh)) run) (Some (record { plan = plan; spans = spans }))
 former_is n None plan spans len first last fresh keeps len_is fits none is charge = tt
 former_is n (Some run) plan spans len first last fresh keeps len_is fits none is charge =

@@ -1,7 +1,7 @@
 //! A span of a run beside an older run's, in which ports that stand as the older run's follow it.
 
 ghost use Rattle.std.specs.Prelude.{◌≡◌, ◌⊎◌, ℕ, ◌-◌, ◌<◌, ◌≤◌, ◌++◌, List, IfOk, IfSome, OnOk, IsTrue, IsFalse, map, length};
-ghost use Rattle.std.specs.Prelude.{All, Bool, MatchOption, None, true, false, slice_index_or};
+ghost use Rattle.std.specs.Prelude.{All, Bool, MatchOption, None, replicate, true, false, slice_index_or};
 ghost use Rattle.pd_port.specs.Port.{PortData};
 ghost use Rattle.pd_scenario.specs.Plan.{Plan as PlanData, count, force};
 ghost use Rattle.pd_run.specs.Live.{LiveData, StandsAfter, StandsBut, at_budget, port_at};
@@ -217,12 +217,11 @@ fn move_own<const N: usize>(
     let held = live.hold(port);
     let answer = live.reply_beside(plan, port, &due);
     course.from = skip(old, course.from, due.time);
-    let left = course.places[port - 1];
     let (kept, marks, place) = make(
         alloc,
         old,
         course.from,
-        left,
+        course.places[port - 1],
         plan,
         live,
         port,
@@ -390,6 +389,27 @@ fn take_up<const N: usize>(
     Ok(())
 }
 
+// The beginning of a span, where the ports that are marked follow.
+fn begun(alike: &[bool; 8], same_holds: bool, span: KeptMoves) -> Course
+    ensures { result ≡ record {
+      at = 0;
+      from = 0;
+      same_holds = same_holds;
+      away = alike.now;
+      places = replicate 8 None;
+      span = span;
+    } }
+{
+    Course {
+        at: 0,
+        from: 0,
+        same_holds,
+        away: *alike,
+        places: [None; 8],
+        span,
+    }
+}
+
 /// The moves of a run up to the end of an older one's span, through which the ports that are marked follow it; both plans may be known to
 /// share alike in it. Which ports are known to stand then as the older run's. The meter rises by the moves that the older one doesn't have.
 ///
@@ -409,10 +429,10 @@ pub fn follow_span<const N: usize>(
     requires numbered { AreNumbered N old.now.moves }
     requires follows { (a : PlanData) × (all : List Move) × (past : List Move) × (from : ℕ)
         × CanFollow N a all old.now plan.now past from alike.now share live.old }
-    ensures span { IfOk result (λ r. (a : PlanData) (all : List Move) (past : List Move) (from : ℕ)
+    ensures span { IfOk result (λ r. (a : PlanData) (all past : List Move) (from : ℕ)
         → CanFollow N a all old.now plan.now past from alike.now share live.old
         → IsNextSpan N plan.now past from r.0 × (r.0.to ≡ old.now.to)) }
-    ensures stands { IfOk result (λ r. (a : PlanData) (all : List Move) (past : List Move) (from : ℕ)
+    ensures stands { IfOk result (λ r. (a : PlanData) (all past : List Move) (from : ℕ)
         → CanFollow N a all old.now plan.now past from alike.now share live.old
         → StandsAfter plan.now (past ++ map move_of r.0.moves) live.new) }
     ensures known { IfOk result (λ r. StandAs N r.1 live.new (left_by old.now.first old.now.moves)) }
@@ -426,14 +446,7 @@ pub fn follow_span<const N: usize>(
     let span = KeptMoves::with_room(alloc, live.ports(alloc)?, old.shareable()?)?;
     let same_holds = share && hold_alike(old, alike, live);
     set_aside(live, alike);
-    let mut course = Course {
-        at: 0,
-        from: 0,
-        same_holds,
-        away: *alike,
-        places: [None; 8],
-        span,
-    };
+    let mut course = begun(alike, same_holds, span);
     let mut own = next_before(live, plan, old.to());
     while turn(alloc, old, &mut course, plan, live, &mut own, meter)? {}
     take_up(old, &course.away, plan, live)?;

@@ -158,8 +158,8 @@ held-all_after : (s : SourceSettings) (floor free : ℕ) (ds : List Deed) (now :
 held-all_after s floor free [] now x a r least g t h = h
 held-all_after s floor free (d ∷ ds) now x a r least g t h =
     held-all_after s floor free ds now x a (after s d now x a r) least g (and-right (not (is_take d)) (none_of is_take ds) t)
-    (held-after s floor free d now x a r least g (λ k. let no = not-true (is_take d) (and-left (not (is_take d)) (none_of is_take ds) t) in absurd (cc))
-    h)
+    (held-after s floor free d now x a r least g
+    (λ k. let no = not-true (is_take d) (and-left (not (is_take d)) (none_of is_take ds) t) in absurd (cc)) h)
 
 kept-after : (s : SourceSettings) (d : Deed) (now : ℕ) (x : Stimulus) (a : Option Answer) (r : SourceRecord) → not (is_keep d) ≡ true →
     (after s d now x a r).kept_request ≡ r.kept_request

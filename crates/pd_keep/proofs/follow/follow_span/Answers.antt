@@ -1,7 +1,8 @@
 use Rattle.std.proofs.Common.{◌≡◌, ◌++◌, List, map, ap, sym, ◌∙◌, subst, arith, refl}
 use Rattle.pd_run.specs.Live.{StandsAfter}
 use Rattle.pd_run.specs.StepsLeft.{steps_left}
-use Rattle.pd_keep.specs.Following.{IsOwnNext}
+use Rattle.pd_keep.specs.Following.{HasCome, IsOwnNext}
+use Rattle.pd_keep.specs.declared.follow.Course.{Course}
 use Rattle.pd_keep.specs.Kept.{KeptData, RunData, move_of}
 use Rattle.pd_keep.specs.Rerun.{Costs}
 use Rattle.pd_keep.proofs.Course.{come_first, no_places, through_span, known_through, followed_left}
@@ -13,7 +14,9 @@ pub loop-course-init : goal.loop-course-init
 loop-course-init g c = record {
   come = λ a all past from h.
       let fits = c.count-count.ensures.fits in
-      come_first g.row.N a all c.args.old.now c.args.plan.now past from c.args.meter.now c.args.alike.now c.args.share
+      subst (λ (z : Course). HasCome g.row.N a all c.args.old.now c.args.plan.now past from (steps_left c.args.plan.now c.args.live.now)
+      c.args.meter.now c.args.meter.now z c.set_aside.new.live) (sym c.begun-course.ensures)
+      (come_first g.row.N a all c.args.old.now c.args.plan.now past from c.args.meter.now c.args.alike.now c.args.share
       c.if-share.same_holds _ c.in_ok-span.span c.args.live.now c.set_aside.new.live h
       (elim c.if-share.branch [
         | then-share w ↦ λ known.
@@ -24,7 +27,7 @@ loop-course-init g c = record {
       (c.set_aside.ensures c.args.plan.now past c.end-end.ensures.is_plan.settings_count h.stands) c.told-alike
       refl no_places
       (ap (λ (r : RunData). r.first) c.in_ok-span.ensures ∙ c.in_ok-ports.ensures) (ap (λ (r : RunData). r.moves) c.in_ok-span.ensures)
-      (omega arith);
+      (omega arith));
   own = subst (λ t. IsOwnNext c.args.plan.now c.set_aside.new.live t c.next_before-own.result) c.to.ensures c.next_before-own.ensures.own;
   rises = omega arith;
 }

@@ -15,5 +15,6 @@ returns-clause-former g c =
 
 pub returns-clause-charge : goal.returns-clause-charge
 returns-clause-charge g c =
-    traded_charge g.row.N c.args.former.now c.args.run.now c.len.result _ c.args.meter.now _ c.requires.kept c.requires.former c.len.ensures refl
+    traded_charge g.row.N c.args.former.now c.args.run.now c.len.result _ c.args.meter.now _ c.requires.kept c.requires.former
+    c.len.ensures refl
     c.rise_by.ensures
