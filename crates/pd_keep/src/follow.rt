@@ -194,6 +194,7 @@ fn passes<const N: usize>(
 }
 
 // The move of a port that doesn't follow, which is the next one where all ports stand. What is next on such ports then.
+#[inline(always)]
 fn move_own<const N: usize>(
     alloc: Global,
     old: &KeptMoves,

@@ -557,6 +557,7 @@ impl KeptMoves {
     }
 
     // Keeps one more move with its marks and its brief.
+    #[inline(always)]
     fn push_noted(
         &mut self,
         port: usize,

@@ -114,6 +114,7 @@ pub fn next_before<const N: usize>(live: &Live<N>, plan: &Plan<N>, to: u64) -> O
 
 // A port's move for a due, with its marks, and where the port stands in the old run then: shared where the old run has it, else a step.
 // The other ports needn't stand where their moves have left them.
+#[inline(always)]
 pub fn make<const N: usize>(
     alloc: Global,
     old: &KeptMoves,
@@ -153,6 +154,7 @@ pub fn make<const N: usize>(
 }
 
 // A port's move for a due that the old run doesn't have.
+#[inline(always)]
 fn step<const N: usize>(
     alloc: Global,
     plan: &Plan<N>,

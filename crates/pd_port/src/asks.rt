@@ -110,6 +110,7 @@ fn told_by_event(port: &PortParts, happening: &Happening) -> Option<Stimulus>
 }
 
 /// With what the source is stepped for what falls due, where that is no change of the budget.
+#[inline(always)]
 pub(crate) fn source_told(port: &PortParts, what: &What) -> Option<Stimulus>
     ensures { result ≡ source_told what.now port.now }
 {

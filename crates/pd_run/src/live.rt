@@ -367,6 +367,7 @@ impl<const N: usize> Live<N> {
     }
 
     // Like `next`, with the ports numbered from 0.
+    #[inline(always)]
     fn first(&self, plan: &Plan<N>) -> Option<(usize, &Due)>
         ensures first { IsSoFar plan.now self.now N (option_map (λ r. (r.0, r.1.now)) result) }
         ensures is_plan { IsPlan N plan.now }
@@ -380,6 +381,7 @@ impl<const N: usize> Live<N> {
     }
 
     // The first due with one more port.
+    #[inline(always)]
     fn with_port<'a>(
         &'a self,
         plan: &Plan<N>,

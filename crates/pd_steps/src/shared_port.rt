@@ -63,6 +63,7 @@ impl SharedPort {
     }
 
     /// Whether the port is set to the same as another, and has the same record.
+    #[inline(always)]
     pub fn stands_as(&self, other: &Port) -> bool
         ensures { IsTrue result ↔ (self.now ≡ other.now) }
     {

@@ -80,6 +80,7 @@ impl TimedPort {
     }
 
     /// What the port asks before the step for this due. Most dues ask nothing, and then the port itself isn't read.
+    #[inline(always)]
     pub(crate) fn ask(&self, due: &Due) -> Option<Query>
         ensures { result ≡ ask self.now.settings self.now.port_record due.now }
     {
@@ -154,6 +155,7 @@ impl TimedPort {
 }
 
 // Whether a port asks anything of the shared budget at what falls due on it but for events, where anything does.
+#[inline(always)]
 fn asks_at(port: &Port, own: &OwnDue) -> bool
     ensures { result ≡ asks_at port.now (told_due own.now) }
 {
