@@ -493,8 +493,8 @@ impl KeptMoves {
         brief.port == port
             && brief.held == held
             && kept.entry().due.same(due)
-            && kept.step.has_answer(answer)
             && (self.follows(i, left) || kept.before.stands_as(before))
+            && kept.step.has_answer(answer)
     }
 
     /// Keeps one more move of a port with its marks. The moves before it left the port as it was before this one.
