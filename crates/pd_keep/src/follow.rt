@@ -16,6 +16,7 @@ ghost use Rattle.pd_keep.specs.Rerun.{AreThose, Costs, IsNextSpan};
 
 use crate::kept_move::{Brief, KeptMoves, Place};
 use crate::one_span::{make, next_before, skip};
+use crate::spare::SpareLists;
 use pd_port::{Due, Meter};
 use pd_run::{Live, Plan};
 use std::alloc::{AllocError, Global};
@@ -418,6 +419,7 @@ fn begun(alike: &[bool; 8], same_holds: bool, span: KeptMoves) -> Course
 /// There is no memory. The ports stand anywhere.
 pub fn follow_span<const N: usize>(
     alloc: Global,
+    lists: SpareLists,
     old: &KeptMoves,
     alike: &[bool; 8],
     share: bool,
@@ -444,7 +446,7 @@ pub fn follow_span<const N: usize>(
     ensures rises { meter.old ≤ meter.new }
 {
     let (_end, _count) = (plan.end(), meter.count());
-    let span = KeptMoves::with_room(alloc, live.ports(alloc)?, old.shareable()?)?;
+    let span = KeptMoves::in_lists(lists, live.ports(alloc)?, old.shareable()?)?;
     let same_holds = share && hold_alike(old, alike, live);
     set_aside(live, alike);
     let mut course = begun(alike, same_holds, span);

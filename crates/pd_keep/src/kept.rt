@@ -13,10 +13,10 @@ ghost use Rattle.pd_keep.specs.Spans.{IsKept, moves_of};
 
 use crate::rerun::rerun;
 use crate::spans::Spans;
+use crate::spare::Spare;
 use pd_port::{Entry, Meter};
 use pd_run::{Note, Plan, Runner};
 use pd_scenario::Scenario;
-use pd_steps::SpareSteps;
 use std::alloc::{AllocError, Global};
 use std::marker::Model;
 use std::mem;
@@ -41,7 +41,7 @@ pub struct FormerRun<const N: usize> {
 pub struct Kept<const N: usize> {
     run: Option<KeptRun<N>>,
     former: Option<FormerRun<N>>,
-    spare: SpareSteps,
+    spare: Spare,
 }
 
 impl<const N: usize> Model for Kept<N> {
@@ -67,7 +67,7 @@ impl<const N: usize> Runner<N> for Kept<N> {
         Kept {
             run: None,
             former: None,
-            spare: SpareSteps::new(alloc),
+            spare: Spare::new(alloc),
         }
     }
 
@@ -163,7 +163,7 @@ fn trade_places<const N: usize>(run: &mut KeptRun<N>, former: &mut FormerRun<N>,
 }
 
 // Lets a former run go. Its room is spare, where the run that is kept doesn't have it.
-fn let_go<const N: usize>(former: &mut Option<FormerRun<N>>, spare: &mut SpareSteps)
+fn let_go<const N: usize>(former: &mut Option<FormerRun<N>>, spare: &mut Spare)
     ensures { former.new ≡ None }
 {
     if let Some(former) = former.take() {
@@ -186,7 +186,7 @@ fn run_anew<const N: usize>(
     alloc: Global,
     run: &Option<KeptRun<N>>,
     plan: &Plan<N>,
-    spare: &mut SpareSteps,
+    spare: &mut Spare,
     meter: &mut Meter,
 ) -> Result<(Spans, usize), AllocError>
     requires { Keeps N run.now }
@@ -210,7 +210,7 @@ fn spans_of<const N: usize>(
     alloc: Global,
     run: &Option<KeptRun<N>>,
     plan: &Plan<N>,
-    spare: &mut SpareSteps,
+    spare: &mut Spare,
     meter: &mut Meter,
 ) -> Result<Spans, AllocError>
     requires { Keeps N run.now }
@@ -220,6 +220,9 @@ fn spans_of<const N: usize>(
 {
     match run {
         Some(old) => rerun(alloc, &old.plan, &old.spans, plan, spare, meter),
-        None => rerun(alloc, plan, &Spans::new(alloc), plan, spare, meter),
+        None => {
+            let none = Spans::new(alloc, Vec::new(alloc));
+            rerun(alloc, plan, &none, plan, spare, meter)
+        }
     }
 }

@@ -13,6 +13,7 @@ ghost use Rattle.pd_keep.specs.Kept.{KeptData, IsBrief, IsLeft, IsMade, IsKnown,
 ghost use Rattle.pd_keep.specs.Kept.{marks_kept, moves_from, shown_of};
 
 use crate::presence::Presence;
+use crate::spare::SpareLists;
 use pd_objects::Answer;
 use pd_port::{Due, Entry, Port, What};
 use pd_run::{Marks, Note, Plan, SharedBudget};
@@ -209,12 +210,12 @@ impl Model for KeptMoves {
 }
 
 impl KeptMoves {
-    /// No moves yet, with room for so many, and the ports as they are.
+    /// No moves yet, with room for so many in these lists, whatever they hold, and the ports as they are.
     ///
     /// # Errors
     /// There is no memory.
-    pub fn with_room(
-        alloc: Global,
+    pub fn in_lists(
+        lists: SpareLists,
         first: Vec<SharedPort>,
         room: usize,
     ) -> Result<KeptMoves, AllocError>
@@ -223,10 +224,10 @@ impl KeptMoves {
         Ok(KeptMoves {
             to: 0,
             first,
-            moves: Vec::with_capacity(alloc, room)?,
-            marks: Vec::with_capacity(alloc, room)?,
-            links: Vec::with_capacity(alloc, room)?,
-            briefs: Vec::with_capacity(alloc, room)?,
+            moves: emptied(lists.moves, room)?,
+            marks: emptied(lists.marks, room)?,
+            links: emptied(lists.links, room)?,
+            briefs: emptied(lists.briefs, room)?,
             lasts: [Place::First; 8],
             presence: Presence::nothing(),
         })
@@ -248,18 +249,30 @@ impl KeptMoves {
         ended
     }
 
-    /// Takes back the room of the moves and ports that no other run has.
-    pub fn take_back(self, spare: &mut SpareSteps) {
+    /// Takes back the room of the moves and ports that no other run has. The lists are spare.
+    pub fn take_back(self, spare: &mut SpareSteps) -> SpareLists {
         // A step that this run alone has is owned by its move and by the next one of its port.
         let shared = self.owned_beyond(2);
-        let KeptMoves { first, moves, .. } = self;
+        let KeptMoves {
+            first,
+            moves,
+            marks,
+            links,
+            briefs,
+            ..
+        } = self;
         for port in first {
             spare.take_port(port);
         }
+        let mut moves = moves;
         if shared < moves.len() {
-            for kept in moves {
-                kept.take_back(spare);
-            }
+            take_moves_back(&mut moves, spare);
+        }
+        SpareLists {
+            moves,
+            marks,
+            links,
+            briefs,
         }
     }
 
@@ -585,6 +598,25 @@ impl KeptMoves {
         self.lasts[port - 1] = place;
         self.presence = presence;
         Ok(())
+    }
+}
+
+// A list that holds nothing any more, with room for so many.
+fn emptied<T: Drop>(list: Vec<T>, room: usize) -> Result<Vec<T>, AllocError>
+    ensures { IfOk result (λ list. list.items ≡ []) }
+{
+    let mut list = list;
+    list.clear();
+    list.reserve_exact(room)?;
+    Ok(list)
+}
+
+// Takes back the room of moves that no other run has.
+fn take_moves_back(moves: &mut Vec<KeptMove>, spare: &mut SpareSteps)
+    ensures { moves.new.items ≡ [] }
+{
+    while let Some(kept) = moves.pop() {
+        kept.take_back(spare);
     }
 }
 

@@ -10,5 +10,6 @@ mod one_span;
 mod presence;
 mod rerun;
 mod spans;
+mod spare;
 
 pub use kept::Kept;

@@ -17,6 +17,7 @@ ghost use Rattle.pd_keep.specs.Places.{ArePlaced};
 ghost use Rattle.pd_keep.specs.Rerun.{AreThose, Costs, IsNextSpan};
 
 use crate::kept_move::{KeptMove, KeptMoves, Place};
+use crate::spare::SpareLists;
 use pd_objects::Answer;
 use pd_port::{Due, Meter, Port};
 use pd_run::{Live, Marks, Plan};
@@ -39,6 +40,7 @@ pub const STRIDE: u64 = 131_072;
 /// There is no memory. The ports stand anywhere.
 pub fn run_span<const N: usize>(
     alloc: Global,
+    lists: SpareLists,
     old: &KeptMoves,
     places: &mut [Option<Place>; 8],
     plan: &Plan<N>,
@@ -61,9 +63,8 @@ pub fn run_span<const N: usize>(
         → Costs old_plan (map move_of all) plan.now (map move_of span.moves) meter.old meter.new) }
     ensures rises { meter.old ≤ meter.new }
 {
-    let (_end, _count) = (plan.end(), meter.count());
-    let mut span = KeptMoves::with_room(alloc, live.ports(alloc)?, ROOM)?;
-    let mut from = 0;
+    let (_end, _count, mut from) = (plan.end(), meter.count(), 0);
+    let mut span = KeptMoves::in_lists(lists, live.ports(alloc)?, ROOM)?;
     while let Some((port, due)) = next_before(live, plan, to) {
         if let Some(end) = end_before(&span, due.time) {
             return Ok(span.ended(end));

@@ -23,9 +23,9 @@ use crate::follow::follow_span;
 use crate::kept_move::{KeptMoves, Place};
 use crate::one_span::{STRIDE, run_span};
 use crate::spans::Spans;
+use crate::spare::{Spare, SpareLists};
 use pd_port::Meter;
 use pd_run::{Agreement, Beside, Live, Plan};
-use pd_steps::SpareSteps;
 use std::alloc::{AllocError, Global};
 use std::rc::Rc;
 
@@ -53,7 +53,7 @@ pub fn rerun<const N: usize>(
     old: &Plan<N>,
     old_spans: &Spans,
     plan: &Plan<N>,
-    spare: &mut SpareSteps,
+    spare: &mut Spare,
     meter: &mut Meter,
 ) -> Result<Spans, AllocError>
     requires old { IsOld N old.now old_spans.now }
@@ -63,11 +63,11 @@ pub fn rerun<const N: usize>(
 {
     let _end = plan.end();
     let _count = meter.count();
-    let mut spans = Spans::new(alloc);
+    let mut spans = Spans::new(alloc, spare.take_lists(alloc));
     let (at, standing) = run_beside(alloc, old, old_spans, plan, &mut spans, spare, meter)?;
     if let Standing::Apart(mut live, _) = standing {
         finish(alloc, plan, at, &mut live, &mut spans, meter)?;
-        *spare = live.into_spare();
+        spare.steps = live.into_spare();
     }
     Ok(spans)
 }
@@ -79,7 +79,7 @@ fn run_beside<const N: usize>(
     old_spans: &Spans,
     plan: &Plan<N>,
     spans: &mut Spans,
-    spare: &mut SpareSteps,
+    spare: &mut Spare,
     meter: &mut Meter,
 ) -> Result<(u64, Standing<N>), AllocError>
     requires old { IsOld N old.now old_spans.now }
@@ -96,7 +96,7 @@ fn run_beside<const N: usize>(
     let _places = old_spans.count();
     let mut beside = Beside::new(alloc, old, plan)?;
     let same_floors = have_same_floors(old, plan);
-    let live = Live::new(alloc, plan)?.with_spare(spare.take_all(alloc));
+    let live = Live::new(alloc, plan)?.with_spare(spare.steps.take_all(alloc));
     let mut standing = Standing::Apart(live, [false; 8]);
     let mut at = 0;
     let mut place = 0;
@@ -135,7 +135,7 @@ fn next_spans<const N: usize>(
     common: Common,
     standing: Standing<N>,
     spans: &mut Spans,
-    spare: &mut SpareSteps,
+    spare: &mut Spare,
     meter: &mut Meter,
 ) -> Result<Standing<N>, AllocError>
     requires comes { (old_plan : PlanData) × (old_spans : List RunData)
@@ -156,7 +156,7 @@ fn next_spans<const N: usize>(
     if shared {
         spans.push(old.clone()?)?;
         if let Standing::Apart(live, _) = standing {
-            *spare = live.into_spare();
+            spare.steps = live.into_spare();
         }
         return Ok(Standing::Alike);
     }
@@ -199,7 +199,7 @@ fn standing_live<const N: usize>(
     plan: &Plan<N>,
     at: u64,
     standing: Standing<N>,
-    spare: &mut SpareSteps,
+    spare: &mut Spare,
 ) -> Result<(Live<N>, [bool; 8]), AllocError>
     requires comes { (old_plan : PlanData) × (old_spans : List RunData) × (spans : List RunData) × (common : CommonData)
         × ComesTo N old_plan old_spans old.now plan.now spans at common standing }
@@ -212,7 +212,7 @@ fn standing_live<const N: usize>(
         Standing::Alike => {
             let ports = old.first_ports(alloc)?;
             let live = Live::resume(alloc, plan, ports, at)?;
-            Ok((live.with_spare(spare.take_all(alloc)), [true; 8]))
+            Ok((live.with_spare(spare.steps.take_all(alloc)), [true; 8]))
         }
         Standing::Apart(live, alike) => Ok((live, alike)),
     }
@@ -326,7 +326,8 @@ fn follow_on<const N: usize>(
         → Costs a (map move_of olds) plan.now (moves_of spans.new) first meter.new) }
     ensures rises { meter.old ≤ meter.new }
 {
-    let (span, alike) = follow_span(alloc, old, &alike, share, plan, live, meter)?;
+    let lists = spans.lists(alloc);
+    let (span, alike) = follow_span(alloc, lists, old, &alike, share, plan, live, meter)?;
     spans.push(Rc::new(alloc, span)?)?;
     Ok(alike)
 }
@@ -364,7 +365,8 @@ fn run_on<const N: usize>(
     let mut places = first_places(alike);
     let mut at = from;
     while at < to {
-        let span = run_span(alloc, old, &mut places, plan, live, to, meter)?;
+        let lists = spans.lists(alloc);
+        let span = run_span(alloc, lists, old, &mut places, plan, live, to, meter)?;
         at = span.to();
         spans.push(Rc::new(alloc, span)?)?;
     }
@@ -424,7 +426,7 @@ fn finish<const N: usize>(
     if end < from {
         return Ok(());
     }
-    let nothing = KeptMoves::with_room(alloc, Vec::new(alloc), 0)?;
+    let nothing = KeptMoves::in_lists(SpareLists::new(alloc), Vec::new(alloc), 0)?;
     // Beyond the end, so that a later end leaves no boundary of its own.
     let to = (end / STRIDE + 1) * STRIDE;
     run_on(

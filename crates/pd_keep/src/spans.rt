@@ -7,9 +7,9 @@ ghost use Rattle.pd_keep.specs.Kept.{shown_of};
 ghost use Rattle.pd_keep.specs.Spans.{kept_of_spans};
 
 use crate::kept_move::KeptMoves;
+use crate::spare::{Spare, SpareLists};
 use pd_port::Entry;
 use pd_run::Note;
-use pd_steps::SpareSteps;
 use std::alloc::{AllocError, Global};
 use std::marker::Model;
 use std::rc::Rc;
@@ -21,11 +21,12 @@ pub struct Span {
     kept: Rc<KeptMoves>,
 }
 
-/// The spans of a run, in their order. A span may be shared with other runs.
+/// The spans of a run, in their order. A span may be shared with other runs. Lists that are spare are kept for more of them.
 #[derive(Drop)]
 pub struct Spans {
     spans: Vec<Span>,
     len: usize,
+    spare: Vec<SpareLists>,
 }
 
 impl Model for Spans {
@@ -42,13 +43,24 @@ impl Model for Spans {
 }
 
 impl Spans {
-    /// No spans.
-    pub fn new(alloc: Global) -> Spans
+    /// No spans, and lists for them that are spare.
+    pub fn new(alloc: Global, spare: Vec<SpareLists>) -> Spans
         ensures { result ≡ [] }
     {
         Spans {
             spans: Vec::new(alloc),
             len: 0,
+            spare,
+        }
+    }
+
+    /// The lists for one more span: spare ones, where there are any.
+    pub fn lists(&mut self, alloc: Global) -> SpareLists
+        ensures { self.new ≡ self.old }
+    {
+        match self.spare.pop() {
+            Some(lists) => lists,
+            None => SpareLists::new(alloc),
         }
     }
 
@@ -74,11 +86,14 @@ impl Spans {
         Some(&span.kept)
     }
 
-    /// Takes back the room of the moves that no other run has.
-    pub fn take_back(self, spare: &mut SpareSteps) {
+    /// Takes back the room of the moves and spans that no other run has, and what was spare of lists. Where there is no memory for a
+    /// place among those, lists are let go.
+    pub fn take_back(self, spare: &mut Spare) {
+        spare.lists = self.spare;
         for span in self.spans {
             if let Some(kept) = Rc::into_inner(span.kept) {
-                kept.take_back(spare);
+                let lists = kept.take_back(&mut spare.steps);
+                let _placed = spare.lists.push(lists);
             }
         }
     }

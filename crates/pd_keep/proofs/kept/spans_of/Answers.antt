@@ -13,11 +13,11 @@ pub returns-in-None-clause-charge : goal.returns-in-None-clause-charge
 returns-in-None-clause-charge g c =
     let plan = c.args.plan.now in
     let first = c.args.meter.now in
-    let last = c.rerun-in-None-2.new.meter in
-    IfOk-weaker c.rerun-in-None-2.result (λ (new : List RunData). Costs plan (moves_of c.new.result) plan (moves_of new) first last)
+    let last = c.rerun-in-None.new.meter in
+    IfOk-weaker c.rerun-in-None.result (λ (new : List RunData). Costs plan (moves_of c.new-none.result) plan (moves_of new) first last)
     (λ (new : List RunData). IsCharged (running g.row.N c.args.run.now) plan (moves_of new) first last)
     (λ new cost.
     let beside : Costs plan [] plan (moves_of new) first last =
-    subst (λ (l : List RunData). Costs plan (moves_of l) plan (moves_of new) first last) c.new.ensures cost in
+    subst (λ (l : List RunData). Costs plan (moves_of l) plan (moves_of new) first last) c.new-none.ensures cost in
     subst (λ (r : Option (KeptRun g.row.N)). IsCharged (running g.row.N r) plan (moves_of new) first last) (sym c.in-None.is)
-    (charged_none g.row.N plan (moves_of new) first last beside)) c.rerun-in-None-2.ensures.cost
+    (charged_none g.row.N plan (moves_of new) first last beside)) c.rerun-in-None.ensures.cost

@@ -49,7 +49,9 @@ loop-at-preserved g c =
     ⊎_elim (λ (e : at ≡ c.args.to). absurd (omega arith)) (λ (le : at ≤ plan.end). le) i.soon in
     let next : IsNextSpan g.row.N plan moves at s = c.in_ok-span.ensures.span moves at lt i.stands i.so_far.up in
     let rising = next.rising in
-    let kept : c.push.new.self ≡ spans ++ s ∷ [] = c.in_ok-push.ensures ∙ ap (λ (x : RunData). spans ++ x ∷ []) c.in_ok-new.ensures.ok in
+    let kept : c.push.new.self ≡ spans ++ s ∷ [] =
+    c.in_ok-push.ensures ∙ ap (λ (x : RunData). c.lists-lists.new.self ++ x ∷ []) c.in_ok-new.ensures.ok
+    ∙ ap (λ (l : List RunData). l ++ s ∷ []) c.lists-lists.ensures in
     let to_is : c.to-at.result ≡ s.to = c.to-at.ensures in
     rw kept (rw to_is (record {
       so_far = so_far_push g.row.N plan spans s at i.so_far soon next;
