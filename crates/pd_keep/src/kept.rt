@@ -133,6 +133,8 @@ fn go_back<const N: usize>(
     ensures plan { IsTrue result → (running N run.new).plan ≡ Some plan.now }
     ensures charge { IsTrue result → IsCharged (running N run.old) plan.now (running N run.new).moves meter.old meter.new }
     ensures rises { meter.old ≤ meter.new }
+    ensures other { IsFalse result → (kept : KeptRun N) (before : FormerRun N) → run.old ≡ Some kept → former.old ≡ Some before
+        → before.run.plan ≡ plan.now → ⊥ }
     ensures run_stays { IsFalse result → run.new ≡ run.old }
     ensures former_stays { IsFalse result → former.new ≡ former.old }
     ensures meter_stays { IsFalse result → meter.new ≡ meter.old }
