@@ -217,7 +217,7 @@ fn move_own<const N: usize>(
     ensures rises { meter.old ≤ meter.new }
 {
     let held = live.hold(port);
-    let answer = live.reply_beside(plan, port, &due);
+    let asked = live.reply_beside(plan, port, &due);
     course.from = skip(old, course.from, due.time);
     let (kept, marks, place) = make(
         alloc,
@@ -228,7 +228,7 @@ fn move_own<const N: usize>(
         live,
         port,
         due,
-        answer,
+        asked,
         meter,
     )?;
     course.span.push(port, kept, marks)?;

@@ -4,6 +4,7 @@ ghost use Rattle.std.specs.Prelude.{◌≡◌, ◌⊎◌, ℕ, ◌+◌, ◌-◌,
 ghost use Rattle.std.specs.Prelude.{Contains};
 ghost use Rattle.std.specs.Prelude.{All, slice_index, slice_index_or, slice_set};
 ghost use Rattle.pd_port.specs.Meter.{raised};
+ghost use Rattle.pd_port.specs.Port.{ask};
 ghost use Rattle.pd_scenario.specs.Plan.{Plan as PlanData, IsPlan, force};
 ghost use Rattle.pd_run.specs.Live.{LiveData, StandsAfter, IsNext, IsNextBeside, port_at, moved_port, moved_live, reply_at};
 ghost use Rattle.pd_run.specs.Run.{Move, NoneLater};
@@ -20,7 +21,7 @@ use crate::kept_move::{KeptMove, KeptMoves, Place};
 use crate::spare::SpareLists;
 use pd_objects::Answer;
 use pd_port::{Due, Meter, Port};
-use pd_run::{Live, Marks, Plan};
+use pd_run::{Asked, Live, Marks, Plan};
 use std::alloc::{AllocError, Global};
 
 /// So many moves are enough for a span.
@@ -69,10 +70,10 @@ pub fn run_span<const N: usize>(
         if let Some(end) = end_before(&span, due.time) {
             return Ok(span.ended(end));
         }
-        let answer = live.reply(plan, port, &due);
+        let asked = live.reply_beside(plan, port, &due);
         from = skip(old, from, due.time);
         let left = places[port - 1];
-        let (kept, marks, at) = make(alloc, old, from, left, plan, live, port, due, answer, meter)?;
+        let (kept, marks, at) = make(alloc, old, from, left, plan, live, port, due, asked, meter)?;
         span.push(port, kept, marks)?;
         places[port - 1] = at;
     }
@@ -125,7 +126,7 @@ pub fn make<const N: usize>(
     live: &mut Live<N>,
     port: usize,
     due: Due,
-    answer: Option<Answer>,
+    asked: Asked,
     meter: &mut Meter,
 ) -> Result<(KeptMove, Marks, Option<Place>), AllocError>
     requires made { All IsMade old.now.moves }
@@ -135,21 +136,23 @@ pub fn make<const N: usize>(
     requires plan { IsPlan N plan.now }
     requires room { length live.old.ports ≡ N }
     requires next { (past : List Move) × (whole : LiveData) × IsNextBeside plan.now past whole port due live.old }
-    requires answer { answer ≡ reply_at live.old (port - 1) due }
-    ensures kept { IfOk result (λ r. r.0 ≡ kept_of port (port_at live.old (port - 1)) due answer) }
+    requires query { asked.query ≡ ask (port_at live.old (port - 1)).settings (port_at live.old (port - 1)).port_record due }
+    requires answer { asked.answer ≡ reply_at live.old (port - 1) due }
+    ensures kept { IfOk result (λ r. r.0 ≡ kept_of port (port_at live.old (port - 1)) due asked.answer) }
     ensures marks { IfOk result (λ r. r.1 ≡ marks_kept r.0) }
     ensures found { IfOk result (λ r. IsKnown old.now.first old.now.moves (port - 1) r.2 (moved_port live.old (port - 1) due)) }
     ensures moved { OnOk result (live.new ≡ moved_live plan.now live.old (port - 1) due) }
-    ensures charges { OnOk result (Charges old.now.moves (kept_of port (port_at live.old (port - 1)) due answer) meter.old meter.new) }
+    ensures charges { OnOk result
+        (Charges old.now.moves (kept_of port (port_at live.old (port - 1)) due asked.answer) meter.old meter.new) }
     ensures rises { meter.old ≤ meter.new }
 {
     let (held, before) = (live.hold(port), live.port(port));
-    if let Some(i) = find(old, from, left, port, held, before, &due, &answer) {
+    if let Some(i) = find(old, from, left, port, held, before, &due, &asked.answer) {
         let kept = old.kept(i).share()?;
         live.settle(plan, port, &due, kept.after()?);
         return Ok((kept, old.marks(i), Some(Place::After(i))));
     }
-    let kept = step(alloc, plan, live, port, due, answer, meter)?;
+    let kept = step(alloc, plan, live, port, due, asked, meter)?;
     let marks = Marks::of(port, kept.entry());
     Ok((kept, marks, None))
 }
@@ -162,20 +165,21 @@ fn step<const N: usize>(
     live: &mut Live<N>,
     port: usize,
     due: Due,
-    answer: Option<Answer>,
+    asked: Asked,
     meter: &mut Meter,
 ) -> Result<KeptMove, AllocError>
     requires plan { IsPlan N plan.now }
     requires room { length live.old.ports ≡ N }
     requires next { (past : List Move) × (whole : LiveData) × IsNextBeside plan.now past whole port due live.old }
-    requires answer { answer ≡ reply_at live.old (port - 1) due }
-    ensures kept { IfOk result (λ kept. kept ≡ kept_of port (port_at live.old (port - 1)) due answer) }
+    requires query { asked.query ≡ ask (port_at live.old (port - 1)).settings (port_at live.old (port - 1)).port_record due }
+    requires answer { asked.answer ≡ reply_at live.old (port - 1) due }
+    ensures kept { IfOk result (λ kept. kept ≡ kept_of port (port_at live.old (port - 1)) due asked.answer) }
     ensures moved { OnOk result (live.new ≡ moved_live plan.now live.old (port - 1) due) }
     ensures meter { OnOk result (meter.new ≡ raised meter.old 1) }
     ensures rises { meter.old ≤ meter.new }
 {
     let before = live.share(port)?;
-    let step = live.step_beside(alloc, plan, port, &due, answer, meter)?;
+    let step = live.step_beside(alloc, plan, port, &due, asked, meter)?;
     Ok(KeptMove::new(port, before, step))
 }
 

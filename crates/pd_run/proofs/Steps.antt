@@ -99,6 +99,17 @@ IsNext-budget plan live port d budget h = record {
   first = record { known = h.first.known; is_due = h.first.is_due; soon = h.first.soon; least = h.first.least };
 }
 
+-- so both hold where a port has been asked, which leaves all but the budget
+pub StandsAfter-asked : (plan : Plan) (past : List Move) (live asked : LiveData) (at : ℕ) → asked ≡ at_budget live (force plan at)
+    → StandsAfter plan past live → StandsAfter plan past asked
+StandsAfter-asked plan past live asked at is s =
+    subst (λ (l : LiveData). StandsAfter plan past l) (sym is) (StandsAfter-budget plan past live (force plan at) s)
+
+pub IsNext-asked : (plan : Plan) (live asked : LiveData) (port : ℕ) (d : Due) → asked ≡ at_budget live (force plan d.time)
+    → IsNext plan live port d → IsNext plan asked port d
+IsNext-asked plan live asked port d is next =
+    subst (λ (l : LiveData). IsNext plan l port d) (sym is) (IsNext-budget plan live port d (force plan d.time) next)
+
 -- all of it after one more move
 pub StandsAfter-step : (plan : Plan) (past : List Move) (live : LiveData) (p : ℕ) (d : Due) (port : PortData) (more : List ℕ)
     (next : Option Due) (h : ℕ) → StandsAfter plan past live → RunsTo plan (past ++ next_move plan past p d ∷ []) → p < count plan

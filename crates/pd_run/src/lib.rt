@@ -12,7 +12,7 @@ mod runner;
 mod shared_budget;
 
 pub use beside::{Agreement, Beside};
-pub use live::Live;
+pub use live::{Asked, Live};
 pub use note::{Marks, Note};
 pub use plain::Plain;
 pub use plan::Plan;

@@ -4,7 +4,7 @@ ghost use Rattle.std.specs.Prelude.{◌≡◌, ℕ, ◌+◌, ◌-◌, ◌<◌, �
 ghost use Rattle.std.specs.Prelude.{IfOk, OnOk, OnErr, IfSome, IfNone, MatchOption, IsTrue, IsFalse, ⊤};
 ghost use Rattle.std.specs.Prelude.{option_map, slice_get, slice_index, slice_index_or, slice_set};
 ghost use Rattle.pd_port.specs.Meter.{raised};
-ghost use Rattle.pd_port.specs.Port.{is_event, due, hold};
+ghost use Rattle.pd_port.specs.Port.{ask, is_event, due, hold};
 ghost use Rattle.pd_port.specs.declared.due.Due.{Due as DueData};
 ghost use Rattle.pd_ledger.specs.Offer.{answer_of};
 ghost use Rattle.pd_scenario.specs.Plan.{IsPlan, count, floors_of, force, script_of};
@@ -27,6 +27,15 @@ use pd_port::{Due, Entry, Meter, Port, What};
 use pd_steps::{SharedPort, SharedStep, SpareSteps};
 use std::alloc::{AllocError, Global};
 use std::marker::Model;
+
+/// What a port asks of the shared budget at a due, and what it is answered.
+#[derive(Drop)]
+pub struct Asked {
+    /// What it asks, if anything.
+    pub query: Option<Query>,
+    /// The answer to that.
+    pub answer: Option<Answer>,
+}
 
 /// N ports as they stand, 1 to 8, how many events each has had, what falls due next on each, and the shared budget. Ports are
 /// numbered from 1.
@@ -170,21 +179,23 @@ impl<const N: usize> Live<N> {
         self.shared(port).hold()
     }
 
-    /// The answer to what a port asks at a due. From now on the shared budget is that of the due's time.
-    pub fn reply_beside(&mut self, plan: &Plan<N>, port: usize, due: &Due) -> Option<Answer>
+    /// What a port asks at a due, with the answer to it. From now on the shared budget is that of the due's time.
+    pub fn reply_beside(&mut self, plan: &Plan<N>, port: usize, due: &Due) -> Asked
         requires first { 1 ≤ port }
         requires last { port ≤ N }
         requires floors { self.old.account.floors ≡ floors_of plan.now }
-        ensures answer { result ≡ reply_at self.new (port - 1) due.now }
+        ensures query { result.query ≡ ask (port_at self.new (port - 1)).settings (port_at self.new (port - 1)).port_record due.now }
+        ensures answer { result.answer ≡ reply_at self.new (port - 1) due.now }
         ensures budget { self.new ≡ at_budget self.old (force plan.now due.now.time) }
     {
         let budget = plan.force(due.time);
         self.ledger.set_budget(budget);
         let query = self.ports[port - 1].ask(due);
-        reply(&self.ledger, port, query)
+        let answer = reply(&self.ledger, port, &query);
+        Asked { query, answer }
     }
 
-    /// The same, where all ports stand as moves have left them.
+    /// The answer alone, where all ports stand as moves have left them.
     pub fn reply(&mut self, plan: &Plan<N>, port: usize, due: &Due) -> Option<Answer>
         requires first { 1 ≤ port }
         requires last { port ≤ N }
@@ -197,11 +208,12 @@ impl<const N: usize> Live<N> {
             → result ≡ (next_move plan.now past (port - 1) due.now).answer }
     {
         let _budget = plan.force(due.time);
-        self.reply_beside(plan, port, due)
+        let Asked { answer, .. } = self.reply_beside(plan, port, due);
+        answer
     }
 
-    /// The step of the port that moves next for what falls due, with the answer to what it asked; the other ports needn't stand where
-    /// their moves have left them. The meter rises by one.
+    /// The step of the port that moves next for what falls due, with what it asks and the answer to it; the other ports needn't stand
+    /// where their moves have left them. The meter rises by one.
     ///
     /// # Errors
     /// There is no memory. The ports stand as they stood; the meter may have risen.
@@ -211,19 +223,21 @@ impl<const N: usize> Live<N> {
         plan: &Plan<N>,
         port: usize,
         due: &Due,
-        answer: Option<Answer>,
+        asked: Asked,
         meter: &mut Meter,
     ) -> Result<SharedStep, AllocError>
         requires plan { IsPlan N plan.now }
         requires next { (past : List Move) × (whole : LiveData) × IsNextBeside plan.now past whole port due.now self.old }
-        requires answer { answer ≡ reply_at self.old (port - 1) due.now }
-        ensures step { IfOk result (λ step. step ≡ step_of (port_at self.old (port - 1)) due.now answer) }
+        requires query { asked.query ≡ ask (port_at self.old (port - 1)).settings (port_at self.old (port - 1)).port_record due.now }
+        requires answer { asked.answer ≡ reply_at self.old (port - 1) due.now }
+        ensures step { IfOk result (λ step. step ≡ step_of (port_at self.old (port - 1)) due.now asked.answer) }
         ensures moved { OnOk result (self.new ≡ moved_live plan.now self.old (port - 1) due.now) }
         ensures meter { OnOk result (meter.new ≡ raised meter.old 1) }
         ensures rises { meter.old ≤ meter.new }
         ensures same { OnErr result (self.new ≡ self.old) }
     {
-        let step = self.ports[port - 1].step(alloc, &mut self.spare, due, answer, meter)?;
+        let Asked { query, answer } = asked;
+        let step = self.ports[port - 1].step(alloc, &mut self.spare, due, query, answer, meter)?;
         self.renew(plan, port, due);
         Ok(step)
     }
@@ -256,7 +270,8 @@ impl<const N: usize> Live<N> {
         ensures rises { meter.old ≤ meter.new }
         ensures same { OnErr result (self.new ≡ self.old) }
     {
-        let step = self.step_beside(alloc, plan, port, due, answer, meter)?;
+        let query = self.ports[port - 1].ask(due);
+        let step = self.step_beside(alloc, plan, port, due, Asked { query, answer }, meter)?;
         Ok(step.entry().copy())
     }
 
@@ -481,13 +496,13 @@ fn taken_after(taken: usize, due: &Due) -> usize
 }
 
 // The ledger's answer to a query, if there is one.
-fn reply<const N: usize>(ledger: &Ledger<N>, port: usize, query: Option<Query>) -> Option<Answer>
+fn reply<const N: usize>(ledger: &Ledger<N>, port: usize, query: &Option<Query>) -> Option<Answer>
     requires first { 1 ≤ port }
     requires last { port ≤ N }
-    ensures { result ≡ option_map (answer_of ledger.now (port - 1)) query }
+    ensures { result ≡ option_map (answer_of ledger.now (port - 1)) query.now }
 {
     match query {
-        Some(query) => Some(ledger.answer(port, &query)),
+        Some(query) => Some(ledger.answer(port, query)),
         None => None,
     }
 }

@@ -92,7 +92,7 @@ impl SharedPort {
         self.stepped.port.due(next)
     }
 
-    /// The step for this due, with the answer to what the port asked. The meter rises by one. Other owners keep the port as it was.
+    /// The step for this due, with what the port asks and the answer to it. The meter rises by one. Other owners keep the port as it was.
     ///
     /// # Errors
     /// There is no memory. The port stands as it stood.
@@ -101,10 +101,12 @@ impl SharedPort {
         alloc: Global,
         spare: &mut SpareSteps,
         due: &Due,
+        query: Option<Query>,
         answer: Option<Answer>,
         meter: &mut Meter,
     ) -> Result<SharedStep, AllocError>
-        requires { due.now.time ≤ LAST_TIME }
+        requires time { due.now.time ≤ LAST_TIME }
+        requires asks { query ≡ ask self.old.settings self.old.port_record due.now }
         ensures after { OnOk result (self.new ≡ record self.old {
           port_record = record_after self.old.settings self.old.port_record due.now answer;
         }) }
@@ -119,8 +121,14 @@ impl SharedPort {
             return Err(AllocError);
         };
         // It is stepped from where it stood: what has just been written isn't read again.
-        room.port
-            .step_from(&self.stepped.port, due, &answer, meter, &mut room.entry);
+        room.port.step_from(
+            &self.stepped.port,
+            due,
+            query,
+            &answer,
+            meter,
+            &mut room.entry,
+        );
         room.answer = answer;
         let step = SharedStep { stepped };
         self.stepped = step.stepped.clone()?;

@@ -127,24 +127,25 @@ impl TimedPort {
         })
     }
 
-    /// The port becomes what the step of another one for this due leaves, with the answer to what that one asked, and the step's entry
-    /// is put in its place. The meter rises by one.
+    /// The port becomes what the step of another one for this due leaves, with what that one asked and the answer to it, and the step's
+    /// entry is put in its place. The meter rises by one.
     pub(crate) fn step_from(
         &mut self,
         before: &TimedPort,
         due: &Due,
+        query: Option<Query>,
         answer: &Option<Answer>,
         meter: &mut Meter,
         entry: &mut Entry,
     )
-        requires { due.now.time ≤ LAST_TIME }
+        requires time { due.now.time ≤ LAST_TIME }
+        requires asks { query ≡ ask before.now.settings before.now.port_record due.now }
         ensures after { self.new ≡ record before.now {
           port_record = record_after before.now.settings before.now.port_record due.now answer.now;
         } }
         ensures entry { entry.new ≡ entry_of before.now.settings before.now.port_record due.now answer.now }
         ensures meter { meter.new ≡ raised meter.old 1 }
     {
-        let query = before.ask(due);
         self.port
             .step_into(&before.port, due, query, answer, meter, entry);
         let own = self.port.own_due();

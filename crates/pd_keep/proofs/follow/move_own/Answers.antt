@@ -17,8 +17,8 @@ make-requires g c =
     let r = c.requires.next in
     let o = r.6 in
     let plan = c.args.plan.now in
-    let asked = c.reply_beside-answer.new.self in
-    let is = c.reply_beside-answer.ensures.budget in
+    let asked = c.reply_beside-asked.new.self in
+    let is = c.reply_beside-asked.ensures.budget in
     let others = r.2 ++ map move_of c.args.course.now.span.moves in
     let but = own_asked g.row.N r.0 r.1 c.args.old.now plan r.2 r.3 r.4 r.5 c.args.meter.now c.args.course.now c.args.live.now asked
     c.args.port c.args.due o is in
@@ -43,7 +43,7 @@ make-requires g c =
                   plan_is,
                   (
                     room,
-                    ((others, _, next), c.reply_beside-answer.ensures.answer),
+                    ((others, _, next), (c.reply_beside-asked.ensures.query, c.reply_beside-asked.ensures.answer)),
                   ),
                 ),
               ),
@@ -58,7 +58,7 @@ push-requires-clause-goes g c =
     let r = c.requires.next in
     ap (λ (k : KeptData). k.before) c.in_ok-kept.ensures.kept
     ∙ own_left g.row.N r.0 r.1 c.args.old.now c.args.plan.now r.2 r.3 r.4 r.5 c.args.meter.now c.args.course.now c.args.live.now
-    c.reply_beside-answer.new.self c.args.port c.args.due r.6 c.reply_beside-answer.ensures.budget
+    c.reply_beside-asked.new.self c.args.port c.args.due r.6 c.reply_beside-asked.ensures.budget
 
 pub returns-clause-came : goal.returns-clause-came
 returns-clause-came g c = λ a all past from most first o.
@@ -73,7 +73,7 @@ returns-clause-came g c = λ a all past from most first o.
       | else-course w ↦ λ known. absurd (let none = sym w.if-course.false ∙ sym w.course-is ∙ known in cc)
     ] in
     came_own g.row.N a all c.args.old.now c.args.plan.now past from most first c.args.meter.now c.make.new.meter c.args.course.now _
-    c.args.live.now c.reply_beside-answer.new.self c.make.new.live c.args.port c.args.due c.reply_beside-answer.result
-    c.in_ok-kept.place o c.reply_beside-answer.ensures.budget c.reply_beside-answer.ensures.answer c.in_ok-kept.ensures.moved refl
+    c.args.live.now c.reply_beside-asked.new.self c.make.new.live c.args.port c.args.due c.reply_beside-asked.result.answer
+    c.in_ok-kept.place o c.reply_beside-asked.ensures.budget c.reply_beside-asked.ensures.answer c.in_ok-kept.ensures.moved refl
     c.skip-course.ensures.within c.skip-course.ensures.before held refl refl (ap (λ (x : RunData). x.first) c.in_ok-push.ensures) moves_is
     c.in_ok-kept.ensures.found c.in_ok-kept.ensures.charges

@@ -11,7 +11,7 @@ use Rattle.pd_run.specs.StepsLeft.{steps_left}
 use Rattle.pd_run.specs.Start.{no_port}
 use Rattle.pd_run.specs.UpTo.{IsUpTo}
 use Rattle.pd_run.proofs.Alike.{none_later-back}
-use Rattle.pd_run.proofs.Steps.{StandsAfter-moved}
+use Rattle.pd_run.proofs.Steps.{StandsAfter-asked, StandsAfter-moved, IsNext-asked, reply_known}
 use Rattle.pd_run.proofs.StepsLeft.{steps_left_less}
 use Rattle.pd_run.proofs.Cut.{All-nil, All-append, EachAfter-back, IsEarlier, IsLater, next_up_to}
 use Rattle.pd_keep.specs.Kept.{KeptData, move_of, kept_of, IsKnown, IsOwn}
@@ -25,8 +25,8 @@ use Rattle.pd_keep.proofs.Places.{AreLeft, left_moved, placed_at_budget, placed_
 use Rattle.pd_keep.proofs.Shows.{begins_with_live, begins_same}
 use Rattle.pd_keep.proofs.one_span.run_span.Goals as goal
 
-pub reply-answer-requires : goal.reply-answer-requires
-reply-answer-requires g c =
+pub reply_beside-asked-requires : goal.reply_beside-asked-requires
+reply_beside-asked-requires g c =
     let i = c.loop-port.invariant in
     let next = c.in-Some.ensures.next.0 in
     let past = c.requires.stands.0 in (
@@ -37,7 +37,7 @@ reply-answer-requires g c =
           next.from_one,
           (
             omega (arith, next.first.known, next.from_one, c.in-Some.ensures.is_plan.settings_count),
-            (past ++ map move_of c.loop-port.span.moves, i.stands past c.requires.stands.1),
+            (i.stands past c.requires.stands.1).floors_are,
           ),
         ),
       ),
@@ -57,23 +57,28 @@ make-requires g c =
     let i = c.loop-port.invariant in
     let past = c.requires.stands.0 in
     let moves : List Move = past ++ map move_of c.loop-port.span.moves in
-    let stands = c.reply-answer.ensures.stands moves (i.stands past c.requires.stands.1) in
-    let next = c.reply-answer.ensures.next c.in-Some.ensures.next.0 in
-    let budget = ap (λ (l : LiveData). l.account.budget) c.reply-answer.ensures.budget in
+    let live : LiveData = c.reply_beside-asked.new.self in
+    let port = c.in-Some.port in
+    let d = c.in-Some.due in
+    let is = c.reply_beside-asked.ensures.budget in
+    let stands = StandsAfter-asked c.args.plan.now moves c.loop-port.live live d.time is (i.stands past c.requires.stands.1) in
+    let next = IsNext-asked c.args.plan.now c.loop-port.live live port d is c.in-Some.ensures.next.0 in
+    let budget = ap (λ (l : LiveData). l.account.budget) is in
     let made = c.requires.made in
     let in_time = c.requires.in_time in
     let before = c.skip-from.ensures.before in
     let plan = c.in-Some.ensures.is_plan in
-    let answer = c.reply-answer.ensures.answer in
+    let query = c.reply_beside-asked.ensures.query in
+    let answer = c.reply_beside-asked.ensures.answer in
     let p = c.in-Some.port - 1 in
     let known : p < g.row.N = omega (arith, plan.settings_count, next.first.known) in
     let old : RunData = c.args.old.now in
     let left = subst (λ (l : LiveData). IsKnown old.first old.moves p (slice_index_or c.loop-port.places p None) (port_at l p))
-    (sym c.reply-answer.ensures.budget) (i.placed.placed p known) in
-    let beside : IsNextBeside c.args.plan.now moves c.reply-answer.new.self c.in-Some.port c.in-Some.due c.reply-answer.new.self =
+    (sym is) (i.placed.placed p known) in
+    let beside : IsNextBeside c.args.plan.now moves live port d live =
     record { stood = stands; next = next; budget = budget; port_is = refl; taken_is = refl; account_is = refl } in
     let room = stands.ports_count ∙ plan.settings_count in
-    (omega arith, (omega arith, (made, (in_time, (before, (left, (plan, (room, ((moves, c.reply-answer.new.self, beside), answer)))))))))
+    (omega arith, (omega arith, (made, (in_time, (before, (left, (plan, (room, ((moves, live, beside), (query, answer))))))))))
 
 pub push-requires : goal.push-requires
 push-requires g c =
@@ -82,7 +87,7 @@ push-requires g c =
     let count = c.in-Some.ensures.is_plan.settings_count in
     let p = c.in-Some.port - 1 in
     let before : c.in_ok-kept.kept.before ≡ port_at c.loop-port.live p =
-    ap (λ (k : KeptData). k.before) c.in_ok-kept.ensures.kept ∙ ap (λ (l : LiveData). port_at l p) c.reply-answer.ensures.budget in
+    ap (λ (k : KeptData). k.before) c.in_ok-kept.ensures.kept ∙ ap (λ (l : LiveData). port_at l p) c.reply_beside-asked.ensures.budget in
     let few = c.in-Some.ensures.is_plan.few_ports in
     record {
       first = next.from_one;
@@ -113,17 +118,20 @@ loop-port-init g c =
 
 pub loop-port-smaller : goal.loop-port-smaller
 loop-port-smaller g c =
-    let same : steps_left c.args.plan.now c.reply-answer.new.self ≡ steps_left c.args.plan.now c.loop-port.live =
-    ap (steps_left c.args.plan.now) c.reply-answer.ensures.budget in
+    let same : steps_left c.args.plan.now c.reply_beside-asked.new.self ≡ steps_left c.args.plan.now c.loop-port.live =
+    ap (steps_left c.args.plan.now) c.reply_beside-asked.ensures.budget in
     let plan = c.args.plan.now in
     let past = c.requires.stands.0 in
     let moves : List Move = past ++ map move_of c.loop-port.span.moves in
     let is = c.in-Some.ensures.is_plan in
-    let stands = c.reply-answer.ensures.stands moves (c.loop-port.invariant.stands past c.requires.stands.1) in
-    let next = c.reply-answer.ensures.next c.in-Some.ensures.next.0 in
-    let budget = ap (λ (l : LiveData). l.account.budget) c.reply-answer.ensures.budget in
-    let less = steps_left_less g.row.N plan moves c.reply-answer.new.self _ (c.in-Some.port - 1) c.in-Some.due is stands next.first
-    (StandsAfter-moved g.row.N plan moves c.reply-answer.new.self c.in-Some.port c.in-Some.due is stands next budget) in
+    let asked_is = c.reply_beside-asked.ensures.budget in
+    let stands = StandsAfter-asked plan moves c.loop-port.live c.reply_beside-asked.new.self c.in-Some.due.time asked_is
+    (c.loop-port.invariant.stands past c.requires.stands.1) in
+    let next = IsNext-asked plan c.loop-port.live c.reply_beside-asked.new.self c.in-Some.port c.in-Some.due asked_is
+    c.in-Some.ensures.next.0 in
+    let budget = ap (λ (l : LiveData). l.account.budget) asked_is in
+    let less = steps_left_less g.row.N plan moves c.reply_beside-asked.new.self _ (c.in-Some.port - 1) c.in-Some.due is stands next.first
+    (StandsAfter-moved g.row.N plan moves c.reply_beside-asked.new.self c.in-Some.port c.in-Some.due is stands next budget) in
     let moved = ap (steps_left plan) c.in_ok-kept.ensures.moved in
     omega (arith, less, moved)
 
@@ -132,20 +140,22 @@ loop-port-preserved g c =
     let plan = c.args.plan.now in
     let i = c.loop-port.invariant in
     let stood : LiveData = c.loop-port.live in
-    let live : LiveData = c.reply-answer.new.self in
+    let live : LiveData = c.reply_beside-asked.new.self in
     let new : LiveData = c.make.new.live in
     let kept : List KeptData = c.loop-port.span.moves in
     let moves : List Move = map move_of kept in
     let port = c.in-Some.port in
     let p = c.in-Some.port - 1 in
     let d = c.in-Some.due in
-    let a = c.reply-answer.result in
+    let a = c.reply_beside-asked.result.answer in
     let next = c.in-Some.ensures.next.0 in
     let soon : d.time < c.args.to = c.in-Some.ensures.next.1 in
     let known : p < count plan = next.first.known in
     let past = c.requires.stands.0 in
     let all : List Move = past ++ moves in
-    let stands : StandsAfter plan all live = c.reply-answer.ensures.stands all (i.stands past c.requires.stands.1) in
+    let asked_is = c.reply_beside-asked.ensures.budget in
+    let budget = ap (λ (l : LiveData). l.account.budget) asked_is in
+    let stands : StandsAfter plan all live = StandsAfter-asked plan all stood live d.time asked_is (i.stands past c.requires.stands.1) in
     let x : PortData = port_at live p in
     let x_is : x ≡ port_after plan all p = stands.ports_are p known in
     let k : KeptData = kept_of port x d a in
@@ -158,20 +168,19 @@ loop-port-preserved g c =
     ap (map move_of) pushed ∙ map-append move_of kept (k ∷ []) in
     let not_before : (o : List Move) (from : ℕ) → StandsAfter plan o c.args.live.now → IsUpTo plan o from → from ≤ d.time =
     λ o from s up.
-    let os = c.reply-answer.ensures.stands (o ++ moves) (i.stands o s) in
+    let os = StandsAfter-asked plan (o ++ moves) stood live d.time asked_is (i.stands o s) in
     due_later_yet plan o moves from p d up os.runs known
-    (sym (os.dues_are p known) ∙ ap (λ (l : LiveData). due_at l p) c.reply-answer.ensures.budget ∙ next.first.is_due)
+    (sym (os.dues_are p known) ∙ ap (λ (l : LiveData). due_at l p) c.reply_beside-asked.ensures.budget ∙ next.first.is_due)
     next.first.soon in
     let moved_ports = ap (λ (l : LiveData). l.ports) c.in_ok-kept.ensures.moved in
     rw to_moves (record {
       stands = λ o s.
-          let os = c.reply-answer.ensures.stands (o ++ moves) (i.stands o s) in
+          let os = StandsAfter-asked plan (o ++ moves) stood live d.time asked_is (i.stands o s) in
           let ox : x ≡ port_after plan (o ++ moves) p = os.ports_are p known in
-          let oa = c.reply-answer.ensures.known (o ++ moves) (i.stands o s) in
+          let oa = c.reply_beside-asked.ensures.answer ∙ reply_known plan (o ++ moves) live p d os budget known in
           let same = kept_is_next plan (o ++ moves) port x d a ox oa in
-          let budget = ap (λ (l : LiveData). l.account.budget) c.reply-answer.ensures.budget in
           let then = StandsAfter-moved g.row.N plan (o ++ moves) live port d c.in-Some.ensures.is_plan os
-          (c.reply-answer.ensures.next next) budget in
+          (IsNext-asked plan stood live port d asked_is next) budget in
           subst (λ (l : List Move). StandsAfter plan l new) (append_assoc o moves (move_of k ∷ []))
           (subst (λ (z : Move). StandsAfter plan ((o ++ moves) ++ z ∷ []) new) (sym same)
           (subst (λ (l : LiveData). StandsAfter plan ((o ++ moves) ++ next_move plan (o ++ moves) p d ∷ []) l)
@@ -184,13 +193,13 @@ loop-port-preserved g c =
       placed = placed_more g.row.N c.args.old.now c.loop-port.places live new p (moved_port live p d) c.in_ok-kept.at
           few (stands.ports_count ∙ c.in-Some.ensures.is_plan.settings_count)
           (omega (arith, known, c.in-Some.ensures.is_plan.settings_count)) moved_ports c.in_ok-kept.ensures.found
-          (subst (ArePlaced g.row.N c.args.old.now c.loop-port.places) (sym c.reply-answer.ensures.budget)
+          (subst (ArePlaced g.row.N c.args.old.now c.loop-port.places) (sym c.reply_beside-asked.ensures.budget)
           (placed_at_budget g.row.N c.args.old.now c.loop-port.places stood _ i.placed));
       left = left_moved g.row.N c.loop-port.span c.push.new.self live new p k (moved_port live p d)
           (stands.ports_count ∙ c.in-Some.ensures.is_plan.settings_count)
           (omega (arith, known, c.in-Some.ensures.is_plan.settings_count)) refl
-          (kept_is_moved live p port x d a refl c.reply-answer.ensures.answer) moved_ports first pushed
-          (subst (AreLeft g.row.N c.loop-port.span) (sym c.reply-answer.ensures.budget) i.left);
+          (kept_is_moved live p port x d a refl c.reply_beside-asked.ensures.answer) moved_ports first pushed
+          (subst (AreLeft g.row.N c.loop-port.span) (sym c.reply_beside-asked.ensures.budget) i.left);
       earlier = All-push (IsEarlier c.args.to) moves (move_of k) i.earlier soon;
       later = λ o from s up. All-push (IsLater from) moves (move_of k) (i.later o from s up) (not_before o from s up);
       rises = omega (arith, i.rises, c.make.ensures.rises);
