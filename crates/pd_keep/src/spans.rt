@@ -86,8 +86,7 @@ impl Spans {
         Some(&span.kept)
     }
 
-    /// Takes back the room of the moves and spans that no other run has, and what was spare of lists. Where there is no memory for a
-    /// place among those, lists are let go.
+    /// Takes back the room of the moves and spans that no other run has, and what was spare of lists. It asks for no memory.
     pub fn take_back(self, spare: &mut Spare) {
         spare.lists = self.spare;
         for span in self.spans {
@@ -108,6 +107,8 @@ impl Spans {
         let Some(len) = self.len.checked_add(kept.len()) else {
             return Err(AllocError);
         };
+        // Its lists have a place among the spare ones from now on, so that to take them back asks for no memory.
+        self.spare.reserve(self.spans.len().saturating_add(1))?;
         self.spans.push(Span {
             first: self.len,
             kept,
