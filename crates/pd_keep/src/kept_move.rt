@@ -249,8 +249,10 @@ impl KeptMoves {
         ended
     }
 
-    /// Takes back the room of the moves and ports that no other run has. The lists are spare.
-    pub fn take_back(self, spare: &mut SpareSteps) -> SpareLists {
+    /// Takes back the room of the moves and ports that no other run has. The lists are spare, and own no step any more.
+    pub fn take_back(self, spare: &mut SpareSteps) -> SpareLists
+        ensures { result.moves.items ≡ [] }
+    {
         // A step that this run alone has is owned by its move and by the next one of its port.
         let shared = self.owned_beyond(2);
         let KeptMoves {
@@ -268,6 +270,7 @@ impl KeptMoves {
         if shared < moves.len() {
             take_moves_back(&mut moves, spare);
         }
+        moves.clear();
         SpareLists {
             moves,
             marks,
