@@ -1,16 +1,16 @@
 -- The next move that leaves a note.
 use Rattle.std.proofs.Common.{◌≡◌, ⊎_elim, ◌⊎◌, ◌↔◌, inl, inr, ℕ, ◌+◌, ◌-◌, ◌<◌, ◌≤◌, List, [], ◌∷◌, ◌++◌}
 use Rattle.std.proofs.Common.{length, map, All, take, drop, Option, None, Some, IfSome, slice_get, option_map}
-use Rattle.std.proofs.Common.{refl, ap, sym, ◌∙◌, subst, arith, suc, slice_index_or, false}
+use Rattle.std.proofs.Common.{refl, ap, sym, ◌∙◌, subst, arith, suc, slice_index_or}
 use Rattle.std.specs.Prelude.{min}
 use Rattle.std.proofs.Math.Nat.{min-le_left, min-le_right, min-eq_left, min-eq_right}
 use Rattle.std.proofs.lemmas.Bool.{cases_lt, lt-ltb, ltb-true}
 use Rattle.std.proofs.lemmas.List.{length-append, length-map}
 use Rattle.std.proofs.lemmas.List.Elements.{All-append}
-use Rattle.std.proofs.lemmas.Option.{slice_get-map, slice_get_past, slice_get_within, slice_get-get_or, get_or_from_slice_get, same_Some}
+use Rattle.std.proofs.lemmas.Option.{slice_get-map, slice_get_past, slice_get_within, get_or_from_slice_get}
 use Rattle.pd_port.specs.declared.entry.Entry.{Entry}
 use Rattle.pd_scenario.specs.Plan.{Plan}
-use Rattle.pd_run.specs.Notes.{Leaves, NoneLeaves, IsNextWith, Have, marks_of}
+use Rattle.pd_run.specs.Notes.{Leaves, NoneLeaves, IsNextWith, Have, IsNextMarked, marks_of}
 use Rattle.pd_run.specs.Run.{shown}
 use Rattle.pd_run.specs.declared.note.Marks.{Marks}
 use Rattle.pd_run.specs.declared.note.Note.{Note}
@@ -137,43 +137,46 @@ leaves_have Contract move h = h
 leaves_have Fault move h = lt-ltb 0 (length move.1.faults.items) h
 leaves_have (Packet port) move h = (h.1, h.0)
 
--- the marks at a place are those of the move there
-marks_there : (moves : List KeptData) (at : ℕ) (m : Marks) → slice_get (map marks_kept moves) at ≡ Some m
-    → (k : KeptData) × (marks_kept k ≡ m) × (slice_get (map shown_of moves) at ≡ Some (shown_of k))
-marks_there moves at m e = go (slice_get moves at) refl where
-  go : (o : Option KeptData) → slice_get moves at ≡ o
-      → (k : KeptData) × (marks_kept k ≡ m) × (slice_get (map shown_of moves) at ≡ Some (shown_of k))
-  go None h =
-      absurd (let none : None ≡ Some m = sym (ap (λ o. option_map marks_kept o) h) ∙ sym (slice_get-map marks_kept moves at) ∙ e in cc)
-  go (Some k) h = (
-    k,
-    same_Some _ _ (sym (ap (λ o. option_map marks_kept o) h) ∙ sym (slice_get-map marks_kept moves at) ∙ e),
-    slice_get-map shown_of moves at ∙ ap (option_map shown_of) h,
-  )
-
-pub marked : (note : Note) (moves : List KeptData) (at : ℕ) (m : Marks) → slice_get (map marks_kept moves) at ≡ Some m → Have m note
+-- where the marks at a place have the note, the move there leaves it
+marked : (note : Note) (moves : List KeptData) (at : ℕ) → IfSome (slice_get (map marks_kept moves) at) (λ m. Have m note)
     → IfSome (slice_get (map shown_of moves) at) (Leaves note)
-marked note moves at m e h =
-    let w = marks_there moves at m e in
-    subst (λ (o : Option (ℕ × Entry)). IfSome o (Leaves note)) (sym w.2)
-    (have_leaves note (shown_of w.0) (subst (λ (k : Marks). Have k note) (sym w.1) h))
+marked note moves at h = go (slice_get moves at) refl where
+  go : (o : Option KeptData) → slice_get moves at ≡ o → IfSome (slice_get (map shown_of moves) at) (Leaves note)
+  go None e =
+      subst (λ (o : Option (ℕ × Entry)). IfSome o (Leaves note)) (sym (slice_get-map shown_of moves at ∙ ap (option_map shown_of) e)) tt
+  go (Some k) e =
+      subst (λ (o : Option (ℕ × Entry)). IfSome o (Leaves note)) (sym (slice_get-map shown_of moves at ∙ ap (option_map shown_of) e))
+      (have_leaves note (shown_of k)
+      (subst (λ (o : Option Marks). IfSome o (λ m. Have m note)) (slice_get-map marks_kept moves at ∙ ap (option_map marks_kept) e) h))
 
-pub unmarked : (note : Note) (moves : List KeptData) (at : ℕ) (m : Marks) → slice_get (map marks_kept moves) at ≡ Some m
-    → (Have m note → ⊥) → IfSome (slice_get (map shown_of moves) at) (λ move. ¬ Leaves note move)
-unmarked note moves at m e h =
-    let w = marks_there moves at m e in
-    subst (λ (o : Option (ℕ × Entry)). IfSome o (λ (move : ℕ × Entry). ¬ Leaves note move)) (sym w.2)
-    (λ leaves. h (subst (λ (k : Marks). Have k note) w.1 (leaves_have note (shown_of w.0) leaves)))
+-- where they don't have it, the move there doesn't leave it
+unmarked : (note : Note) (moves : List KeptData) (at : ℕ) → IfSome (slice_get (map marks_kept moves) at) (λ m. ¬ Have m note)
+    → IfSome (slice_get (map shown_of moves) at) (λ move. ¬ Leaves note move)
+unmarked note moves at h = go (slice_get moves at) refl where
+  go : (o : Option KeptData) → slice_get moves at ≡ o → IfSome (slice_get (map shown_of moves) at) (λ move. ¬ Leaves note move)
+  go None e =
+      subst (λ (o : Option (ℕ × Entry)). IfSome o (λ move. ¬ Leaves note move))
+      (sym (slice_get-map shown_of moves at ∙ ap (option_map shown_of) e)) tt
+  go (Some k) e =
+      subst (λ (o : Option (ℕ × Entry)). IfSome o (λ move. ¬ Leaves note move))
+      (sym (slice_get-map shown_of moves at ∙ ap (option_map shown_of) e))
+      (λ leaves.
+      subst (λ (o : Option Marks). IfSome o (λ m. ¬ Have m note)) (slice_get-map marks_kept moves at ∙ ap (option_map marks_kept) e) h
+      (leaves_have note (shown_of k) leaves))
 
--- one more without the note
-pub none_more : (note : Note) (moves : List (ℕ × Entry)) (from at : ℕ) → NoneLeaves note moves from at
-    → IfSome (slice_get moves at) (λ move. ¬ Leaves note move) → NoneLeaves note moves from (at + 1)
-none_more note moves from at none here i ge lt =
-    ⊎_elim (λ (less : i < at). none i ge less)
-    (λ (le : at ≤ i).
-    let same : at ≡ i = omega arith in
-    subst (λ k. IfSome (slice_get moves k) (λ (move : ℕ × Entry). ¬ Leaves note move)) same here)
-    (cases_lt i at)
+-- the first move whose marks have the note is the first that leaves it
+pub marked_next : (note : Note) (moves : List KeptData) (from next : ℕ) → IsNextMarked note (map marks_kept moves) from next
+    → IsNextWith note (map shown_of moves) from next
+marked_next note moves from next told =
+    let marks = length-map moves marks_kept in
+    let shows = length-map moves shown_of in
+    let within = told.within in
+    record {
+      within = omega (arith, marks, shows, within);
+      not_before = subst (λ n. min from n ≤ next) (marks ∙ sym shows) told.not_before;
+      none_between = λ i ge lt. unmarked note moves i (told.none_between i ge lt);
+      leaves = marked note moves next told.has;
+    }
 
 -- What is noted of a span.
 
@@ -203,20 +206,10 @@ noted_more presence next marks m h contract fault note =
 -- a note that isn't noted is left by none of the moves
 pub none_noted : (presence : Presence) (note : Note) (moves : List KeptData) → AreNoted presence (map marks_kept moves)
     → (MayHave presence note → ⊥) → (from : ℕ) → NoneLeaves note (map shown_of moves) from (length (map shown_of moves))
-none_noted presence note moves h none from i ge lt = go (slice_get (map marks_kept moves) i) refl where
-  nobody : Marks
-  nobody = record { contract = false; fault = false; packet = false; port = 0 }
-
-  go : (o : Option Marks) → slice_get (map marks_kept moves) i ≡ o
-      → IfSome (slice_get (map shown_of moves) i) (λ move. ¬ Leaves note move)
-  go None e =
-      absurd
-      (let marks = length-map moves marks_kept in
-      let shows = length-map moves shown_of in
-      let some : slice_get (map marks_kept moves) i ≡ Some (slice_index_or (map marks_kept moves) i nobody) =
-      slice_get-get_or (map marks_kept moves) i nobody (omega (arith, marks, shows, lt)) in
-      let none : None ≡ Some (slice_index_or (map marks_kept moves) i nobody) = sym e ∙ some in cc)
-  go (Some m) e =
-      unmarked note moves i m e
-      (λ has. none (subst (λ (k : Marks). Have k note → MayHave presence note) (get_or_from_slice_get (map marks_kept moves) i m m e)
-      (h note i m (slice_get_within (map marks_kept moves) i m e)) has))
+none_noted presence note moves h none from i ge lt = unmarked note moves i (go (slice_get (map marks_kept moves) i) refl) where
+  go : (o : Option Marks) → slice_get (map marks_kept moves) i ≡ o → IfSome o (λ m. ¬ Have m note)
+  go None e = tt
+  go (Some m) e = λ has.
+      none
+      (subst (λ (k : Marks). Have k note → MayHave presence note) (get_or_from_slice_get (map marks_kept moves) i m m e)
+      (h note i m (slice_get_within (map marks_kept moves) i m e)) has)

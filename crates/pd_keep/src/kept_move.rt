@@ -16,7 +16,7 @@ use crate::presence::Presence;
 use crate::spare::SpareLists;
 use pd_objects::Answer;
 use pd_port::{Due, Entry, Port, What};
-use pd_run::{Marks, Note, Plan, SharedBudget};
+use pd_run::{Marks, Note, Plan, SharedBudget, next_marked};
 use pd_steps::{SharedPort, SharedStep, SpareSteps};
 use std::alloc::{AllocError, Global};
 use std::marker::Model;
@@ -301,14 +301,7 @@ impl KeptMoves {
         if !self.presence.may_have(note) {
             return self.marks.len();
         }
-        let mut at = from.min(self.marks.len());
-        while let Some(marks) = self.marks.get(at) {
-            if marks.have(note) {
-                return at;
-            }
-            at += 1;
-        }
-        at
+        next_marked(&self.marks, note, from)
     }
 
     /// Whether a port stands at a place before the moves.

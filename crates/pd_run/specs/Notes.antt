@@ -36,3 +36,10 @@ abbrev pub Have : Marks → Note → Type 0
 Have marks Contract = IsTrue marks.contract
 Have marks Fault = IsTrue marks.fault
 Have marks (Packet port) = IsTrue marks.packet × (marks.port ≡ port)
+
+-- the first place from this one on whose marks have the note, or the number of the marks where none have it
+pub record IsNextMarked (note : Note) (marks : List Marks) (from next : ℕ) : Type 0 where
+  pub within : next ≤ length marks
+  pub not_before : min from (length marks) ≤ next
+  pub none_between : (i : ℕ) → from ≤ i → i < next → IfSome (slice_get marks i) (λ m. ¬ Have m note)
+  pub has : IfSome (slice_get marks next) (λ m. Have m note)

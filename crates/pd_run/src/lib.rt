@@ -13,7 +13,7 @@ mod shared_budget;
 
 pub use beside::{Agreement, Beside};
 pub use live::{Asked, Live};
-pub use note::{Marks, Note};
+pub use note::{Marks, Note, next_marked};
 pub use plain::Plain;
 pub use plan::Plan;
 pub use runner::Runner;

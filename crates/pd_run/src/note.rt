@@ -1,8 +1,9 @@
 //! What entries leave to be shown.
 
 ghost use Rattle.std.specs.Prelude.{◌≡◌, ◌↔◌, ◌<◌, IsTrue};
-ghost use Rattle.pd_run.specs.Notes.{Leaves, Have, marks_of};
+ghost use Rattle.pd_run.specs.Notes.{Leaves, Have, IsNextMarked, marks_of};
 ghost use Rattle.pd_run.specs.declared.note.Note.{Note as NoteData};
+ghost use Rattle.pd_run.specs.declared.note.Note.TheVariants as notes;
 
 use pd_port::Entry;
 
@@ -65,4 +66,46 @@ impl Marks {
             Note::Packet { port } => self.packet && usize::from(self.port) == port,
         }
     }
+}
+
+/// The first place from one on whose marks have such a note, or the number of the marks where none have it.
+pub fn next_marked(marks: &[Marks], note: Note, from: usize) -> usize
+    ensures { IsNextMarked note marks.now from result }
+{
+    // A run has many marks, so which note is wanted is told once, and not for each of them.
+    match note {
+        Note::Contract => next_contract(marks, from),
+        Note::Fault => next_fault(marks, from),
+        Note::Packet { port } => next_packet(marks, port, from),
+    }
+}
+
+fn next_contract(marks: &[Marks], from: usize) -> usize
+    ensures { IsNextMarked notes.Contract marks.now from result }
+{
+    let mut at = from.min(marks.len());
+    while at < marks.len() && !marks[at].contract {
+        at += 1;
+    }
+    at
+}
+
+fn next_fault(marks: &[Marks], from: usize) -> usize
+    ensures { IsNextMarked notes.Fault marks.now from result }
+{
+    let mut at = from.min(marks.len());
+    while at < marks.len() && !marks[at].fault {
+        at += 1;
+    }
+    at
+}
+
+fn next_packet(marks: &[Marks], port: usize, from: usize) -> usize
+    ensures { IsNextMarked (notes.Packet port) marks.now from result }
+{
+    let mut at = from.min(marks.len());
+    while at < marks.len() && !(marks[at].packet && usize::from(marks[at].port) == port) {
+        at += 1;
+    }
+    at
 }
