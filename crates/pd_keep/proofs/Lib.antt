@@ -15,3 +15,4 @@ pub mod Parted
 pub mod Places
 pub mod Shares
 pub mod Shows
+pub mod Starts

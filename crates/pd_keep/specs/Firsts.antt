@@ -1,5 +1,5 @@
 -- Spans, each with the number of moves before it.
-use Rattle.std.specs.Prelude.{◌≡◌, ℕ, ◌≤◌, ◌<◌, ◌+◌, ◌⊎◌, List, map, take, length, slice_get, Some}
+use Rattle.std.specs.Prelude.{◌≡◌, ℕ, ◌≤◌, ◌<◌, ◌+◌, ◌*◌, ◌⊎◌, List, map, take, length, slice_get, Some}
 use Rattle.pd_keep.specs.declared.spans.Span.{Span}
 use Rattle.pd_keep.specs.Kept.{RunData}
 use Rattle.pd_keep.specs.Spans.{kept_of_spans}
@@ -16,3 +16,7 @@ AreCounted spans = (k : ℕ) (s : Span) → slice_get spans k ≡ Some s → s.f
 pub record IsPlaceOf (spans : List RunData) (i place : ℕ) : Type 0 where
   pub from : length (kept_of_spans (take place spans)) ≤ i
   pub to : (i < length (kept_of_spans (take (place + 1) spans))) ⊎ (length spans ≤ place + 1)
+
+-- each of these is the place of a span that doesn't begin after the move whose number is 64 times that of the place in the list
+abbrev pub AreStarts : List ℕ → List RunData → Type 0
+AreStarts starts spans = (b p : ℕ) → slice_get starts b ≡ Some p → (p < length spans) × (length (kept_of_spans (take p spans)) ≤ b * 64)

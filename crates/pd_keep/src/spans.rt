@@ -1,9 +1,10 @@
 //! The moves of a run in spans, which runs share.
 
-ghost use Rattle.std.specs.Prelude.{◌≡◌, ◌+◌, ◌++◌, ◌∷◌, [], ℕ, OnOk, IfSome, length, map, option_map, slice_get};
+ghost use Rattle.std.specs.Prelude.{◌≡◌, ◌+◌, ◌*◌, ◌<◌, ◌≤◌, ◌++◌, ◌∷◌, [], ℕ, List, OnOk, IfSome, length, map, option_map};
+ghost use Rattle.std.specs.Prelude.{slice_get, take};
 ghost use Rattle.pd_run.specs.Notes.{IsNextWith};
-ghost use Rattle.pd_keep.specs.Firsts.{IsPlaceOf};
-ghost use Rattle.pd_keep.specs.Kept.{shown_of};
+ghost use Rattle.pd_keep.specs.Firsts.{AreStarts, IsPlaceOf};
+ghost use Rattle.pd_keep.specs.Kept.{RunData, shown_of};
 ghost use Rattle.pd_keep.specs.Spans.{kept_of_spans};
 
 use crate::kept_move::KeptMoves;
@@ -21,11 +22,16 @@ pub struct Span {
     kept: Rc<KeptMoves>,
 }
 
-/// The spans of a run, in their order. A span may be shared with other runs. Lists that are spare are kept for more of them.
+/// A span is looked for from the start of the one that has the last move before it of which the number is a multiple of this.
+const STRIDE: usize = 64;
+
+/// The spans of a run, in their order. A span may be shared with other runs. To find the span of a move soon, the places of the spans
+/// of some moves are kept beside them. Lists that are spare are kept for more spans.
 #[derive(Drop)]
 pub struct Spans {
     spans: Vec<Span>,
     len: usize,
+    starts: Vec<usize>,
     spare: Vec<SpareLists>,
 }
 
@@ -33,13 +39,14 @@ impl Model for Spans {
     ghost use Rattle.std.specs.Prelude.{◌≡◌, length, map, List};
     ghost use Rattle.pd_keep.specs.Kept.{RunData};
     ghost use Rattle.pd_keep.specs.Spans.{kept_of_spans};
-    ghost use Rattle.pd_keep.specs.Firsts.{AreCounted, span_of};
+    ghost use Rattle.pd_keep.specs.Firsts.{AreCounted, AreStarts, span_of};
 
     ghost Value = { List RunData };
 
     ghost view = { λ s. map span_of s.spans.items };
 
-    ghost invariant = { λ s. AreCounted s.spans.items × (s.len ≡ length (kept_of_spans (map span_of s.spans.items))) };
+    ghost invariant = { λ s. AreCounted s.spans.items × (s.len ≡ length (kept_of_spans (map span_of s.spans.items)))
+        × AreStarts s.starts.items (map span_of s.spans.items) };
 }
 
 impl Spans {
@@ -50,6 +57,7 @@ impl Spans {
         Spans {
             spans: Vec::new(alloc),
             len: 0,
+            starts: Vec::new(alloc),
             spare,
         }
     }
@@ -109,12 +117,10 @@ impl Spans {
         };
         // Its lists have a place among the spare ones from now on, so that to take them back asks for no memory.
         self.spare.reserve(self.spans.len().saturating_add(1))?;
-        self.spans.push(Span {
-            first: self.len,
-            kept,
-        })?;
+        let (place, first) = (self.spans.len(), self.len);
+        self.spans.push(Span { first, kept })?;
         self.len = len;
-        Ok(())
+        put_starts(&mut self.starts, place, first, len)
     }
 
     /// A move's port and entry, by its place in the run.
@@ -146,16 +152,38 @@ impl Spans {
     fn place_of(&self, i: usize) -> usize
         ensures { IsPlaceOf self.now i result }
     {
-        let mut low = 0;
-        let mut high = self.spans.len();
-        while high - low > 1 {
-            let middle = low + (high - low) / 2;
-            if self.spans[middle].first <= i {
-                low = middle;
-            } else {
-                high = middle;
-            }
+        let mut place = self.start_of(i);
+        while place + 1 < self.spans.len() && self.spans[place + 1].first <= i {
+            place += 1;
         }
-        low
+        place
     }
+
+    // A span that doesn't begin after a move, and not long before it.
+    fn start_of(&self, i: usize) -> usize
+        ensures within { result ≤ length self.now }
+        ensures from { length (kept_of_spans (take result self.now)) ≤ i }
+    {
+        match self.starts.get(i / STRIDE) {
+            Some(start) => *start,
+            None => 0,
+        }
+    }
+}
+
+// Puts the place of a span, which has the moves from a first one on, for the multiples of the stride from there up to the run's length.
+fn put_starts(
+    starts: &mut Vec<usize>,
+    place: usize,
+    first: usize,
+    len: usize,
+) -> Result<(), AllocError>
+    ensures starts { (spans : List RunData) → place < length spans → length (kept_of_spans (take place spans)) ≤ first
+        → AreStarts starts.old.items spans → AreStarts starts.new.items spans }
+    ensures all { OnOk result (first ≤ length starts.old.items * 64 → len < length starts.new.items * 64) }
+{
+    while starts.len() <= len / STRIDE && first <= starts.len() * STRIDE {
+        starts.push(place)?;
+    }
+    Ok(())
 }
