@@ -1,9 +1,9 @@
 -- The places of the spans of some moves.
 use Rattle.std.proofs.Common.{◌≡◌, ◌≢◌, ⊎_elim, ℕ, ◌*◌, ◌<◌, ◌≤◌, List, [], ◌∷◌, ◌++◌, length, take}
-use Rattle.std.proofs.Common.{sym, ◌∙◌, subst, arith}
-use Rattle.std.proofs.lemmas.List.{length_push, take-append-le}
-use Rattle.std.proofs.lemmas.Bool.{cases_eq}
-use Rattle.std.proofs.lemmas.Option.{slice_get_within}
+use Rattle.std.proofs.Common.{◌+◌, ◌/◌, ap, sym, ◌∙◌, subst, arith, replicate, slice_index_or}
+use Rattle.std.proofs.lemmas.List.{append_assoc, get_or_past, length_push, replicate_more, take-append-le}
+use Rattle.std.proofs.lemmas.Bool.{cases_eq, cases_lt}
+use Rattle.std.proofs.lemmas.Option.{slice_get-get_or, slice_get_within}
 use Rattle.pd_keep.specs.Firsts.{AreStarts}
 use Rattle.pd_keep.specs.Kept.{RunData}
 use Rattle.pd_keep.specs.Spans.{kept_of_spans}
@@ -35,3 +35,22 @@ starts_span starts spans x old b p e =
       omega (arith, inside, count),
       subst (λ (l : List RunData). length (kept_of_spans l) ≤ b * 64) (sym same) there.1,
     )
+
+-- the span where the search for a move begins doesn't begin after the move
+pub start_early : (starts : List ℕ) (spans : List RunData) (i : ℕ) → AreStarts starts spans
+    → (slice_index_or starts (i / 64) 0 ≤ length spans) × (length (kept_of_spans (take (slice_index_or starts (i / 64) 0) spans)) ≤ i)
+start_early starts spans i known =
+    ⊎_elim
+    (λ (inside : i / 64 < length starts).
+    let there = known (i / 64) (slice_index_or starts (i / 64) 0) (slice_get-get_or starts (i / 64) 0 inside) in
+    let place = there.0 in
+    let early = there.1 in (omega (arith, place), omega (arith, early)))
+    (λ (past : length starts ≤ i / 64).
+    subst (λ p. (p ≤ length spans) × (length (kept_of_spans (take p spans)) ≤ i)) (sym (get_or_past starts (i / 64) 0 past))
+    (omega arith, omega arith))
+    (cases_lt (i / 64) (length starts))
+
+-- one more of the same place
+pub place_more : (old now : List ℕ) (place k : ℕ) → now ≡ old ++ replicate k place → now ++ place ∷ [] ≡ old ++ replicate (k + 1) place
+place_more old now place k is =
+    ap (λ l. l ++ place ∷ []) is ∙ append_assoc old (replicate k place) (place ∷ []) ∙ ap (λ l. old ++ l) (replicate_more k place)

@@ -17,6 +17,6 @@ pub record IsPlaceOf (spans : List RunData) (i place : ℕ) : Type 0 where
   pub from : length (kept_of_spans (take place spans)) ≤ i
   pub to : (i < length (kept_of_spans (take (place + 1) spans))) ⊎ (length spans ≤ place + 1)
 
--- each of these is the place of a span that doesn't begin after the move whose number is 64 times that of the place in the list
+-- for each move whose number is a multiple of 64, as far as the list goes, it has the place of a span that doesn't begin after that move
 abbrev pub AreStarts : List ℕ → List RunData → Type 0
 AreStarts starts spans = (b p : ℕ) → slice_get starts b ≡ Some p → (p < length spans) × (length (kept_of_spans (take p spans)) ≤ b * 64)

@@ -1,7 +1,7 @@
 //! The moves of a run in spans, which runs share.
 
 ghost use Rattle.std.specs.Prelude.{◌≡◌, ◌+◌, ◌*◌, ◌<◌, ◌≤◌, ◌++◌, ◌∷◌, [], ℕ, List, OnOk, IfSome, length, map, option_map};
-ghost use Rattle.std.specs.Prelude.{slice_get, take};
+ghost use Rattle.std.specs.Prelude.{◌-◌, ◌/◌, max, replicate, slice_get, slice_index_or, take};
 ghost use Rattle.pd_run.specs.Notes.{IsNextWith};
 ghost use Rattle.pd_keep.specs.Firsts.{AreStarts, IsPlaceOf};
 ghost use Rattle.pd_keep.specs.Kept.{RunData, shown_of};
@@ -22,11 +22,11 @@ pub struct Span {
     kept: Rc<KeptMoves>,
 }
 
-/// A span is looked for from the start of the one that has the last move before it of which the number is a multiple of this.
+/// For the moves whose numbers are multiples of this, the places of spans are kept.
 const STRIDE: usize = 64;
 
 /// The spans of a run, in their order. A span may be shared with other runs. To find the span of a move soon, the places of the spans
-/// of some moves are kept beside them. Lists that are spare are kept for more spans.
+/// of some moves (`STRIDE`) are kept beside them. Lists that are spare are kept for more spans.
 #[derive(Drop)]
 pub struct Spans {
     spans: Vec<Span>,
@@ -152,35 +152,37 @@ impl Spans {
     fn place_of(&self, i: usize) -> usize
         ensures { IsPlaceOf self.now i result }
     {
-        let mut place = self.start_of(i);
+        let mut place = start_of(&self.starts, i);
         while place + 1 < self.spans.len() && self.spans[place + 1].first <= i {
             place += 1;
         }
         place
     }
+}
 
-    // A span that doesn't begin after a move, and not long before it.
-    fn start_of(&self, i: usize) -> usize
-        ensures within { result ≤ length self.now }
-        ensures from { length (kept_of_spans (take result self.now)) ≤ i }
-    {
-        match self.starts.get(i / STRIDE) {
-            Some(start) => *start,
-            None => 0,
-        }
+// Where the search for a move's span begins: the place that is kept for the last multiple of the stride up to the move's number.
+fn start_of(starts: &[usize], i: usize) -> usize
+    ensures { result ≡ slice_index_or starts.now (i / 64) 0 }
+{
+    match starts.get(i / STRIDE) {
+        Some(start) => *start,
+        None => 0,
     }
 }
 
-// Puts the place of a span, which has the moves from a first one on, for the multiples of the stride from there up to the run's length.
+// Keeps the place of the last span, which has the moves from a first one on up to so many in all, for the multiples of the stride that
+// have none yet.
 fn put_starts(
     starts: &mut Vec<usize>,
     place: usize,
     first: usize,
     len: usize,
 ) -> Result<(), AllocError>
+    ensures placed { starts.new.items ≡ starts.old.items ++ replicate (length starts.new.items - length starts.old.items) place }
+    ensures few { length starts.new.items ≤ max (length starts.old.items) (len / 64 + 1) }
+    ensures all { OnOk result (first ≤ length starts.old.items * 64 → len < length starts.new.items * 64) }
     ensures starts { (spans : List RunData) → place < length spans → length (kept_of_spans (take place spans)) ≤ first
         → AreStarts starts.old.items spans → AreStarts starts.new.items spans }
-    ensures all { OnOk result (first ≤ length starts.old.items * 64 → len < length starts.new.items * 64) }
 {
     while starts.len() <= len / STRIDE && first <= starts.len() * STRIDE {
         starts.push(place)?;
