@@ -3,6 +3,7 @@ pub mod Decided
 pub mod Differing
 pub mod Found
 pub mod Nowhere
+pub mod Rising
 pub mod Unique
 pub mod Valid
 pub mod Mapped

@@ -3,7 +3,7 @@
 ghost use Rattle.std.specs.Prelude.{◌≡◌, is_some, IfOk, IfSome};
 ghost use Rattle.std.specs.List.{list_all};
 ghost use Rattle.pd_scenario.specs.Scenarios.{names_differ, ids_differ};
-ghost use Rattle.pd_scenario_text.specs.Names.{texts, cable_names, sink_names, has_text, Has, kind_is_in, is_in, name_check};
+ghost use Rattle.pd_scenario_text.specs.Names.{texts, cable_names, sink_names, has_text, Has, ids_rise_from, kind_is_in, is_in, name_check};
 
 use pd_scenario::{NamedCable, NamedSink, ScenarioEvent, ScenarioEventKind, ScenarioHappening};
 use pd_setup::EventKind;
@@ -45,10 +45,28 @@ fn set_of<'a>(alloc: Global, names: &[&'a str]) -> Result<Option<BTreeSet<&'a st
     Ok(Some(seen))
 }
 
-/// Whether no two events have one id.
+/// Whether the ids rise from event to event, as where events are numbered in the order in which they are written.
+fn ids_rise(events: &[ScenarioEvent]) -> bool
+    ensures { result ≡ ids_rise_from 0 events.now }
+{
+    let mut least = 0;
+    for event in events {
+        let id = u64::from(event.id);
+        if id < least {
+            return false;
+        }
+        least = id + 1;
+    }
+    true
+}
+
+/// Whether no two events have one id. Where the ids rise, that is known without a set.
 fn ids_differ(alloc: Global, events: &[ScenarioEvent]) -> Result<bool, AllocError>
     ensures { IfOk result (λ differ. differ ≡ ids_differ events.now) }
 {
+    if ids_rise(events) {
+        return Ok(true);
+    }
     let mut seen = BTreeSet::new(alloc);
     for event in events {
         let is_new = seen.insert(event.id)?;

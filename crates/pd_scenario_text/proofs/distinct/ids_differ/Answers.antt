@@ -1,7 +1,11 @@
 use Rattle.std.proofs.Common.{◌∙◌, ◌+◌, sym, ap, drop, take}
 use Rattle.pd_scenario.specs.Scenarios.{ids_differ, has_id}
 use Rattle.pd_scenario_text.proofs.Found.{id_differs, id_found, ids_part, events_more, events_whole}
+use Rattle.pd_scenario_text.proofs.Rising.{rising_differ}
 use Rattle.pd_scenario_text.proofs.distinct.ids_differ.Goals as goal
+
+pub returns-then-ids_rise : goal.returns-then-ids_rise
+returns-then-ids_rise c = sym (rising_differ c.args.events.now (sym c.ids_rise.ensures ∙ c.if-ids_rise.true))
 
 pub returns-then-not-is_new : goal.returns-then-not-is_new
 returns-then-not-is_new c =
