@@ -40,7 +40,7 @@ impl PortStep {
     #[tactic(auto, unfolding(crate::specs::Lines::hears_reset))]
     fn hear_reset(&mut self, sender: Side, side: Side, t: u64)
         requires time { t ≤ LAST_TIME }
-        requires room { length self.old.faults.items + most_besides sender side ≤ 8 }
+        requires room { length self.old.faults.items + most_besides sender side ≤ 4 }
         ensures after { self.new ≡ hears_reset sender side t self.old }
         ensures faults { length self.new.faults.items ≤ length self.old.faults.items + most_besides sender side }
     {
@@ -53,7 +53,7 @@ impl PortStep {
     #[tactic(auto, using(crate::proofs::Noise::three_at_most), unfolding(crate::specs::Lines::all_hear_reset))]
     fn all_hear_reset(&mut self, sender: Side, t: u64)
         requires time { t ≤ LAST_TIME }
-        requires room { length self.old.faults.items ≤ 4 }
+        requires room { length self.old.faults.items ≡ 0 }
         ensures after { self.new ≡ all_hear_reset sender t self.old }
         ensures faults { length self.new.faults.items ≤ length self.old.faults.items + 4 }
     {
@@ -67,7 +67,7 @@ impl PortStep {
     #[tactic(auto, unfolding(crate::specs::Lines::hard_reset_ends))]
     pub(crate) fn hard_reset_ends(&mut self, sender: Side, t: u64)
         requires time { t ≤ LAST_TIME }
-        requires room { length self.old.faults.items ≤ 4 }
+        requires room { length self.old.faults.items ≡ 0 }
         ensures after { self.new ≡ hard_reset_ends sender t self.old }
         ensures faults { length self.new.faults.items ≤ length self.old.faults.items + 4 }
     {

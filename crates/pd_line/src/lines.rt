@@ -270,7 +270,7 @@ impl PortStep {
     #[tactic(auto, unfolding(crate::specs::Lines::goes_up))]
     fn goes_up(&mut self, side: Side, packet: &Packet, t: u64)
         requires time { t ≤ LAST_TIME }
-        requires room { length self.old.faults.items + most side ≤ 8 }
+        requires room { length self.old.faults.items + most side ≤ 4 }
         ensures after { self.new ≡ goes_up side packet.now t self.old }
         ensures faults { length self.new.faults.items ≤ length self.old.faults.items + most side }
     {
@@ -283,7 +283,7 @@ impl PortStep {
     #[tactic(auto, unfolding(crate::specs::Lines::with_line))]
     fn acknowledged(&mut self, side: Side, packet: &Packet, answer: &Packet, fate: Fate, t: u64)
         requires time { t ≤ LAST_TIME }
-        requires room { length self.old.faults.items + most side ≤ 8 }
+        requires room { length self.old.faults.items + most side ≤ 4 }
         ensures after { self.new ≡ acknowledged side packet.now t (heard answer.now fate) self.old }
         ensures faults { length self.new.faults.items ≤ length self.old.faults.items + most side }
     {
@@ -308,7 +308,7 @@ impl PortStep {
     #[tactic(auto, unfolding(crate::specs::Lines::good_crc_ends))]
     fn good_crc_ends(&mut self, side: Side, packet: &Packet, answer: &Packet, fate: Fate, t: u64)
         requires time { t ≤ LAST_TIME }
-        requires room { length self.old.faults.items ≤ 4 }
+        requires room { length self.old.faults.items ≡ 0 }
         ensures after { self.new ≡ good_crc_ends side packet.now answer.now fate t self.old }
         ensures faults { length self.new.faults.items ≤ length self.old.faults.items + 4 }
     {
@@ -320,7 +320,7 @@ impl PortStep {
     #[tactic(auto, unfolding(crate::specs::Lines::times_out))]
     fn times_out(&mut self, side: Side, packet: &Packet, t: u64)
         requires time { t ≤ LAST_TIME }
-        requires room { length self.old.faults.items ≤ 4 }
+        requires room { length self.old.faults.items ≡ 0 }
         ensures after { self.new ≡ times_out side packet.now t self.old }
         ensures faults { length self.new.faults.items ≤ length self.old.faults.items + 4 }
     {
@@ -341,7 +341,7 @@ impl PortStep {
     #[tactic(auto, unfolding(crate::specs::Lines::line_ends, crate::specs::Lines::with_line))]
     pub fn line_ends(&mut self, t: u64)
         requires time { t ≤ LAST_TIME }
-        requires room { length self.old.faults.items ≤ 4 }
+        requires room { length self.old.faults.items ≡ 0 }
         ensures after { self.new ≡ line_ends t self.old }
         ensures faults { length self.new.faults.items ≤ length self.old.faults.items + 4 }
     {

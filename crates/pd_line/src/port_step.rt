@@ -33,13 +33,13 @@ macro_rules! on_layer {
     };
 }
 
-/// A step under way: the port, the answer of the shared budget until the source has used it, the faults so far, and
-/// what has started on the line.
+/// A step under way: the port, the answer of the shared budget until the source has used it, the faults so far, at most
+/// four, and what has started on the line.
 #[derive(Drop)]
 pub struct PortStep {
     pub port: PortParts,
     pub answer: Option<Answer>,
-    pub faults: ArrayVec<Fault, 8>,
+    pub faults: ArrayVec<Fault, 4>,
     pub start: Option<Start>,
 }
 
@@ -68,7 +68,7 @@ impl PortStep {
     /// Notes a fault.
     #[tactic(auto, unfolding(crate::specs::PortStep::noted))]
     pub fn note(&mut self, fault: Fault)
-        requires { length self.old.faults.items < 8 }
+        requires { length self.old.faults.items < 4 }
         ensures after { self.new ≡ noted fault self.old }
         ensures faults { length self.new.faults.items ≡ length self.old.faults.items + 1 }
     {
@@ -147,7 +147,7 @@ impl PortStep {
 
     /// An act of the sink.
     fn sink_act(&mut self, act: &SinkAct)
-        requires { length self.old.faults.items + sink_faults_of act.now ≤ 8 }
+        requires { length self.old.faults.items + sink_faults_of act.now ≤ 4 }
         ensures after { self.new ≡ sink_act act.now self.old }
         ensures faults { length self.new.faults.items ≤ length self.old.faults.items + sink_faults_of act.now }
     {
@@ -164,7 +164,7 @@ impl PortStep {
 
     /// The acts of the sink, in order.
     fn sink_acts(&mut self, acts: &[SinkAct])
-        requires { length self.old.faults.items + sink_faults acts.now ≤ 8 }
+        requires { length self.old.faults.items + sink_faults acts.now ≤ 4 }
         ensures after { self.new ≡ sink_acts acts.now self.old }
         ensures faults { length self.new.faults.items ≤ length self.old.faults.items + sink_faults acts.now }
     {
@@ -177,7 +177,7 @@ impl PortStep {
     #[tactic(auto, unfolding(crate::specs::PortStep::sink_steps))]
     pub fn sink_steps(&mut self, t: u64, stimulus: &SinkStimulus)
         requires time { t ≤ LAST_TIME }
-        requires room { length self.old.faults.items + 1 ≤ 8 }
+        requires room { length self.old.faults.items + 1 ≤ 4 }
         ensures after { self.new ≡ sink_steps t stimulus.now self.old }
         ensures faults { length self.new.faults.items ≤ length self.old.faults.items + 1 }
     {
@@ -224,7 +224,7 @@ impl PortStep {
     /// An act of the source.
     fn source_act(&mut self, t: u64, act: &SourceAct)
         requires time { t ≤ LAST_TIME }
-        requires room { length self.old.faults.items + source_faults_of act.now ≤ 8 }
+        requires room { length self.old.faults.items + source_faults_of act.now ≤ 4 }
         ensures after { self.new ≡ source_act t act.now self.old }
         ensures faults { length self.new.faults.items ≤ length self.old.faults.items + source_faults_of act.now }
     {
@@ -244,7 +244,7 @@ impl PortStep {
     /// The acts of the source, in order.
     fn source_acts(&mut self, t: u64, acts: &[SourceAct])
         requires time { t ≤ LAST_TIME }
-        requires room { length self.old.faults.items + source_faults acts.now ≤ 8 }
+        requires room { length self.old.faults.items + source_faults acts.now ≤ 4 }
         ensures after { self.new ≡ source_acts t acts.now self.old }
         ensures faults { length self.new.faults.items ≤ length self.old.faults.items + source_faults acts.now }
     {
@@ -257,7 +257,7 @@ impl PortStep {
     #[tactic(auto, unfolding(crate::specs::PortStep::source_steps))]
     pub fn source_steps(&mut self, t: u64, stimulus: &SourceStimulus)
         requires time { t ≤ LAST_TIME }
-        requires room { length self.old.faults.items + 2 ≤ 8 }
+        requires room { length self.old.faults.items + 2 ≤ 4 }
         ensures after { self.new ≡ source_steps t stimulus.now self.old }
         ensures faults { length self.new.faults.items ≤ length self.old.faults.items + 2 }
     {
@@ -278,7 +278,7 @@ impl PortStep {
     #[tactic(auto, unfolding(crate::specs::PortStep::tells_sent))]
     pub(crate) fn tell_sent(&mut self, side: Side, sent: Sent, t: u64)
         requires time { t ≤ LAST_TIME }
-        requires room { length self.old.faults.items + most side ≤ 8 }
+        requires room { length self.old.faults.items + most side ≤ 4 }
         ensures after { self.new ≡ tells_sent side sent t self.old }
         ensures faults { length self.new.faults.items ≤ length self.old.faults.items + most side }
     {
@@ -293,7 +293,7 @@ impl PortStep {
     #[tactic(auto, unfolding(crate::specs::PortStep::tells_failed))]
     pub(crate) fn tell_failed(&mut self, side: Side, t: u64)
         requires time { t ≤ LAST_TIME }
-        requires room { length self.old.faults.items + most side ≤ 8 }
+        requires room { length self.old.faults.items + most side ≤ 4 }
         ensures after { self.new ≡ tells_failed side t self.old }
         ensures faults { length self.new.faults.items ≤ length self.old.faults.items + most side }
     {
@@ -308,7 +308,7 @@ impl PortStep {
     #[tactic(auto, unfolding(crate::specs::PortStep::tells_message))]
     pub(crate) fn tell_message(&mut self, side: Side, packet: &Packet, t: u64)
         requires time { t ≤ LAST_TIME }
-        requires room { length self.old.faults.items + most side ≤ 8 }
+        requires room { length self.old.faults.items + most side ≤ 4 }
         ensures after { self.new ≡ tells_message side packet.now t self.old }
         ensures faults { length self.new.faults.items ≤ length self.old.faults.items + most side }
     {
@@ -323,7 +323,7 @@ impl PortStep {
     #[tactic(auto, unfolding(crate::specs::PortStep::tells_reset))]
     pub(crate) fn tell_reset(&mut self, side: Side, t: u64)
         requires time { t ≤ LAST_TIME }
-        requires room { length self.old.faults.items + most side ≤ 8 }
+        requires room { length self.old.faults.items + most side ≤ 4 }
         ensures after { self.new ≡ tells_reset side t self.old }
         ensures faults { length self.new.faults.items ≤ length self.old.faults.items + most side }
     {
@@ -338,7 +338,7 @@ impl PortStep {
     #[tactic(auto, unfolding(crate::specs::PortStep::tells_timer))]
     pub fn tell_timer(&mut self, side: Side, timer: Timer, t: u64)
         requires time { t ≤ LAST_TIME }
-        requires room { length self.old.faults.items + most side ≤ 8 }
+        requires room { length self.old.faults.items + most side ≤ 4 }
         ensures after { self.new ≡ tells_timer side timer t self.old }
         ensures faults { length self.new.faults.items ≤ length self.old.faults.items + most side }
     {
@@ -353,7 +353,7 @@ impl PortStep {
     #[tactic(auto, unfolding(crate::specs::PortStep::tells_attach))]
     pub fn tell_attach(&mut self, cable: Cable, sink: SinkSettings, t: u64)
         requires time { t ≤ LAST_TIME }
-        requires room { length self.old.faults.items + 3 ≤ 8 }
+        requires room { length self.old.faults.items + 3 ≤ 4 }
         ensures after { self.new ≡ tells_attach cable sink t self.old }
         ensures faults { length self.new.faults.items ≤ length self.old.faults.items + 3 }
     {

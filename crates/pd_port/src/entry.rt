@@ -18,14 +18,14 @@ pub enum ContractChange {
     Lost,
 }
 
-/// One step of a port: when, for what, what it asked of the shared budget, and its notes: the faults in the order in
-/// which they came, the change of the contract, and what starts on the line.
+/// One step of a port: when, for what, what it asked of the shared budget, and its notes: the faults, at most four, in the
+/// order in which they came, the change of the contract, and what starts on the line.
 #[derive(Drop)]
 pub struct Entry {
     pub at: u64,
     pub due: Due,
     pub query: Option<Query>,
-    pub faults: ArrayVec<Fault, 8>,
+    pub faults: ArrayVec<Fault, 4>,
     pub contract: Option<ContractChange>,
     pub start: Option<Start>,
 }

@@ -29,7 +29,7 @@ fn detaches(step: &mut PortStep, settings: &Settings)
 /// A disturbance waits for a packet.
 #[tactic(auto, unfolding(crate::specs::Happens::disturbs))]
 fn disturbs(step: &mut PortStep, id: u32, disturbance: Disturbance)
-    requires { length step.old.faults.items ≤ 4 }
+    requires { length step.old.faults.items ≡ 0 }
     ensures { step.new ≡ disturbs id disturbance step.old }
 {
     if step.port.disturbances.is_full() {
@@ -43,7 +43,7 @@ fn disturbs(step: &mut PortStep, id: u32, disturbance: Disturbance)
 #[tactic(auto, unfolding(crate::specs::Happens::gets_source))]
 fn gets_source(step: &mut PortStep, id: u32, t: u64)
     requires time { t ≤ LAST_TIME }
-    requires room { length step.old.faults.items ≤ 4 }
+    requires room { length step.old.faults.items ≡ 0 }
     ensures { step.new ≡ gets_source id t step.old }
 {
     if step.port.sink.ready() {
@@ -57,7 +57,7 @@ fn gets_source(step: &mut PortStep, id: u32, t: u64)
 #[tactic(auto, unfolding(crate::specs::Happens::gets_sink))]
 fn gets_sink(step: &mut PortStep, id: u32, t: u64)
     requires time { t ≤ LAST_TIME }
-    requires room { length step.old.faults.items ≤ 4 }
+    requires room { length step.old.faults.items ≡ 0 }
     ensures { step.new ≡ gets_sink id t step.old }
 {
     if step.port.source.ready() {
@@ -70,7 +70,7 @@ fn gets_sink(step: &mut PortStep, id: u32, t: u64)
 /// An event while a sink is attached.
 fn happens_attached(step: &mut PortStep, settings: &Settings, id: u32, kind: &PortEventKind, t: u64)
     requires time { t ≤ LAST_TIME }
-    requires room { length step.old.faults.items ≤ 4 }
+    requires room { length step.old.faults.items ≡ 0 }
     requires settings { step.old.port.source.settings ≡ source_settings settings.now }
     ensures { step.new ≡ happens_attached id kind.now t step.old }
 {
@@ -88,7 +88,7 @@ fn happens_attached(step: &mut PortStep, settings: &Settings, id: u32, kind: &Po
 /// An event while nothing is attached.
 fn happens_detached(step: &mut PortStep, id: u32, kind: &PortEventKind, t: u64)
     requires time { t ≤ LAST_TIME }
-    requires room { length step.old.faults.items ≤ 4 }
+    requires room { length step.old.faults.items ≡ 0 }
     ensures { step.new ≡ happens_detached id kind.now t step.old }
 {
     match kind {
@@ -106,7 +106,7 @@ fn port_event_happens(
     t: u64,
 )
     requires time { t ≤ LAST_TIME }
-    requires room { length step.old.faults.items ≤ 4 }
+    requires room { length step.old.faults.items ≡ 0 }
     requires settings { step.old.port.source.settings ≡ source_settings settings.now }
     ensures { step.new ≡ port_event_happens id kind.now t step.old }
 {
@@ -121,7 +121,7 @@ fn port_event_happens(
 #[tactic(auto, unfolding(crate::specs::Happens::budget_changes))]
 fn budget_changes(step: &mut PortStep, t: u64)
     requires time { t ≤ LAST_TIME }
-    requires room { length step.old.faults.items ≤ 4 }
+    requires room { length step.old.faults.items ≡ 0 }
     ensures { step.new ≡ budget_changes t step.old }
 {
     if let Some(Answer::Fits(false)) = step.answer.take() {
@@ -132,7 +132,7 @@ fn budget_changes(step: &mut PortStep, t: u64)
 /// What an event does.
 pub(crate) fn event_happens(step: &mut PortStep, settings: &Settings, happening: &Happening, t: u64)
     requires time { t ≤ LAST_TIME }
-    requires room { length step.old.faults.items ≤ 4 }
+    requires room { length step.old.faults.items ≡ 0 }
     requires settings { step.old.port.source.settings ≡ source_settings settings.now }
     ensures { step.new ≡ event_happens happening.now t step.old }
 {

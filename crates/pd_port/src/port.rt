@@ -72,7 +72,7 @@ fn give(step: &mut PortStep, answer: &Option<Answer>)
 /// What falls due happens.
 fn happens(step: &mut PortStep, settings: &Settings, what: &What, t: u64)
     requires time { t ≤ LAST_TIME }
-    requires room { length step.old.faults.items ≤ 4 }
+    requires room { length step.old.faults.items ≡ 0 }
     requires settings { step.old.port.source.settings ≡ source_settings settings.now }
     ensures { step.new ≡ happens what.now t step.old }
 {

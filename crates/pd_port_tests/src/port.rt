@@ -23,7 +23,7 @@ struct Seen {
     resets: ArrayVec<u64, 8>,
     contract: Option<u64>,
     change: Option<(u64, ContractChange)>,
-    faults: ArrayVec<Fault, 8>,
+    faults: ArrayVec<Fault, 4>,
     last_fault: Option<Fault>,
     steps: u64,
 }
