@@ -9,4 +9,4 @@ use Rattle.pd_port.specs.declared.own_due.OwnDue.TheVariants as own
 abbrev pub told_due : OwnDue → Option Due
 told_due own.Nothing = None
 told_due (own.Line time) = Some (record { time = time; what = what.Line })
-told_due (own.Timer time side timer) = Some (record { time = time; what = what.Timer side timer })
+told_due (own.Timer side timer time) = Some (record { time = time; what = what.Timer side timer })

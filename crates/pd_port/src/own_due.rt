@@ -17,7 +17,7 @@ use pd_timers::Timer;
 pub enum OwnDue {
     Nothing,
     Line(u64),
-    Timer(u64, Side, Timer),
+    Timer(Side, Timer, u64),
 }
 
 impl OwnDue {
@@ -28,7 +28,7 @@ impl OwnDue {
         let (time, what) = match *self {
             OwnDue::Nothing => return None,
             OwnDue::Line(time) => (time, What::Line),
-            OwnDue::Timer(time, side, timer) => (time, What::Timer { side, timer }),
+            OwnDue::Timer(side, timer, time) => (time, What::Timer { side, timer }),
         };
         Some(Due { time, what })
     }
@@ -40,7 +40,7 @@ impl OwnDue {
         match *self {
             OwnDue::Nothing => None,
             OwnDue::Line(time) => Some((time, rank_of(&What::Line))),
-            OwnDue::Timer(time, side, timer) => {
+            OwnDue::Timer(side, timer, time) => {
                 Some((time, rank_of(&What::Timer { side, timer })))
             }
         }
@@ -66,7 +66,7 @@ pub(crate) fn own_due_of_timer(side: Side, first: Option<(u64, Timer)>) -> OwnDu
     ensures { told_due result ≡ timer_due side first }
 {
     match first {
-        Some((time, timer)) => OwnDue::Timer(time, side, timer),
+        Some((time, timer)) => OwnDue::Timer(side, timer, time),
         None => OwnDue::Nothing,
     }
 }

@@ -28,8 +28,6 @@ const N_HARD_RESET_COUNT: u8 = 2;
 #[derive(Clone, Copy)]
 pub struct Sink {
     state: State,
-    /// When the timers that the rows start fall due.
-    deadlines: SinkDeadlines,
     /// Whether the message of this state was sent.
     sent: bool,
     /// The HardResetCounter, which nHardResetCount bounds.
@@ -39,6 +37,8 @@ pub struct Sink {
     /// Whether the sink has a demand that it has not asked for yet.
     fresh: bool,
     has_contract: bool,
+    /// When the timers that the rows start fall due.
+    deadlines: SinkDeadlines,
     /// The sink that is attached.
     sink: Option<SinkSettings>,
     /// The objects of the offer that came last.

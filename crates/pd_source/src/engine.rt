@@ -35,19 +35,19 @@ pub struct Source {
     identity_tries: u8,
     unconstrained: bool,
     state: State,
-    deadlines: Deadlines,
     /// The CapsCounter, which nCapsCount bounds.
     caps_counter: u8,
     /// The DiscoverIdentityCounter, which the port's own number of tries bounds in place of nDiscoverIdentityCount.
     discover_identity_counter: u8,
     /// The HardResetCounter, which nHardResetCount bounds.
     hard_reset_counter: u8,
-    /// The current in mA that the cable carries, where it is known.
-    limit: Option<u32>,
     /// Whether the message of this state was sent.
     sent: bool,
     /// The revision that is spoken with the sink.
     revision: Revision,
+    deadlines: Deadlines,
+    /// The current in mA that the cable carries, where it is known.
+    limit: Option<u32>,
     /// The object of the request that came last.
     kept_request: Option<u32>,
     /// The object of the request that is accepted.

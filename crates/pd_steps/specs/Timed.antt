@@ -22,7 +22,7 @@ asks_at p (Some d) = is_some (ask p.settings p.port_record d)
 abbrev pub own_at : ℕ → What → OwnDue
 own_at time (what.Event e) = own.Nothing
 own_at time what.Line = own.Line time
-own_at time (what.Timer side timer) = own.Timer time side timer
+own_at time (what.Timer side timer) = own.Timer side timer time
 
 abbrev pub own_of : Option Due → OwnDue
 own_of None = own.Nothing
@@ -32,7 +32,7 @@ own_of (Some d) = own_at d.time d.what
 own_of_told : (own : OwnDue) → own_of (told_due own) ≡ own
 own_of_told own.Nothing = refl
 own_of_told (own.Line time) = refl
-own_of_told (own.Timer time side timer) = refl
+own_of_told (own.Timer side timer time) = refl
 
 pub own_is : (own : OwnDue) (d : Option Due) → told_due own ≡ d → own_of d ≡ own
 own_is own d h = ap own_of (sym h) ∙ own_of_told own
