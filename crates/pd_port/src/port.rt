@@ -1,6 +1,6 @@
 //! A port: what falls due on it, and its step.
 
-ghost use Rattle.std.specs.Prelude.{◌≡◌, ℕ, ◌+◌, ◌<◌, ◌≤◌, length, None, is_some, IsTrue, ◌↔◌};
+ghost use Rattle.std.specs.Prelude.{◌≡◌, ℕ, ◌+◌, ◌<◌, ◌≤◌, length, None, is_some, IsTrue, ◌↔◌, true};
 ghost use Rattle.std.specs.Option.{option_copied};
 ghost use Rattle.pd_line.specs.Record.{without_settings};
 ghost use Rattle.pd_line.specs.declared.port_step.PortStep.{PortStep};
@@ -96,22 +96,35 @@ fn parts_at_rest(settings: &Settings) -> PortParts
     )
 }
 
-/// The parts become what the step of a port for this due leaves; its faults and what it starts are put in an entry.
+/// The parts become those of a port, where they aren't yet.
+fn stand_as(parts: &mut PortParts, port: &Port, stands: bool)
+    requires { stands ≡ true → parts.old ≡ whole port.now.settings port.now.port_record }
+    ensures { parts.new ≡ whole port.now.settings port.now.port_record }
+{
+    if !stands {
+        *parts = port.parts;
+    }
+}
+
+/// The parts, which may stand as a port already, become what its step for this due leaves; its faults and what it starts are put in an
+/// entry.
 #[tactic(auto, unfolding(crate::specs::Port::portstep))]
 fn step_parts(
     parts: &mut PortParts,
     before: &Port,
+    stands: bool,
     due: &Due,
     answer: &Option<Answer>,
     entry: &mut Entry,
 )
-    requires { due.now.time ≤ LAST_TIME }
+    requires time { due.now.time ≤ LAST_TIME }
+    requires stands { stands ≡ true → parts.old ≡ whole before.now.settings before.now.port_record }
     ensures parts { parts.new ≡ (portstep (whole before.now.settings before.now.port_record) due.now answer.now).port }
     ensures entry { let u : PortStep = portstep (whole before.now.settings before.now.port_record) due.now answer.now in
         entry.new ≡ record entry.old { faults = u.faults; start = u.start } }
 {
     if is_poll(due) {
-        *parts = before.parts;
+        stand_as(parts, before, stands);
         if polls_again(parts, due, answer) {
             entry.faults = ArrayVec::new();
             entry.start = None;
@@ -200,15 +213,25 @@ impl Port {
     {
         let before = self.copy();
         let mut entry = Entry::new();
-        self.step_into(&before, due, before.ask(due), &answer, meter, &mut entry);
+        self.step_into(
+            &before,
+            true,
+            due,
+            before.ask(due),
+            &answer,
+            meter,
+            &mut entry,
+        );
         entry
     }
 
     /// The port becomes what the step of another one for this due leaves, where it is known what that one asks, and the step's entry is put
-    /// where it stays: it is long, and would be copied once more. The meter rises by one.
+    /// where it stays: it is long, and would be copied once more. Where it is known that the port stands as the other one already, that
+    /// is said, and the other one isn't copied for a step that changes little. The meter rises by one.
     pub fn step_into(
         &mut self,
         before: &Port,
+        stands: bool,
         due: &Due,
         query: Option<Query>,
         answer: &Option<Answer>,
@@ -216,6 +239,7 @@ impl Port {
         entry: &mut Entry,
     )
         requires time { due.now.time ≤ LAST_TIME }
+        requires stands { stands ≡ true → self.old ≡ before.now }
         requires asks { query ≡ ask before.now.settings before.now.port_record due.now }
         ensures after { self.new ≡ record before.now {
           port_record = record_after before.now.settings before.now.port_record due.now answer.now;
@@ -224,7 +248,7 @@ impl Port {
         ensures meter { meter.new ≡ raised meter.old 1 }
     {
         meter.rise();
-        step_parts(&mut self.parts, before, due, answer, entry);
+        step_parts(&mut self.parts, before, stands, due, answer, entry);
         self.settings = before.settings;
         entry.at = due.time;
         entry.due = *due;

@@ -116,13 +116,14 @@ impl SharedPort {
         ensures same { OnErr result (self.new ≡ self.old) }
     {
         let _count = meter.count();
-        let mut stepped = spare.room(alloc, &self.stepped.port)?;
+        let (mut stepped, stands) = spare.room(alloc, &self.stepped.port)?;
         let Some(room) = Rc::get_mut(&mut stepped) else {
             return Err(AllocError);
         };
         // It is stepped from where it stood: what has just been written isn't read again.
         room.port.step_from(
             &self.stepped.port,
+            stands,
             due,
             query,
             &answer,

@@ -1,6 +1,6 @@
 //! Steps that are spare.
 
-ghost use Rattle.std.specs.Prelude.{◌≡◌, ◌⊎◌, ◌+◌, IfOk};
+ghost use Rattle.std.specs.Prelude.{◌≡◌, ◌⊎◌, ◌+◌, IfOk, true};
 
 use crate::stepped::Stepped;
 use crate::timed_port::TimedPort;
@@ -71,21 +71,24 @@ impl SpareSteps {
         }
     }
 
-    /// A block for a step, whatever it holds yet: that of a spare step, where there is any, else one of its own, which holds this port.
+    /// A block for a step, and whether it is known to hold this port: that of a spare step, where there is any, whatever that holds yet,
+    /// else one of its own, which holds it.
     pub(crate) fn room(
         &mut self,
         alloc: Global,
         port: &TimedPort,
-    ) -> Result<Rc<Stepped>, AllocError> {
+    ) -> Result<(Rc<Stepped>, bool), AllocError>
+        ensures { IfOk result (λ r. r.1 ≡ true → r.0.value.port ≡ port.now) }
+    {
         if let Some(mut spare) = self.steps.pop() {
             if Rc::get_mut(&mut spare).is_some() {
-                return Ok(spare);
+                return Ok((spare, false));
             }
         }
         if self.placed < MOST {
             self.steps.reserve(self.placed + 1)?;
             self.placed += 1;
         }
-        Ok(Rc::new(alloc, Stepped::none(*port))?)
+        Ok((Rc::new(alloc, Stepped::none(*port))?, true))
     }
 }

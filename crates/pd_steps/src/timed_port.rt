@@ -1,6 +1,6 @@
 //! A port with what is worked out of it.
 
-ghost use Rattle.std.specs.Prelude.{◌≡◌, ◌≤◌, None, IsTrue};
+ghost use Rattle.std.specs.Prelude.{◌≡◌, ◌≤◌, None, IsTrue, true};
 ghost use Rattle.std.specs.Option.{option_copied};
 ghost use Rattle.pd_port.specs.Meter.{raised};
 ghost use Rattle.pd_port.specs.Port.{due as the_due, ask, record_after, entry_of, hold};
@@ -128,10 +128,11 @@ impl TimedPort {
     }
 
     /// The port becomes what the step of another one for this due leaves, with what that one asked and the answer to it, and the step's
-    /// entry is put in its place. The meter rises by one.
+    /// entry is put in its place. It is said whether the port stands as the other one already. The meter rises by one.
     pub(crate) fn step_from(
         &mut self,
         before: &TimedPort,
+        stands: bool,
         due: &Due,
         query: Option<Query>,
         answer: &Option<Answer>,
@@ -139,6 +140,7 @@ impl TimedPort {
         entry: &mut Entry,
     )
         requires time { due.now.time ≤ LAST_TIME }
+        requires stands { stands ≡ true → self.old ≡ before.now }
         requires asks { query ≡ ask before.now.settings before.now.port_record due.now }
         ensures after { self.new ≡ record before.now {
           port_record = record_after before.now.settings before.now.port_record due.now answer.now;
@@ -147,7 +149,7 @@ impl TimedPort {
         ensures meter { meter.new ≡ raised meter.old 1 }
     {
         self.port
-            .step_into(&before.port, due, query, answer, meter, entry);
+            .step_into(&before.port, stands, due, query, answer, meter, entry);
         let own = self.port.own_due();
         self.own = own;
         self.asks = asks_at(&self.port, &own);

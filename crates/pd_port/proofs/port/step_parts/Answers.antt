@@ -1,22 +1,22 @@
 use Rattle.std.proofs.Common.{ap, ◌∙◌}
 use Rattle.pd_line.specs.declared.port_step.PortStep.{PortStep}
-use Rattle.pd_port.specs.Port.{happens}
+use Rattle.pd_line.specs.declared.port_parts.PortParts.{PortParts}
+use Rattle.pd_port.specs.Port.{happens, portstep}
 use Rattle.pd_port.proofs.Steps.{portstep_is, led_whole}
 use Rattle.pd_port.proofs.Polled.{polled_entry}
 use Rattle.pd_port.proofs.port.step_parts.Goals as goal
 
 pub returns-then-polls_again-clause-parts : goal.returns-then-polls_again-clause-parts
 returns-then-polls_again-clause-parts c =
-    let p = c.before-2.inside.parts in let d = c.args.due.now in let given = c.args.answer.now in
-    let done = led_whole c.args.before.now c.before-2.inside.settings p d given c.before-2.view_is c.before-2.invariant in
-    ap (λ (x : PortStep). x.port) (c.polls_again.ensures c.if-polls_again.true ∙ done)
+    let d = c.args.due.now in let given = c.args.answer.now in
+    ap (λ (x : PortStep). x.port)
+    (c.polls_again.ensures c.if-polls_again.true ∙ ap (λ (x : PortParts). portstep x d given) c.stand_as.ensures)
 
 pub returns-then-polls_again-clause-entry : goal.returns-then-polls_again-clause-entry
 returns-then-polls_again-clause-entry c =
-    let p = c.before-2.inside.parts in let d = c.args.due.now in let given = c.args.answer.now in
-    let done = led_whole c.args.before.now c.before-2.inside.settings p d given c.before-2.view_is c.before-2.invariant in
+    let d = c.args.due.now in let given = c.args.answer.now in
     polled_entry c.args.entry.now _ c.polls_again.new.parts c.new-entry.result c.new-entry.ensures
-    (c.polls_again.ensures c.if-polls_again.true ∙ done)
+    (c.polls_again.ensures c.if-polls_again.true ∙ ap (λ (x : PortParts). portstep x d given) c.stand_as.ensures)
 
 pub returns-clause-parts : goal.returns-clause-parts
 returns-clause-parts c =
