@@ -1,5 +1,5 @@
 -- Names and ids that differ, and names that are there, as the code looks for them.
-use Rattle.std.specs.Prelude.{◌≡◌, ℕ, ◌+◌, nat_lt, Bool, true, not, ◌&&◌, List, [], ◌∷◌, map, Option, Some, None, bytes_eq, if◌then◌else◌}
+use Rattle.std.specs.Prelude.{◌≡◌, ℕ, Bool, true, ◌&&◌, List, map, Option, Some, None, bytes_eq, if◌then◌else◌}
 use Rattle.std.specs.Borrow.{Bor}
 use Rattle.std.specs.List.{list_any, list_all}
 use Rattle.std.specs.BTreeSet.{BTreeSet}
@@ -36,11 +36,6 @@ kind_is_in cables sinks _ = true
 abbrev pub is_in : BTreeSet (Bor (List ℕ)) → BTreeSet (Bor (List ℕ)) → ScenarioHappening → Bool
 is_in cables sinks (OnPort port kind) = kind_is_in cables sinks kind
 is_in cables sinks (Budget mw) = true
-
--- the ids rise from event to event, and the first is no less than a number
-abbrev pub ids_rise_from : ℕ → List ScenarioEvent → Bool
-ids_rise_from least [] = true
-ids_rise_from least (e ∷ events) = not (nat_lt e.id least) && ids_rise_from (e.id + 1) events
 
 -- whether all names are there, or nothing where two names or two ids are the same
 abbrev pub name_check : List NamedCable → List NamedSink → List ScenarioEvent → Option Bool

@@ -1,9 +1,9 @@
 //! Names and ids that differ, and names that are there.
 
-ghost use Rattle.std.specs.Prelude.{◌≡◌, is_some, IfOk, IfSome};
-ghost use Rattle.std.specs.List.{list_all};
+ghost use Rattle.std.specs.Prelude.{◌≡◌, nat_lt, is_some, IfOk, IfSome};
+ghost use Rattle.std.specs.List.{list_all, IsAllAdjacentAnswer};
 ghost use Rattle.pd_scenario.specs.Scenarios.{names_differ, ids_differ};
-ghost use Rattle.pd_scenario_text.specs.Names.{texts, cable_names, sink_names, has_text, Has, ids_rise_from, kind_is_in, is_in, name_check};
+ghost use Rattle.pd_scenario_text.specs.Names.{texts, cable_names, sink_names, has_text, Has, kind_is_in, is_in, name_check};
 
 use pd_scenario::{NamedCable, NamedSink, ScenarioEvent, ScenarioEventKind, ScenarioHappening};
 use pd_setup::EventKind;
@@ -45,19 +45,15 @@ fn set_of<'a>(alloc: Global, names: &[&'a str]) -> Result<Option<BTreeSet<&'a st
     Ok(Some(seen))
 }
 
-/// Whether the ids rise from event to event, as where events are numbered in the order in which they are written.
+/// Whether each event's id is less than the next one's.
 fn ids_rise(events: &[ScenarioEvent]) -> bool
-    ensures { result ≡ ids_rise_from 0 events.now }
+    ensures { IsAllAdjacentAnswer (λ a b less. less ≡ nat_lt a.id b.id) events.now result }
 {
-    let mut least = 0;
-    for event in events {
-        let id = u64::from(event.id);
-        if id < least {
-            return false;
-        }
-        least = id + 1;
-    }
-    true
+    events.is_sorted_by(
+        |event, next| -> bool
+            ensures { result ≡ nat_lt event.now.id next.now.id }
+        { event.id < next.id },
+    )
 }
 
 /// Whether no two events have one id. Where the ids rise, that is known without a set.

@@ -5,7 +5,7 @@ use Rattle.pd_scenario_text.proofs.Rising.{rising_differ}
 use Rattle.pd_scenario_text.proofs.distinct.ids_differ.Goals as goal
 
 pub returns-then-ids_rise : goal.returns-then-ids_rise
-returns-then-ids_rise c = sym (rising_differ c.args.events.now (sym c.ids_rise.ensures ∙ c.if-ids_rise.true))
+returns-then-ids_rise c = sym (rising_differ c.args.events.now (rw c.if-ids_rise.true at c.ids_rise.ensures))
 
 pub returns-then-not-is_new : goal.returns-then-not-is_new
 returns-then-not-is_new c =
