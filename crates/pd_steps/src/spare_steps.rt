@@ -78,7 +78,8 @@ impl SpareSteps {
         alloc: Global,
         port: &TimedPort,
     ) -> Result<(Rc<Stepped>, bool), AllocError>
-        ensures { IfOk result (λ r. r.1 ≡ true → r.0.value.port ≡ port.now) }
+        ensures holds { IfOk result (λ r. r.1 ≡ true → r.0.value.port ≡ port.now) }
+        ensures own { IfOk result (λ r. self.old ≡ 0 → r.1 ≡ true) }
     {
         if let Some(mut spare) = self.steps.pop() {
             if Rc::get_mut(&mut spare).is_some() {
