@@ -1,6 +1,6 @@
 //! Short lists, which allocate nothing.
 
-ghost use Rattle.std.specs.Prelude.{◌≡◌, ◌≤◌, length, [], nat_eq};
+ghost use Rattle.std.specs.Prelude.{◌≡◌, ◌≤◌, ◌++◌, ◌-◌, length, replicate, [], nat_eq};
 ghost use Rattle.std.specs.Cmp.{on_equiv, on_per, partial_equiv_from_equiv};
 ghost use Rattle.std.specs.Cmp.Lexicographic.{pointwise, nat_list_eq_equiv};
 
@@ -73,6 +73,13 @@ impl ShortList {
         ensures few { length result.now ≤ 7 }
     {
         &self.items[..usize::from(self.count)]
+    }
+
+    /// The numbers in seven places, with 0 in each place behind them.
+    pub fn places(&self) -> [u32; 7]
+        ensures { result ≡ self.now ++ replicate (7 - length self.now) 0 }
+    {
+        self.items
     }
 }
 
