@@ -1,14 +1,13 @@
 //! The protocol layer of one side on one channel.
 
-ghost use Rattle.std.specs.Prelude.{◌≡◌, ◌↔◌, ◌<◌, ◌^◌, IsTrue};
-ghost use Rattle.pd_protocol.specs.Layer.{fresh, reset, submit, good_crc, timed_out, received, tries_of};
-ghost use Rattle.pd_protocol.specs.LayerRecord.{LayerRecord};
+ghost use Rattle.std.specs.Prelude.{◌≡◌, ◌↔◌, ◌<◌, ◌^◌, IsTrue, None};
+ghost use Rattle.pd_protocol.specs.Layer.{fresh, reset, closed, submit, good_crc, timed_out, received, tries_of};
+ghost use Rattle.pd_protocol.specs.LayerRecord.{blank};
 
 use crate::message::Message;
-use crate::outstanding::{Outstanding, same_outstanding};
 use pd_header::{Kind, Side, header_id, header_kind, header_revision};
 use pd_packet::Packet;
-use pd_symbols::Channel;
+use pd_symbols::{Channel, ShortList};
 use std::marker::Model;
 
 /// What a layer makes of a call.
@@ -29,18 +28,24 @@ pub enum LayerAct {
 }
 
 /// The layer of one side on one channel: the next ID (the standard's MessageIDCounter), the ID that came last (its stored
-/// MessageID), and the packet that waits for its GoodCRC with its tries (its RetryCounter, up to nRetryCount retries)
-/// (USB Power Delivery 3.0, sections 6.7 and 6.8.1).
+/// MessageID), and the packet that waits for its GoodCRC with its tries (one more than its RetryCounter, up to nRetryCount
+/// retries) (USB Power Delivery 3.0, sections 6.7 and 6.8.1). Where nothing is outstanding it had no tries, and the packet is a
+/// blank one: that is shorter than an `Option`.
 #[derive(Clone, Copy, Debug)]
 pub struct Layer {
     side: Side,
     channel: Channel,
     next_id: u8,
     stored_id: Option<u8>,
-    outstanding: Option<Outstanding>,
+    tries: u8,
+    packet: Packet,
 }
 
 impl Model for Layer {
+    ghost use Rattle.std.specs.Prelude.{◌≡◌, ◌<◌, ◌^◌};
+    ghost use Rattle.pd_protocol.specs.LayerRecord.{LayerRecord, outstanding_of, blank, tries_in, packet_in};
+    ghost use Rattle.pd_protocol.specs.LayerRecord.{tries_are_kept, packet_is_kept};
+
     ghost Value = { LayerRecord };
 
     ghost view = { λ l. record {
@@ -48,17 +53,27 @@ impl Model for Layer {
       channel = l.channel;
       next_id = l.next_id;
       stored_id = l.stored_id;
-      outstanding = l.outstanding;
+      outstanding = outstanding_of l.tries l.packet;
     } };
 
-    ghost invariant = { λ l. l.next_id < 2 ^ 3 };
+    ghost invariant = { λ l. (l.next_id < 2 ^ 3) × (l.tries ≡ 0 → l.packet ≡ blank) };
 
     ghost inverse = { λ v. record {
       side = v.side;
       channel = v.channel;
       next_id = v.next_id;
       stored_id = v.stored_id;
-      outstanding = v.outstanding;
+      tries = tries_in v.outstanding;
+      packet = packet_in v.outstanding;
+    } };
+
+    ghost inverse_ok = { λ l h i. record {
+      side = l.side;
+      channel = l.channel;
+      next_id = l.next_id;
+      stored_id = l.stored_id;
+      tries = tries_are_kept l.tries l.packet i;
+      packet = packet_is_kept l.tries l.packet h.1 i;
     } };
 }
 
@@ -69,6 +84,13 @@ fn tries_of(header: u16) -> u8
     ensures { result ≡ tries_of header }
 {
     if header_revision(header) == 1 { 4 } else { 3 }
+}
+
+/// What stands in the packet's place where none is outstanding.
+fn blank() -> Packet
+    ensures { result ≡ blank }
+{
+    Packet::of(Channel::Sop, 0, ShortList::new())
 }
 
 impl Layer {
@@ -82,7 +104,8 @@ impl Layer {
             channel,
             next_id: 0,
             stored_id: None,
-            outstanding: None,
+            tries: 0,
+            packet: blank(),
         }
     }
 
@@ -94,7 +117,14 @@ impl Layer {
             && self.channel == other.channel
             && self.next_id == other.next_id
             && self.stored_id == other.stored_id
-            && same_outstanding(&self.outstanding, &other.outstanding)
+            && self.same_outstanding(other)
+    }
+
+    /// Whether nothing is outstanding on both, or the same packet, sent as often.
+    fn same_outstanding(&self, other: &Layer) -> bool
+        ensures { IsTrue result ↔ (self.now.outstanding ≡ other.now.outstanding) }
+    {
+        self.tries == other.tries && self.packet.same(&other.packet)
     }
 
     /// A copy of the layer, which allocates nothing.
@@ -104,14 +134,30 @@ impl Layer {
         *self
     }
 
+    /// Nothing is outstanding any more.
+    fn forget(&mut self)
+        ensures { self.new ≡ record self.old { outstanding = None } }
+    {
+        self.tries = 0;
+        self.packet = blank();
+    }
+
+    /// The outstanding message is done with, and the next ID rises.
+    fn close(&mut self)
+        ensures { self.new ≡ closed self.old }
+    {
+        self.forget();
+        self.next_id = (self.next_id + 1) % 8;
+    }
+
     /// Forgets the IDs and the outstanding message.
     #[tactic(auto, unfolding(crate::specs::Layer::reset, crate::specs::Layer::fresh))]
     pub fn reset(&mut self)
         ensures { self.new ≡ reset self.old }
     {
+        self.forget();
         self.next_id = 0;
         self.stored_id = None;
-        self.outstanding = None;
     }
 
     /// The packet for a message, with these revision bits.
@@ -125,14 +171,12 @@ impl Layer {
         ensures after { self.new ≡ (submit self.old revision message).0 }
         ensures answer { result ≡ (submit self.old revision message).1 }
     {
-        if self.outstanding.is_some() {
+        if self.tries > 0 {
             return Err(message);
         }
         let packet = message.into_packet(self.side, self.channel, revision, self.next_id);
-        self.outstanding = Some(Outstanding {
-            packet: packet.copy(),
-            tries: 1,
-        });
+        self.tries = 1;
+        self.packet = packet.copy();
         Ok(packet)
     }
 
@@ -142,14 +186,11 @@ impl Layer {
         ensures after { self.new ≡ (good_crc self.old id).0 }
         ensures answer { result ≡ (good_crc self.old id).1 }
     {
-        match &self.outstanding {
-            Some(sent) if header_id(sent.packet.header()) == id => {
-                self.outstanding = None;
-                self.next_id = (self.next_id + 1) % 8;
-                LayerAct::Sent
-            }
-            _ => LayerAct::Idle,
+        if self.tries == 0 || header_id(self.packet.header()) != id {
+            return LayerAct::Idle;
         }
+        self.close();
+        LayerAct::Sent
     }
 
     /// What comes of a GoodCRC that did not come before the CRCReceiveTimer (tReceive) ran out: Retry, Failed, or Idle where no
@@ -159,18 +200,15 @@ impl Layer {
         ensures after { self.new ≡ (timed_out self.old).0 }
         ensures answer { result ≡ (timed_out self.old).1 }
     {
-        match &mut self.outstanding {
-            None => LayerAct::Idle,
-            Some(sent) if sent.tries < tries_of(sent.packet.header()) => {
-                sent.tries += 1;
-                LayerAct::Retry(sent.packet.copy())
-            }
-            Some(_) => {
-                self.outstanding = None;
-                self.next_id = (self.next_id + 1) % 8;
-                LayerAct::Failed
-            }
+        if self.tries == 0 {
+            return LayerAct::Idle;
         }
+        if self.tries < tries_of(self.packet.header()) {
+            self.tries += 1;
+            return LayerAct::Retry(self.packet.copy());
+        }
+        self.close();
+        LayerAct::Failed
     }
 
     /// What comes of a message with this header: Up or Repeat.

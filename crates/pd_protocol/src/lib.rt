@@ -4,7 +4,6 @@
 pub mod laws;
 mod layer;
 mod message;
-mod outstanding;
 
 pub use layer::{Layer, LayerAct};
 pub use message::{Message, good_crc_for};
