@@ -61,6 +61,8 @@ pub enum Line {
 #[derive(Clone, Copy)]
 pub struct PortParts {
     pub cable: Option<Cable>,
+    // Both are aligned at each byte: apart, each would be followed by a gap.
+    pub disturbances: Disturbances,
     pub source: Source,
     pub sink: Sink,
     pub plug: Plug,
@@ -72,5 +74,4 @@ pub struct PortParts {
     pub sink_waits: Waiting,
     pub plug_waits: Waiting,
     pub line: Line,
-    pub disturbances: Disturbances,
 }

@@ -170,6 +170,7 @@ impl PortParts {
     {
         PortParts {
             cable: None,
+            disturbances: Disturbances::new(),
             source: Source::new(supplies, identity_tries, unconstrained),
             sink: Sink::new(),
             plug: Plug::new(),
@@ -181,7 +182,6 @@ impl PortParts {
             sink_waits: Waiting::Nothing,
             plug_waits: Waiting::Nothing,
             line: Line::Idle,
-            disturbances: Disturbances::new(),
         }
     }
 
