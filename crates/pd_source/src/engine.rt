@@ -24,6 +24,7 @@ mod asks;
 mod copies;
 mod polls;
 mod power;
+mod settings;
 
 /// The current in mA that each cable carries (USB Type-C).
 const CABLE_CURRENT_MA: u32 = 3_000;

@@ -3,7 +3,6 @@
 ghost use Rattle.std.specs.Prelude.{◌≡◌, ◌↔◌, IsTrue};
 
 use super::Source;
-use pd_objects::same_supplies;
 
 /// Whether all tests hold, with a return at the first that doesn't.
 macro_rules! all_of {
@@ -20,10 +19,7 @@ impl Source {
     pub fn same(&self, other: &Source) -> bool
         ensures { IsTrue result ↔ (self.now ≡ other.now) }
     {
-        same_supplies(self.supplies.as_slice(), other.supplies.as_slice())
-            && self.identity_tries == other.identity_tries
-            && self.unconstrained == other.unconstrained
-            && self.same_record(other)
+        self.same_settings(other) && self.same_record(other)
     }
 
     /// Whether both are in the same record, whatever their settings.
