@@ -103,6 +103,15 @@ portstep r d given = line_starts d.time (happens d.what d.time (begun r given))
 abbrev pub source_settings : SettingsData → SourceSettings
 source_settings s = record { supplies = s.supplies; identity_tries = s.identity_tries; unconstrained = s.unconstrained }
 
+-- what a port of this floor in mW is set to, of what its source is set to
+abbrev pub set_to : ℕ → SourceSettings → SettingsData
+set_to floor_mw s =
+    record { floor_mw = floor_mw; supplies = s.supplies; identity_tries = s.identity_tries; unconstrained = s.unconstrained }
+
+-- and of all that it keeps
+abbrev pub settings_of : ℕ → PortParts → SettingsData
+settings_of floor_mw r = set_to floor_mw r.source.settings
+
 abbrev pub whole : SettingsData → PortRecord → PortParts
 whole s r = with_settings (source_settings s) r
 

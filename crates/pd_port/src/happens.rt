@@ -1,11 +1,10 @@
 //! What each event does to a port.
 
 ghost use Rattle.std.specs.Prelude.{◌≡◌, ℕ, ◌<◌, ◌≤◌, length};
-ghost use Rattle.pd_port.specs.Port.{source_settings};
 ghost use Rattle.pd_port.specs.Happens.{detaches, disturbs, gets_source, gets_sink, happens_attached, happens_detached};
 ghost use Rattle.pd_port.specs.Happens.{port_event_happens, budget_changes, event_happens};
 
-use crate::{EventKind, Happening, PortEventKind, Settings};
+use crate::{EventKind, Happening, PortEventKind};
 use pd_line::Fault;
 use pd_line::stepping::{Disturbance, PortParts, PortStep};
 use pd_objects::Answer;
@@ -15,14 +14,14 @@ use pd_timers::LAST_TIME;
 
 /// The cable is pulled out.
 #[tactic(auto, unfolding(crate::specs::Happens::detaches))]
-fn detaches(step: &mut PortStep, settings: &Settings)
-    requires { step.old.port.source.settings ≡ source_settings settings.now }
+fn detaches(step: &mut PortStep)
     ensures { step.new ≡ detaches step.old }
 {
+    let source = &step.port.source;
     step.port = PortParts::new(
-        settings.supplies(),
-        settings.identity_tries(),
-        settings.unconstrained(),
+        source.supplies(),
+        source.identity_tries(),
+        source.unconstrained(),
     );
 }
 
@@ -68,15 +67,14 @@ fn gets_sink(step: &mut PortStep, id: u32, t: u64)
 }
 
 /// An event while a sink is attached.
-fn happens_attached(step: &mut PortStep, settings: &Settings, id: u32, kind: &PortEventKind, t: u64)
+fn happens_attached(step: &mut PortStep, id: u32, kind: &PortEventKind, t: u64)
     requires time { t ≤ LAST_TIME }
     requires room { length step.old.faults.items ≡ 0 }
-    requires settings { step.old.port.source.settings ≡ source_settings settings.now }
     ensures { step.new ≡ happens_attached id kind.now t step.old }
 {
     match kind {
         EventKind::Attach { .. } => step.note(Fault::Ignored { id }),
-        EventKind::Detach => detaches(step, settings),
+        EventKind::Detach => detaches(step),
         EventKind::Demand(demand) => step.sink_steps(t, &SinkStimulus::Demand(*demand)),
         EventKind::Lose => disturbs(step, id, Disturbance::Lost),
         EventKind::Damage(damage) => disturbs(step, id, Disturbance::Damaged(*damage)),
@@ -98,20 +96,13 @@ fn happens_detached(step: &mut PortStep, id: u32, kind: &PortEventKind, t: u64)
 }
 
 /// An event of the port.
-fn port_event_happens(
-    step: &mut PortStep,
-    settings: &Settings,
-    id: u32,
-    kind: &PortEventKind,
-    t: u64,
-)
+fn port_event_happens(step: &mut PortStep, id: u32, kind: &PortEventKind, t: u64)
     requires time { t ≤ LAST_TIME }
     requires room { length step.old.faults.items ≡ 0 }
-    requires settings { step.old.port.source.settings ≡ source_settings settings.now }
     ensures { step.new ≡ port_event_happens id kind.now t step.old }
 {
     if step.port.cable.is_some() {
-        happens_attached(step, settings, id, kind, t);
+        happens_attached(step, id, kind, t);
     } else {
         happens_detached(step, id, kind, t);
     }
@@ -130,14 +121,13 @@ fn budget_changes(step: &mut PortStep, t: u64)
 }
 
 /// What an event does.
-pub(crate) fn event_happens(step: &mut PortStep, settings: &Settings, happening: &Happening, t: u64)
+pub(crate) fn event_happens(step: &mut PortStep, happening: &Happening, t: u64)
     requires time { t ≤ LAST_TIME }
     requires room { length step.old.faults.items ≡ 0 }
-    requires settings { step.old.port.source.settings ≡ source_settings settings.now }
     ensures { step.new ≡ event_happens happening.now t step.old }
 {
     match happening {
-        Happening::Port { id, kind } => port_event_happens(step, settings, *id, kind, t),
+        Happening::Port { id, kind } => port_event_happens(step, *id, kind, t),
         Happening::Budget => budget_changes(step, t),
     }
 }

@@ -5,7 +5,7 @@ ghost use Rattle.std.specs.Option.{option_copied};
 ghost use Rattle.pd_line.specs.Record.{without_settings};
 ghost use Rattle.pd_line.specs.declared.port_step.PortStep.{PortStep};
 ghost use Rattle.pd_port.specs.OwnDue.{told_due};
-ghost use Rattle.pd_port.specs.Port.{due as the_due, detached, happens, portstep, source_settings, whole};
+ghost use Rattle.pd_port.specs.Port.{due as the_due, detached, happens, portstep, whole};
 
 use crate::asks::{is_budget, source_told};
 use crate::dues::{due_of_event, earlier_of};
@@ -20,31 +20,29 @@ use pd_line::stepping::{PortParts, PortStep};
 use pd_objects::{Answer, Contract, Query};
 use pd_sink::State as SinkState;
 use pd_source::State as SourceState;
+use pd_symbols::copied;
 use pd_timers::LAST_TIME;
 use std::marker::Model;
 
-/// One port of a charger, with what it is set to.
+/// One port of a charger, with what it is set to: its source has all of that but the floor.
 #[derive(Clone, Copy)]
 pub struct Port {
-    settings: Settings,
+    floor_mw: u32,
     parts: PortParts,
 }
 
 impl Model for Port {
-    ghost use Rattle.std.specs.Prelude.{◌≡◌};
-    ghost use Rattle.std.proofs.Common.{sym};
-    ghost use Rattle.pd_line.specs.Record.{with_settings, without_settings};
-    ghost use Rattle.pd_port.specs.Port.{PortData, source_settings};
+    ghost use Rattle.pd_line.specs.Record.{without_settings};
+    ghost use Rattle.pd_setup.specs.Settings.{IsSettings};
+    ghost use Rattle.pd_port.specs.Port.{PortData, settings_of, whole};
 
     ghost Value = { PortData };
 
-    ghost view = { λ p. record { settings = p.settings; port_record = without_settings p.parts } };
+    ghost view = { λ p. record { settings = settings_of p.floor_mw p.parts; port_record = without_settings p.parts } };
 
-    ghost invariant = { λ p. p.parts.source.settings ≡ source_settings p.settings };
+    ghost invariant = { λ p. IsSettings (settings_of p.floor_mw p.parts) };
 
-    ghost inverse = { λ v. record { settings = v.settings; parts = with_settings (source_settings v.settings) v.port_record } };
-
-    ghost inverse_ok = { λ p h i. record { settings = p.settings; parts = with_settings (sym h i) (without_settings p.parts) } };
+    ghost inverse = { λ v. record { floor_mw = v.settings.floor_mw; parts = whole v.settings v.port_record } };
 }
 
 /// The earliest of the line's end and each engine's first timer.
@@ -70,14 +68,13 @@ fn give(step: &mut PortStep, answer: &Option<Answer>)
 }
 
 /// What falls due happens.
-fn happens(step: &mut PortStep, settings: &Settings, what: &What, t: u64)
+fn happens(step: &mut PortStep, what: &What, t: u64)
     requires time { t ≤ LAST_TIME }
     requires room { length step.old.faults.items ≡ 0 }
-    requires settings { step.old.port.source.settings ≡ source_settings settings.now }
     ensures { step.new ≡ happens what.now t step.old }
 {
     match what {
-        What::Event(event) => event_happens(step, settings, &event.happening(), t),
+        What::Event(event) => event_happens(step, &event.happening(), t),
         What::Line => step.line_ends(t),
         What::Timer { side, timer } => step.tell_timer(*side, *timer, t),
     }
@@ -86,8 +83,7 @@ fn happens(step: &mut PortStep, settings: &Settings, what: &What, t: u64)
 // The parts of a port to which nothing is attached.
 #[tactic(auto, unfolding(crate::specs::Port::detached))]
 fn parts_at_rest(settings: &Settings) -> PortParts
-    ensures record { without_settings result ≡ detached settings.now }
-    ensures settings { result.source.settings ≡ source_settings settings.now }
+    ensures { result ≡ whole settings.now (detached settings.now) }
 {
     PortParts::new(
         settings.supplies(),
@@ -96,31 +92,31 @@ fn parts_at_rest(settings: &Settings) -> PortParts
     )
 }
 
-/// The parts become those of a port, where they aren't yet.
-fn stand_as(parts: &mut PortParts, port: &Port, stands: bool)
-    requires { stands ≡ true → parts.old ≡ whole port.now.settings port.now.port_record }
-    ensures { parts.new ≡ whole port.now.settings port.now.port_record }
+/// The parts become the others, where they aren't yet.
+fn stand_as(parts: &mut PortParts, others: &PortParts, stands: bool)
+    requires { stands ≡ true → parts.old ≡ others.now }
+    ensures { parts.new ≡ others.now }
 {
     if !stands {
-        *parts = port.parts;
+        *parts = *others;
     }
 }
 
-/// The parts, which may stand as a port already, become what its step for this due leaves; its faults and what it starts are put in an
+/// The parts, which may stand as a port's already, become what its step for this due leaves; its faults and what it starts are put in an
 /// entry.
 #[tactic(auto, unfolding(crate::specs::Port::portstep))]
 fn step_parts(
     parts: &mut PortParts,
-    before: &Port,
+    before: &PortParts,
     stands: bool,
     due: &Due,
     answer: &Option<Answer>,
     entry: &mut Entry,
 )
     requires time { due.now.time ≤ LAST_TIME }
-    requires stands { stands ≡ true → parts.old ≡ whole before.now.settings before.now.port_record }
-    ensures parts { parts.new ≡ (portstep (whole before.now.settings before.now.port_record) due.now answer.now).port }
-    ensures entry { let u : PortStep = portstep (whole before.now.settings before.now.port_record) due.now answer.now in
+    requires stands { stands ≡ true → parts.old ≡ before.now }
+    ensures parts { parts.new ≡ (portstep before.now due.now answer.now).port }
+    ensures entry { let u : PortStep = portstep before.now due.now answer.now in
         entry.new ≡ record entry.old { faults = u.faults; start = u.start } }
 {
     if is_poll(due) {
@@ -131,9 +127,9 @@ fn step_parts(
             return;
         }
     }
-    let mut step = PortStep::at_rest(&before.parts);
+    let mut step = PortStep::at_rest(before);
     give(&mut step, answer);
-    happens(&mut step, &before.settings, &due.what, due.time);
+    happens(&mut step, &due.what, due.time);
     step.line_starts(due.time);
     *parts = step.port;
     entry.faults = step.faults;
@@ -150,16 +146,29 @@ impl Port {
         ensures { result ≡ record { settings = settings.now; port_record = detached settings.now } }
     {
         Port {
-            settings: settings.copy(),
+            floor_mw: settings.floor_mw(),
             parts: parts_at_rest(settings),
         }
     }
 
     /// What the port is set to.
-    pub fn settings(&self) -> &Settings
-        ensures { result.now ≡ self.now.settings }
+    pub fn settings(&self) -> Settings
+        ensures { result ≡ self.now.settings }
     {
-        &self.settings
+        let source = &self.parts.source;
+        Settings::new(
+            self.floor_mw,
+            copied(source.supplies()),
+            source.identity_tries(),
+            source.unconstrained(),
+        )
+    }
+
+    /// Whether both ports are set to the same, whatever their records. No settings are copied for it.
+    pub fn same_settings(&self, other: &Port) -> bool
+        ensures { IsTrue result ↔ (self.now.settings ≡ other.now.settings) }
+    {
+        self.floor_mw == other.floor_mw && self.parts.source.same_settings(&other.parts.source)
     }
 
     /// What falls due next on the port, whose next event is given.
@@ -248,8 +257,8 @@ impl Port {
         ensures meter { meter.new ≡ raised meter.old 1 }
     {
         meter.rise();
-        step_parts(&mut self.parts, before, stands, due, answer, entry);
-        self.settings = before.settings;
+        step_parts(&mut self.parts, &before.parts, stands, due, answer, entry);
+        self.floor_mw = before.floor_mw;
         entry.at = due.time;
         entry.due = *due;
         entry.query = query;
@@ -261,9 +270,7 @@ impl Port {
     pub fn hold(&self) -> u64
         ensures { result ≡ hold self.now.settings self.now.port_record }
     {
-        self.parts
-            .source
-            .hold(u64::from(self.settings.floor_mw()) * 1_000)
+        self.parts.source.hold(u64::from(self.floor_mw) * 1_000)
     }
 
     /// The contract that is in force.

@@ -68,7 +68,7 @@ impl SharedPort {
         ensures { IsTrue result ↔ (self.now ≡ other.now) }
     {
         let port = self.port();
-        port.same(other) && port.settings().same(other.settings())
+        port.same(other) && port.same_settings(other)
     }
 
     /// What the port asks of the shared budget before the step for this due.

@@ -2,7 +2,7 @@ use Rattle.std.proofs.Common.{ap, ◌∙◌}
 use Rattle.pd_line.specs.declared.port_step.PortStep.{PortStep}
 use Rattle.pd_line.specs.declared.port_parts.PortParts.{PortParts}
 use Rattle.pd_port.specs.Port.{happens, portstep}
-use Rattle.pd_port.proofs.Steps.{portstep_is, led_whole}
+use Rattle.pd_port.proofs.Steps.{portstep_is}
 use Rattle.pd_port.proofs.Polled.{polled_entry}
 use Rattle.pd_port.proofs.port.step_parts.Goals as goal
 
@@ -20,16 +20,14 @@ returns-then-polls_again-clause-entry c =
 
 pub returns-clause-parts : goal.returns-clause-parts
 returns-clause-parts c =
-    let p = c.before-2.inside.parts in let d = c.args.due.now in let given = c.args.answer.now in
-    let is = portstep_is p d given c.at_rest-step.result c.happens.new.step c.line_starts.new.self c.at_rest-step.ensures
-    (c.happens.ensures ∙ ap (happens d.what d.time) c.give.ensures) c.line_starts.ensures.after in
-    let done = led_whole c.args.before.now c.before-2.inside.settings p d given c.before-2.view_is c.before-2.invariant in
-    ap (λ (x : PortStep). x.port) (is ∙ done)
+    let d = c.args.due.now in
+    let is = portstep_is c.args.before.now d c.args.answer.now c.at_rest-step.result c.happens.new.step c.line_starts.new.self
+    c.at_rest-step.ensures (c.happens.ensures ∙ ap (happens d.what d.time) c.give.ensures) c.line_starts.ensures.after in
+    ap (λ (x : PortStep). x.port) is
 
 pub returns-clause-entry : goal.returns-clause-entry
 returns-clause-entry c =
-    let p = c.before-2.inside.parts in let d = c.args.due.now in let given = c.args.answer.now in
-    let is = portstep_is p d given c.at_rest-step.result c.happens.new.step c.line_starts.new.self c.at_rest-step.ensures
-    (c.happens.ensures ∙ ap (happens d.what d.time) c.give.ensures) c.line_starts.ensures.after in
-    let done = led_whole c.args.before.now c.before-2.inside.settings p d given c.before-2.view_is c.before-2.invariant in
-    ap (λ (x : PortStep). record c.args.entry.now { faults = x.faults; start = x.start }) (is ∙ done)
+    let d = c.args.due.now in
+    let is = portstep_is c.args.before.now d c.args.answer.now c.at_rest-step.result c.happens.new.step c.line_starts.new.self
+    c.at_rest-step.ensures (c.happens.ensures ∙ ap (happens d.what d.time) c.give.ensures) c.line_starts.ensures.after in
+    ap (λ (x : PortStep). record c.args.entry.now { faults = x.faults; start = x.start }) is

@@ -1,0 +1,7 @@
+use Rattle.std.proofs.Common.{rules}
+use Rattle.pd_port.proofs.Steps.{ask_told}
+use Rattle.pd_port.proofs.port.Port.asks.Goals as goal
+
+pub returns-in-Some : goal.returns-in-Some
+returns-in-Some c =
+    rw (ask_told c.args.self.now c.self.inside.floor_mw c.self.inside.parts c.args.due.now c.self.view_is (search rules)) (search rules)
