@@ -58,7 +58,7 @@ read_at moves i k there = same_Some _ _ (sym (slice_get-get_or moves i k (slice_
 pub quiet_at : (moves : List KeptData) (briefs : List Brief) (i : ℕ) (k : KeptData) → AreBrief moves briefs
     → slice_get moves i ≡ Some k → (slice_index_or briefs i no_brief).stirs ≡ false → IsQuiet k
 quiet_at moves briefs i k brief there none =
-    subst IsQuiet (read_at moves i k there) ((brief.told i k (slice_get_within moves i k there)).quiet none)
+    subst IsQuiet (read_at moves i k there) ((brief.told i k (slice_get_within moves i k there)).quiet.0 none)
 
 -- one more move with its brief
 pub brief_more : (moves : List KeptData) (briefs : List Brief) (k : KeptData) (b : Brief) → AreBrief moves briefs → IsBrief k b

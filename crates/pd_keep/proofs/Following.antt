@@ -1,7 +1,7 @@
 -- Ports that follow an older run through a span.
 use Rattle.std.proofs.Common.{◌≡◌, ◌≢◌, ⊎_elim, ℕ, ◌+◌, ◌-◌, ◌<◌, ◌≤◌, Bool, true, false, List, [], ◌∷◌, ◌++◌, length}
 use Rattle.std.proofs.Common.{Option, None, refl, ap, sym, ◌∙◌, subst, arith, get_or, set, take, drop, replicate, slice_index_or}
-use Rattle.std.proofs.Common.{slice_index, slice_set, zero, suc, map, append_assoc}
+use Rattle.std.proofs.Common.{MatchOption, Some, inl, inr, slice_index, slice_set, zero, suc, map, append_assoc}
 use Rattle.std.proofs.lemmas.List.{get_or-set_same, get_or-set_other, length-set, get_or-take, get_or-replicate, length-replicate}
 use Rattle.std.proofs.lemmas.List.{length-take}
 use Rattle.std.proofs.Math.ListN.{get_or-append}
@@ -26,13 +26,29 @@ use Rattle.pd_run.proofs.StepsLeft.{steps_left_less}
 use Rattle.pd_port.specs.declared.due.What.TheVariants as what
 use Rattle.pd_run.specs.Start.{no_port}
 use Rattle.pd_keep.specs.declared.kept_move.Brief.{Brief}
-use Rattle.pd_keep.specs.Following.{IsPassing, HasPassed, CanFollow, GoBeside}
+use Rattle.pd_keep.specs.Following.{IsPassing, HasPassed, CanFollow, ComesAfter, ComesFirst, GoBeside}
 use Rattle.pd_keep.specs.Kept.{KeptData, RunData, IsBrief, KeepsHold, kept_of, move_of, held_by}
 use Rattle.pd_keep.proofs.Asked.{hold_left}
 
 -- stands where there is no move
 pub some_kept : KeptData
 some_kept = kept_of 0 no_port (record { time = 0; what = what.Line }) None
+
+-- no move comes both before and after what is next on other ports
+pub not_both : (k : KeptData) (own : Option (ℕ × Due)) → ComesFirst k own → MatchOption own ⊥ (λ r. ComesAfter k r.0 r.1) → ⊥
+not_both k None first after = after
+not_both k (Some r) (inl earlier) (inl later) = omega arith
+not_both k (Some r) (inl earlier) (inr same) = omega (arith, same.0)
+not_both k (Some r) (inr same) (inl later) = omega (arith, same.0)
+not_both k (Some r) (inr same) (inr too) = omega (arith, same.1, too.1)
+
+-- of two briefs of a move both stir or neither
+stirs_where : (k : KeptData) (b c : Brief) (stirs : Bool) → c.stirs ≡ stirs → IsBrief k b → IsBrief k c → b.stirs ≡ true → stirs ≡ true
+stirs_where k b c true is one other told = refl
+stirs_where k b c false is one other told = absurd (let quiet = one.quiet.1 (other.quiet.0 is) in cc)
+
+pub both_stir : (k : KeptData) (b c : Brief) → IsBrief k b → IsBrief k c → b.stirs ≡ true → c.stirs ≡ true
+both_stir k b c one other told = stirs_where k b c c.stirs refl one other told
 
 -- Marks of ports.
 
@@ -259,7 +275,7 @@ pub passed_quiet : (n : ℕ) (plan : Plan) (past : List Move) (away : List Bool)
     → HasPassed plan past away whole
     (record live { taken = slice_set live.taken (b.port - 1) (had_with (slice_index live.taken (b.port - 1)) b.is_event) }) k
 passed_quiet n plan past away whole live k b is h brief none =
-    let quiet = brief.quiet none in
+    let quiet = brief.quiet.0 none in
     passed_still n plan past away whole live k b is h brief
     (unasked plan past (move_of k) h.goes quiet.unasked quiet.unanswered) quiet.same_hold
 

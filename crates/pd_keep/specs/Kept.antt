@@ -1,5 +1,5 @@
 -- Moves that are kept.
-use Rattle.std.specs.Prelude.{◌≡◌, ℕ, ◌-◌, ◌<◌, ◌≤◌, ◌==◌, if◌then◌else◌, true, false, List, [], ◌∷◌, length}
+use Rattle.std.specs.Prelude.{◌≡◌, ◌↔◌, ℕ, ◌-◌, ◌<◌, ◌≤◌, ◌==◌, if◌then◌else◌, true, false, List, [], ◌∷◌, length}
 use Rattle.std.specs.Prelude.{Option, None, Some, drop, slice_index_or, take}
 use Rattle.pd_objects.specs.declared.query.Answer.{Answer}
 use Rattle.pd_port.specs.declared.due.Due.{Due}
@@ -105,14 +105,14 @@ pub record IsQuiet (k : KeptData) : Type 0 where
   pub unanswered : k.answer ≡ None
   pub same_hold : KeepsHold k
 
--- this is the brief of a move: when it was, of which port, whether for an event, and what the port held before it; it is quiet, unless
--- it is marked as one that may not be, and keeps its port's hold where it is marked so
+-- this is the brief of a move: when it was, of which port, whether for an event, and what the port held before it; it stirs where it
+-- isn't quiet, and is marked where it keeps its port's hold
 pub record IsBrief (k : KeptData) (b : Brief) : Type 0 where
   pub time : b.time ≡ k.due.time
   pub port : b.port ≡ k.port
   pub event : b.is_event ≡ is_event k.due.what
-  pub quiet : b.stirs ≡ false → IsQuiet k
-  pub keeps : b.keeps_hold ≡ true → KeepsHold k
+  pub quiet : (b.stirs ≡ false) ↔ IsQuiet k
+  pub keeps : (b.keeps_hold ≡ true) ↔ KeepsHold k
   pub held : b.held ≡ held_by k.before
 
 -- stands where there is no move

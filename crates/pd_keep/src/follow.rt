@@ -1,6 +1,6 @@
 //! A span of a run beside an older run's, in which ports that stand as the older run's follow it.
 
-ghost use Rattle.std.specs.Prelude.{◌≡◌, ◌⊎◌, ℕ, ◌-◌, ◌<◌, ◌≤◌, ◌++◌, List, IfOk, IfSome, OnOk, IsTrue, IsFalse, map, length};
+ghost use Rattle.std.specs.Prelude.{◌≡◌, ◌⊎◌, ◌↔◌, ℕ, ◌-◌, ◌<◌, ◌≤◌, ◌++◌, List, IfOk, IfSome, IfNone, OnOk, IsTrue, IsFalse, map, length};
 ghost use Rattle.std.specs.Prelude.{All, Bool, MatchOption, None, replicate, true, false, slice_index_or};
 ghost use Rattle.pd_port.specs.Port.{PortData};
 ghost use Rattle.pd_scenario.specs.Plan.{Plan as PlanData, count, force};
@@ -10,6 +10,7 @@ ghost use Rattle.pd_run.specs.Start.{no_port};
 ghost use Rattle.pd_keep.specs.Following.{AreNumbered, CanFollow, ComesAfter, ComesFirst, HasCome, HasCameOn, HasPassed, IsAway};
 ghost use Rattle.pd_keep.specs.Following.{followed_to, IsFirstFollowed, IsFollowedTurn, IsNextFollowed, IsOwnNext, IsOwnTurn};
 ghost use Rattle.pd_keep.specs.Following.{IsPassing, IsThrough, KeepHold};
+ghost use Rattle.pd_keep.specs.declared.kept_move.Brief.{Brief as BriefData};
 ghost use Rattle.pd_keep.specs.Kept.{KeptData, move_of, moves_from, IsBrief, IsKnown, IsMade, IsOwn, AreInTime, held_by, left_by};
 ghost use Rattle.pd_keep.specs.Places.{StandAs};
 ghost use Rattle.pd_keep.specs.Rerun.{AreThose, Costs, IsNextSpan};
@@ -52,8 +53,8 @@ fn pass_over(old: &KeptMoves, course: &mut Course)
     requires numbered { AreNumbered 8 old.now.moves }
     requires within { course.old.at ≤ length old.now.moves }
     ensures next { IsNextFollowed old.now.moves course.new.away course.old.at course.new.at }
-    ensures held { IsTrue course.new.same_holds → IsTrue course.old.same_holds
-        × KeepHold old.now.moves course.old.at course.new.at }
+    ensures held { IsTrue course.new.same_holds ↔ (IsTrue course.old.same_holds
+        × KeepHold old.now.moves course.old.at course.new.at) }
     ensures rest { course.new ≡ record course.old { at = course.new.at; same_holds = course.new.same_holds } }
 {
     let at = next_followed(old, course.at, &course.away);
@@ -64,7 +65,7 @@ fn pass_over(old: &KeptMoves, course: &mut Course)
 // Whether no move from a place to another changes what its port holds.
 fn keep_hold(old: &KeptMoves, from: usize, to: usize) -> bool
     requires within { to ≤ length old.now.moves }
-    ensures { IsTrue result → KeepHold old.now.moves from to }
+    ensures { IsTrue result ↔ KeepHold old.now.moves from to }
 {
     for i in from..to {
         if !old.brief(i).keeps_hold {
@@ -123,6 +124,7 @@ fn pass_on<const N: usize>(
         ≡ left_by course.now.span.first (course.now.span.moves ++ moves_from old.now.moves course.now.at (i - course.now.at))
         ((slice_index_or old.now.moves i k).port - 1) }
     ensures dues { live.new.dues ≡ live.old.dues }
+    ensures stops { (brief : BriefData) → IsFirstFollowed old.now.moves course.now.away result own.now brief → brief.stirs ≡ true }
 {
     let _len = old.len();
     let mut at = course.at;
@@ -144,7 +146,8 @@ fn first_followed(
 ) -> Option<Brief>
     requires few { (i : ℕ) (k : KeptData) → i < length old.now.moves
         → (1 ≤ (slice_index_or old.now.moves i k).port) × ((slice_index_or old.now.moves i k).port ≤ 8) }
-    ensures { IfSome result (λ brief. IsFirstFollowed old.now.moves away.now at own.now brief) }
+    ensures some { IfSome result (λ brief. IsFirstFollowed old.now.moves away.now at own.now brief) }
+    ensures none { IfNone result ((brief : BriefData) → IsFirstFollowed old.now.moves away.now at own.now brief → ⊥) }
 {
     if comes_first(old, at, own) {
         let brief = old.brief(at);
@@ -157,7 +160,7 @@ fn first_followed(
 
 // Whether a move's answer is known, and its port's hold stays: it stirs nothing, or all ports hold as much as in the older run.
 fn is_known(brief: &Brief, same_holds: bool) -> bool
-    ensures { IsTrue result → (brief.now.stirs ≡ false) ⊎ (IsTrue same_holds × (brief.now.keeps_hold ≡ true)) }
+    ensures { IsTrue result ↔ ((brief.now.stirs ≡ false) ⊎ (IsTrue same_holds × (brief.now.keeps_hold ≡ true))) }
 {
     !brief.stirs || same_holds && brief.keeps_hold
 }
@@ -184,6 +187,7 @@ fn passes<const N: usize>(
     ensures dues { live.new.dues ≡ live.old.dues }
     ensures other { IsFalse result → (k : KeptData)
         → live.new ≡ at_budget live.old (force plan.now (slice_index_or old.now.moves at k).due.time) }
+    ensures stirs { IsFalse result → brief.now.stirs ≡ true }
 {
     let _end = plan.end();
     if is_known(brief, same_holds) {
@@ -345,8 +349,8 @@ fn turn<const N: usize>(
 fn hold_alike<const N: usize>(old: &KeptMoves, alike: &[bool; 8], live: &Live<N>) -> bool
     requires few { N ≤ 8 }
     requires count { length old.now.first ≡ N }
-    ensures { IsTrue result → (p : ℕ) → p < N → slice_index_or alike.now p false ≡ false
-        → held_by (slice_index_or old.now.first p no_port) ≡ held_by (port_at live.now p) }
+    ensures { IsTrue result ↔ ((p : ℕ) → p < N → slice_index_or alike.now p false ≡ false
+        → held_by (slice_index_or old.now.first p no_port) ≡ held_by (port_at live.now p)) }
 {
     for port in 0..N {
         if !alike[port] && old.first_hold(port) != live.hold(port + 1) {

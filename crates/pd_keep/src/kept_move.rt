@@ -131,7 +131,7 @@ impl KeptMove {
 
     // Whether the move asked anything of the shared budget, or its port holds more or less of it than before.
     fn stirs(&self) -> bool
-        ensures { result ≡ false → IsQuiet self.now }
+        ensures { (result ≡ false) ↔ IsQuiet self.now }
     {
         self.entry().query.is_some() || self.answer().is_some() || !self.keeps_hold()
     }

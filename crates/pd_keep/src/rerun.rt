@@ -115,7 +115,7 @@ fn run_beside<const N: usize>(
 
 // Whether each port has the same floor in both plans.
 fn have_same_floors<const N: usize>(old: &Plan<N>, plan: &Plan<N>) -> bool
-    ensures { IsTrue result → floors_of old.now ≡ floors_of plan.now }
+    ensures { IsTrue result ↔ (floors_of old.now ≡ floors_of plan.now) }
 {
     let _ends = (old.end(), plan.end());
     for place in 0..N {

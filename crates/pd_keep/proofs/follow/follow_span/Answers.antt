@@ -21,7 +21,7 @@ loop-course-init g c = record {
       (elim c.if-share.branch [
         | then-share w ↦ λ known.
             held_first g.row.N a all c.args.old.now c.args.plan.now past from c.args.alike.now c.args.share c.args.live.now h
-            w.if-share.true (w.hold_alike-same_holds.ensures (sym w.same_holds-is ∙ known))
+            w.if-share.true (w.hold_alike-same_holds.ensures.0 (sym w.same_holds-is ∙ known))
         | else-share w ↦ λ known. absurd (let none = sym w.if-share.false ∙ sym w.same_holds-is ∙ known in cc)
       ])
       (c.set_aside.ensures c.args.plan.now past c.end-end.ensures.is_plan.settings_count h.stands) c.told-alike

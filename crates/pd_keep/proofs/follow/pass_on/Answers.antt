@@ -3,7 +3,7 @@ use Rattle.std.proofs.lemmas.Bool.{cases_lt}
 use Rattle.pd_keep.specs.Following.{HasCome, followed_to}
 use Rattle.pd_keep.specs.Kept.{RunData, left_by, move_of, moves_from}
 use Rattle.pd_keep.proofs.Course.{come_budget, come_here, first_answered, first_passed, first_passing, passing_left}
-use Rattle.pd_keep.proofs.Following.{some_kept}
+use Rattle.pd_keep.proofs.Following.{both_stir, some_kept}
 use Rattle.pd_keep.proofs.follow.pass_on.Goals as goal
 
 pub loop-brief-init : goal.loop-brief-init
@@ -28,7 +28,7 @@ first_followed-requires g c = record {
 pub passes-requires : goal.passes-requires
 passes-requires g c =
     let r = c.requires.come in
-    let q = c.in-Some.ensures in
+    let q = c.in-Some.ensures.some in
     let x = c.loop-brief.invariant in
     let old : RunData = c.args.old.now in
     let course = c.args.course.now in
@@ -57,21 +57,21 @@ passes-requires g c =
 
 pub overflow_add-at : goal.overflow_add-at
 overflow_add-at g c =
-    let q = c.in-Some.ensures in
+    let q = c.in-Some.ensures.some in
     let inside = q.inside in
     let count = c.len-len.ensures in
     omega arith
 
 pub loop-brief-smaller : goal.loop-brief-smaller
 loop-brief-smaller g c =
-    let q = c.in-Some.ensures in
+    let q = c.in-Some.ensures.some in
     let inside = q.inside in
     omega arith
 
 pub loop-brief-preserved : goal.loop-brief-preserved
 loop-brief-preserved g c =
     let r = c.requires.come in
-    let q = c.in-Some.ensures in
+    let q = c.in-Some.ensures.some in
     let inside = q.inside in
     let x = c.loop-brief.invariant in
     let from_on = x.from_on in
@@ -118,3 +118,8 @@ returns-then-not-passes-clause-passed g c = λ a all past from most first meter 
     (sym (c.passes.ensures.other c.if-not-passes.true some_kept))
     (come_budget g.row.N a all old plan past from most first meter (followed_to course old.moves c.loop-brief.at) c.loop-brief.live _
     (c.loop-brief.invariant.come a all past from most first meter begun))
+
+pub returns-then-not-passes-clause-stops : goal.returns-then-not-passes-clause-stops
+returns-then-not-passes-clause-stops g c = λ brief is.
+    both_stir (slice_index_or c.args.old.now.moves c.loop-brief.at some_kept) c.in-Some.brief brief
+    (c.in-Some.ensures.some.brief some_kept) (is.brief some_kept) (c.passes.ensures.stirs c.if-not-passes.true)

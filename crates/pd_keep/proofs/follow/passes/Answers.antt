@@ -40,8 +40,8 @@ returns-then-is_known-clause-passed g c = λ _ past away whole d passing answere
     c.end-end.ensures.is_plan passing (c.requires.brief d) quiet)
     (λ (alike : IsTrue c.args.same_holds × (c.args.brief.now.keeps_hold ≡ true)).
     passed_still g.row.N plan past away whole c.args.live.now (slice_index_or c.args.old.now.moves c.args.at d) c.args.brief.now
-    c.end-end.ensures.is_plan passing (c.requires.brief d) (answered alike.0) ((c.requires.brief d).keeps alike.1))
-    (c.is_known.ensures c.if-is_known.true))
+    c.end-end.ensures.is_plan passing (c.requires.brief d) (answered alike.0) ((c.requires.brief d).keeps.0 alike.1))
+    (c.is_known.ensures.0 c.if-is_known.true))
 
 pub follow-requires : goal.follow-requires
 follow-requires g c =

@@ -26,7 +26,7 @@ pass_on-passed-requires g c =
               r.5,
               c.args.meter.now,
               advanced g.row.N r.0 r.1 c.args.old.now c.args.plan.now r.2 r.3 r.4 r.5 c.args.meter.now c.args.course.now
-                  c.pass_over.new.course c.args.live.now some_kept r.6 c.pass_over.ensures.next c.pass_over.ensures.held
+                  c.pass_over.new.course c.args.live.now some_kept r.6 c.pass_over.ensures.next c.pass_over.ensures.held.0
                   c.pass_over.ensures.rest,
             ),
           ),
@@ -38,7 +38,7 @@ pub returns-then-passed-course-clause-came : goal.returns-then-passed-course-cla
 returns-then-passed-course-clause-came g c = λ _ a all past from most first h.
     let old : RunData = c.args.old.now in
     let begun = advanced g.row.N a all old c.args.plan.now past from most first c.args.meter.now c.args.course.now
-    c.pass_over.new.course c.args.live.now some_kept h c.pass_over.ensures.next c.pass_over.ensures.held
+    c.pass_over.new.course c.args.live.now some_kept h c.pass_over.ensures.next c.pass_over.ensures.held.0
     c.pass_over.ensures.rest in
     let come = c.pass_on-passed.ensures.passed a all past from most first c.args.meter.now begun in
     let count = followed_count c.pass_over.new.course old.moves c.pass_on-passed.result
@@ -88,7 +88,7 @@ turn_at-requires g c =
                         c.pass_over.new.course c.pass_on-passed.new.live c.pass_on-passed.result
                         (c.pass_on-passed.ensures.passed r.0 r.1 r.2 r.3 r.4 r.5 c.args.meter.now
                         (advanced g.row.N r.0 r.1 c.args.old.now c.args.plan.now r.2 r.3 r.4 r.5 c.args.meter.now c.args.course.now
-                        c.pass_over.new.course c.args.live.now some_kept r.6 c.pass_over.ensures.next c.pass_over.ensures.held
+                        c.pass_over.new.course c.args.live.now some_kept r.6 c.pass_over.ensures.next c.pass_over.ensures.held.0
                         c.pass_over.ensures.rest)) here,
                   ),
                 ),
@@ -111,7 +111,7 @@ returns-clause-came g c =
     c.pass_over.new.course c.pass_on-passed.new.live c.pass_on-passed.result
     (c.pass_on-passed.ensures.passed a all past from most first c.args.meter.now
     (advanced g.row.N a all c.args.old.now c.args.plan.now past from most first c.args.meter.now c.args.course.now
-    c.pass_over.new.course c.args.live.now some_kept come c.pass_over.ensures.next c.pass_over.ensures.held
+    c.pass_over.new.course c.args.live.now some_kept come c.pass_over.ensures.next c.pass_over.ensures.held.0
     c.pass_over.ensures.rest)) here))) c.turn_at.ensures.came
 
 pub returns-clause-through : goal.returns-clause-through
@@ -124,5 +124,5 @@ returns-clause-through g c =
     c.pass_over.new.course c.pass_on-passed.new.live c.pass_on-passed.result
     (c.pass_on-passed.ensures.passed a all past from most first c.args.meter.now
     (advanced g.row.N a all c.args.old.now c.args.plan.now past from most first c.args.meter.now c.args.course.now
-    c.pass_over.new.course c.args.live.now some_kept come c.pass_over.ensures.next c.pass_over.ensures.held
+    c.pass_over.new.course c.args.live.now some_kept come c.pass_over.ensures.next c.pass_over.ensures.held.0
     c.pass_over.ensures.rest)) here)) c.turn_at.ensures.through

@@ -45,7 +45,7 @@ next_spans-requires g c =
     i.so_far i.stands i.begins there (omega arith) i.now
     (record {
       agrees = subst (λ t. AgreeAs c.advance-agree.result old plan c.loop-at.beside.at t) to_is c.advance-agree.ensures.agree;
-      floors = c.have_same_floors-same_floors.ensures;
+      floors = c.have_same_floors-same_floors.ensures.0;
     }) in
     (omega arith, (omega arith, (old, old_spans, comes)))
 
@@ -74,7 +74,7 @@ loop-at-preserved g c =
     i.so_far i.stands i.begins there (omega arith) i.now
     (record {
       agrees = subst (λ t. AgreeAs c.advance-agree.result old plan c.loop-at.beside.at t) to_is c.advance-agree.ensures.agree;
-      floors = c.have_same_floors-same_floors.ensures;
+      floors = c.have_same_floors-same_floors.ensures.0;
     }) in
     let end_is : c.to-at.result ≡ s.to = c.to-at.ensures ∙ ap (λ (r : RunData). r.to) c.deref-in-loop-at.ensures in
     let one : suc place ≡ place + 1 = omega arith in
