@@ -117,7 +117,7 @@ pub enum Act {
 }
 
 /// Which message a row sends: its objects are made where it is sent.
-#[derive(Clone, Copy, Debug, PartialEq, Eq)]
+#[derive(Clone, Copy)]
 pub(crate) enum Message {
     Request,
     GetSourceCap,
@@ -127,7 +127,7 @@ pub(crate) enum Message {
 }
 
 /// One thing that a row of the state table does: a change of what the engine keeps, or an act.
-#[derive(Clone, Copy, Debug)]
+#[derive(Clone, Copy)]
 pub(crate) enum Deed {
     /// Enters a state: no timer runs, nothing waits on this side, and nothing was sent.
     Enter(State),
@@ -162,7 +162,7 @@ pub(crate) enum Deed {
 }
 
 /// What the guards of the rows ask: one answer for each guard.
-#[derive(Clone, Copy, Debug)]
+#[derive(Clone, Copy)]
 pub(crate) struct Facts {
     /// A sink is attached that does not speak USB Power Delivery.
     pub plain: bool,

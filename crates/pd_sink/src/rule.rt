@@ -9,7 +9,7 @@ use pd_objects::FixedSupply;
 use pd_setup::{SinkMode, SinkSettings};
 
 /// A supply of an offer that a sink accepts: its position in the offer, from 1, its voltage in mV and its current in mA.
-#[derive(Clone, Copy, Debug, Default)]
+#[derive(Clone, Copy, Default)]
 pub(crate) struct Offered {
     pub position: u8,
     pub mv: u16,
@@ -17,7 +17,7 @@ pub(crate) struct Offered {
 }
 
 /// What a sink asks for: the position of a supply, a current in mA, and whether the offer falls short of the need.
-#[derive(Clone, Copy, Debug)]
+#[derive(Clone, Copy)]
 pub(crate) struct Asked {
     pub position: u8,
     pub ma: u16,

@@ -151,7 +151,7 @@ pub enum Revision {
 }
 
 /// What a stimulus counts as in the state table: a plug's answer is told by its kind alone, a Request without its object.
-#[derive(Clone, Copy, Debug)]
+#[derive(Clone, Copy)]
 pub(crate) enum Heard {
     Attach,
     Ended(Timer),
@@ -172,7 +172,7 @@ pub(crate) enum Heard {
 }
 
 /// Which message a row sends: its objects are made where it is sent.
-#[derive(Clone, Copy, Debug)]
+#[derive(Clone, Copy)]
 pub(crate) enum Message {
     DiscoverIdentity,
     SourceCapabilities,
@@ -185,7 +185,7 @@ pub(crate) enum Message {
 }
 
 /// One thing that a row of the state table does: a change of what the engine keeps, or an act.
-#[derive(Clone, Copy, Debug)]
+#[derive(Clone, Copy)]
 pub(crate) enum Deed {
     /// Enters a state: no timer runs, nothing waits on this side, and nothing was sent.
     Enter(State),
@@ -236,7 +236,7 @@ pub(crate) enum Deed {
 }
 
 /// What the guards of the rows ask: one answer for each guard.
-#[derive(Clone, Copy, Debug)]
+#[derive(Clone, Copy)]
 pub(crate) struct Facts {
     /// The cable's limit is known.
     pub limit_known: bool,
