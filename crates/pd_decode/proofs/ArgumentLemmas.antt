@@ -70,9 +70,6 @@ pub record IsSoFar (parts : List (List ℕ)) (codes : List ℕ) : Type 0 where
   pub bytes : AllByRecursion (λ code. code < 256) codes
   pub texts : map (map to_ascii_uppercase) parts ≡ map (hex_digits 2) codes
 
-pub SoFar-nothing : IsSoFar [] []
-SoFar-nothing = record { bytes = tt; texts = refl }
-
 bytes-push : (codes : List ℕ) (code : ℕ) → AllByRecursion (λ c. c < 256) codes → code < 256 →
     AllByRecursion (λ c. c < 256) (codes ++ code ∷ [])
 bytes-push [] code all lt = (lt, tt)

@@ -4,10 +4,10 @@ use Rattle.std.proofs.Common.{refl, sym, ap, ◌∙◌, append_assoc, arith, Opt
 use Rattle.std.specs.Prelude.{MatchResult}
 use Rattle.std.specs.Str.Lines.{lines, strip_carriage_return}
 use Rattle.std.specs.Io.KnownBytes.{Appends, Consumes, IsAtEnd}
-use Rattle.std.proofs.KnownBytes.{Appends-nil, Appends-trans, Consumes-nil, Consumes-trans}
+use Rattle.std.proofs.KnownBytes.{Appends-trans, Consumes-trans}
 use Rattle.std.proofs.lemmas.Bool.{ne_eqb}
 use Rattle.std.proofs.lemmas.List.{append-nil, length-append, map-append}
-use Rattle.std.proofs.lemmas.List.Elements.{All-nil, All-push}
+use Rattle.std.proofs.lemmas.List.Elements.{All-push}
 use Rattle.pd_port.specs.declared.entry.Entry.{Entry}
 use Rattle.pd_scenario.specs.Scenarios.{ScenarioData}
 use Rattle.pd_scenario.specs.Plan.{Plan}
@@ -91,20 +91,6 @@ last_line-none [] none = refl
 last_line-none (byte ∷ more) none = absurd (omega arith)
 
 -- 3. The lines that line feeds end
-
-pub Answering-none : (n : ℕ) (left taken : Option (List ℕ)) (w : Beside) (s : ScenarioData) →
-    Answering n left left taken taken w w s (at_first s) 0
-Answering-none n left taken w s = record {
-  whole = [];
-  are_whole = All-nil HasNoLineFeed;
-  consumes = Consumes-nil left;
-  counts = refl;
-  out = [];
-  appends = Appends-nil taken;
-  tolds = [];
-  tells = refl;
-  are_replies = (refl, refl, refl);
-}
 
 -- one line more, which was answered
 pub Answering-more : (n : ℕ) (a b c p q r : Option (List ℕ)) (w w' w'' : Beside) (s : ScenarioData) (d d' : Standing) (total total' : ℕ)

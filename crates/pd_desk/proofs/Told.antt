@@ -1,5 +1,5 @@
 -- What is told beside an answer.
-use Rattle.std.proofs.Common.{◌≡◌, ◌≢◌, ℕ, ◌+◌, List, [], ◌∷◌, ◌++◌, Result, Ok, Err, inl, inr, refl, sym, ◌∙◌, arith}
+use Rattle.std.proofs.Common.{◌≡◌, ◌≢◌, ℕ, ◌+◌, List, [], ◌∷◌, ◌++◌, Result, Ok, Err, inl, inr, refl, sym, ◌∙◌}
 use Rattle.std.proofs.Common.{Bool, true, false}
 use Rattle.pd_scenario.specs.Scenarios.{ScenarioData}
 use Rattle.pd_edit.specs.Refusals.{edited}
@@ -9,10 +9,9 @@ use Rattle.pd_edit_lines.specs.declared.line.Show.{Show}
 use Rattle.pd_edit_lines.specs.Numbers.{number_of}
 use Rattle.pd_edit_lines.specs.declared.fault.EditFault.{EditFault}
 use Rattle.pd_edit_lines.specs.declared.fault.EditFault.TheVariants as edit_faults
-use Rattle.pd_bench.specs.declared.tally.Tally.{Tally}
 use Rattle.pd_bench.specs.declared.tally.Outcome.{Outcome}
 use Rattle.pd_bench.specs.declared.tally.Outcome.TheVariants.{Skipped, Accepted, Refused, Shown}
-use Rattle.pd_bench.specs.Session.{Reply, EditReply, ShowReply, can_show, counted, refused_text}
+use Rattle.pd_bench.specs.Session.{Reply, EditReply, ShowReply, can_show, refused_text}
 use Rattle.pd_reasons.specs.Reasons.{reason_of}
 use Rattle.std.proofs.KnownBytes.{Appends-nil}
 use Rattle.pd_device.specs.declared.fault.BenchFault.{BenchFault}
@@ -53,19 +52,6 @@ pub show_refused : (can : Bool) (show : Show) (s : ScenarioData) (reply : List �
     ShowReply can show s reply s' outcome → outcome ≡ Refused → reply ≡ refused_text (number_of edit_faults.NoSuchPort)
 show_refused true show s reply s' outcome h is = let both = sym h.4 ∙ is in absurd (cc)
 show_refused false show s reply s' outcome h is = h.0
-
--- one line more is refused, or none
-pub one_refused : (t : Tally) (outcome : Outcome) → (counted t outcome).refused ≢ t.refused → outcome ≡ Refused
-one_refused t Skipped e = absurd (e refl)
-one_refused t Accepted e = absurd (e refl)
-one_refused t Refused e = refl
-one_refused t Shown e = absurd (e refl)
-
-pub none_refused : (t : Tally) (outcome : Outcome) → (counted t outcome).refused ≡ t.refused → outcome ≢ Refused
-none_refused t Skipped e = λ is. absurd (cc)
-none_refused t Accepted e = λ is. absurd (cc)
-none_refused t Refused e = absurd (omega (arith, e))
-none_refused t Shown e = λ is. absurd (cc)
 
 -- a refused line leaves the scenario as it is
 pub same_scenario : (n : ℕ) (s : ScenarioData) (r : Result Line EditFault) (reply : List ℕ) (s' : ScenarioData) (outcome : Outcome) →

@@ -1,6 +1,6 @@
 -- Facts on what was written so far.
 use Rattle.std.proofs.Common.{◌≡◌, ℕ, List, [], ◌++◌, take, drop, Option, refl, sym, ap, ◌∙◌, append_assoc}
-use Rattle.std.proofs.lemmas.List.{append-nil, take-append-drop}
+use Rattle.std.proofs.lemmas.List.{take-append-drop}
 use Rattle.std.specs.Io.KnownBytes.{Appends, Keeps}
 use Rattle.std.proofs.KnownBytes.{Appends-trans, Appends-kept, Appends-nil}
 use Rattle.pd_device.specs.Device.{WrotePart}
@@ -11,9 +11,6 @@ pub record Wrote (all rest : List ℕ) (old new : Option (List ℕ)) : Type 0 wh
   pub whole : all ≡ out ++ rest
   pub appends : Appends old new out
 
-pub Wrote-nothing : (all : List ℕ) (a : Option (List ℕ)) → Wrote all all a a
-Wrote-nothing all a = record { out = []; whole = refl; appends = Appends-nil a }
-
 pub Wrote-more : (all rest : List ℕ) (a b c : Option (List ℕ)) (n : ℕ) → Wrote all rest a b → Appends b c (take n rest) →
     Wrote all (drop n rest) a c
 Wrote-more all rest a b c n w more = record {
@@ -21,9 +18,6 @@ Wrote-more all rest a b c n w more = record {
   whole = w.whole ∙ ap (λ v. w.out ++ v) (sym (take-append-drop n rest)) ∙ sym (append_assoc w.out (take n rest) (drop n rest));
   appends = Appends-trans a b c w.out (take n rest) w.appends more;
 }
-
-pub Wrote-all : (all rest : List ℕ) (a b : Option (List ℕ)) → Wrote all rest a b → rest ≡ [] → Appends a b all
-Wrote-all all rest a b w e = let k : all ≡ w.out = w.whole ∙ ap (λ v. w.out ++ v) e ∙ append-nil w.out in rw k w.appends
 
 -- a writer that failed after some first bytes of what was left
 pub Wrote-part : (all rest : List ℕ) (a b c : Option (List ℕ)) → Wrote all rest a b → WrotePart b c rest → WrotePart a c all

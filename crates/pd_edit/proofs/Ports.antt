@@ -1,12 +1,9 @@
 -- The settings with those of one port changed.
-use Rattle.std.proofs.Common.{◌≡◌, ℕ, suc, ◌<◌, ◌+◌, ◌==◌, cond, List, [], ◌∷◌, ◌++◌, length, take, get_or, ap, sym, ◌∙◌, arith}
+use Rattle.std.proofs.Common.{◌≡◌, ℕ, ◌<◌, ◌+◌, ◌==◌, cond, List, [], ◌∷◌, ◌++◌, length, take, get_or, ap, sym, ◌∙◌, arith}
 use Rattle.std.proofs.Common.{length-take}
 use Rattle.std.proofs.lemmas.List.{take_more}
 use Rattle.pd_setup.specs.Settings.{SettingsData}
 use Rattle.pd_edit.specs.Edits.{changed_from, changed_port}
-
-moved_on : (a n : ℕ) → (a + 1) + n ≡ a + suc n
-moved_on a n = omega arith
 
 changed_last : (first port : ℕ) (change : SettingsData → SettingsData) (settings : List SettingsData) (s : SettingsData) (place : ℕ)
     → place ≡ first + length settings

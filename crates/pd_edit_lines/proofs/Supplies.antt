@@ -5,10 +5,10 @@ use Rattle.std.specs.Prelude.{Option, nat_le, option_and_then, is_some}
 use Rattle.std.proofs.lemmas.List.{append-nil}
 use Rattle.std.proofs.lemmas.Bool.{false≢true}
 use Rattle.std.proofs.lemmas.Bool.Decides.{nat_tests}
-use Rattle.pd_edit_lines.specs.Words.{number, number_at, end_of}
+use Rattle.pd_edit_lines.specs.Words.{number_at, end_of}
 use Rattle.pd_edit_lines.specs.Grammar.{Words, supplies_of, few_supplies, with_supplies}
 use Rattle.pd_edit_lines.specs.declared.edit.WrittenSupply.{WrittenSupply}
-use Rattle.pd_edit_lines.proofs.FirstNumber.{with_others, begins}
+use Rattle.pd_edit_lines.proofs.FirstNumber.{begins}
 
 joined : (read : List WrittenSupply) (s : WrittenSupply) (o : Option (List WrittenSupply))
     → option_and_then (λ supplies. few_supplies ((read ++ s ∷ []) ++ supplies)) o ≡ option_and_then
@@ -28,24 +28,6 @@ shorter ws xs ys m a mv ma =
     let first = begins ws m xs mv in
     let second = begins xs a ys ma in
     rw (first.are, second.are) (omega arith)
-
-not_first : (o : Option ℕ) (ws : Words) → None ≡ option_and_then (with_others ws) o → o ≡ None
-not_first None ws h = refl
-not_first (Some n) ws h = absurd (cc)
-
-pub no_voltage : (read : List WrittenSupply) (ws : Words) → None ≡ end_of ws → None ≡ number_at ws → None ≡ with_supplies read ws
-no_voltage read [] some h = absurd (cc)
-no_voltage read (v ∷ []) some h = refl
-no_voltage read (v ∷ w ∷ ws) some h = rw (not_first (number v) (w ∷ ws) h)
-
-pub no_current : (read : List WrittenSupply) (ws xs : Words) (m : ℕ) → Some (m, xs) ≡ number_at ws → None ≡ number_at xs
-    → None ≡ with_supplies read ws
-no_current read ws [] m mv h =
-    let first = begins ws m [] mv in
-    rw first.are
-no_current read ws (w ∷ xs) m mv h =
-    let first = begins ws m (w ∷ xs) mv in
-    rw (first.are, first.is, not_first (number w) xs h)
 
 many : (n : ℕ) → 7 < n → (nat_le 1 n && nat_le n 7) ≡ false
 many n h = grind (arith, nat_tests)
@@ -73,7 +55,3 @@ pub at_end : (read : List WrittenSupply) (ws : Words) → is_some (end_of ws) �
     → Some (record { items = read }) ≡ with_supplies read ws
 at_end read [] over some h = rw (append-nil read, few (length read) some h)
 at_end read (w ∷ ws) over some h = absurd (false≢true over)
-
-pub none_read : (ws : Words) → is_some (end_of ws) ≡ true → None ≡ with_supplies [] ws
-none_read [] over = refl
-none_read (w ∷ ws) over = absurd (false≢true over)

@@ -23,9 +23,6 @@ abbrev pub GoesOn : ℕ → ScenarioData → List ℕ → List (List ℕ) → Sc
 GoesOn n start name all c number tally text rest =
     (more : List ℕ) (end : TestTally) → Tests n c name number tally rest more end → Tests n start name 1 no_test all (text ++ more) end
 
-pub start_on : (n : ℕ) (start : ScenarioData) (name : List ℕ) (all : List (List ℕ)) → GoesOn n start name all start 1 no_test [] all
-start_on n start name all more end is = is
-
 -- one line
 tests_more : (n : ℕ) (c : ScenarioData) (name : List ℕ) (number : ℕ) (tally : TestTally) (line : List ℕ) (ls : List (List ℕ))
     (answer : Answer) (rest : List ℕ) (end : TestTally) → IsAnswer n c (at_line name number) line tally answer →

@@ -63,7 +63,3 @@ count_packed h fits = ap (λ (g : HeaderData). g.count) (unpacked_packed h fits)
 pub id_packed : (h : HeaderData) → IsHeader h → id_of (packed h) ≡ h.id
 unfolding unpacked
 id_packed h fits = ap (λ (g : HeaderData). g.id) (unpacked_packed h fits)
-
-pub revision_packed : (h : HeaderData) → IsHeader h → revision_of (packed h) ≡ h.revision
-unfolding unpacked
-revision_packed h fits = ap (λ (g : HeaderData). g.revision) (unpacked_packed h fits)

@@ -1,9 +1,9 @@
 -- Moves that are asked again for their answers.
-use Rattle.std.proofs.Common.{◌≡◌, ◌≢◌, ⊎_elim, ℕ, zero, suc, ◌+◌, ◌-◌, ◌<◌, ◌≤◌, false, List, [], ◌∷◌, ◌++◌, length, map, take}
+use Rattle.std.proofs.Common.{◌≡◌, ◌≢◌, ⊎_elim, ℕ, zero, suc, ◌+◌, ◌-◌, ◌<◌, false, List, [], ◌∷◌, ◌++◌, length, map, take}
 use Rattle.std.proofs.Common.{None, Some, slice_get, slice_index_or, get_or, ap, sym, ◌∙◌, subst, refl, arith, append_assoc}
 use Rattle.std.proofs.Math.ListN.{get_or-append}
 use Rattle.std.proofs.Math.Seq.{get_or-append_seam}
-use Rattle.std.proofs.lemmas.List.{append-nil, map-append, length_push, take_more, take_all, get_or_default}
+use Rattle.std.proofs.lemmas.List.{append-nil, map-append, length_push, take_more, get_or_default}
 use Rattle.std.proofs.lemmas.Bool.{cases_eq}
 use Rattle.std.proofs.lemmas.Option.{same_Some, slice_get_within, slice_get-get_or}
 use Rattle.pd_setup.specs.Settings.{SettingsData}
@@ -166,8 +166,3 @@ answered_more plan past moves i account next k so_far there answered held =
       answered = subst (λ (l : List Move). EachAfter (IsAnswered plan) past l) (sym more)
           (EachAfter-append (IsAnswered plan) past front (move_of k ∷ []) so_far.answered (answered, tt));
     }
-
-pub answered_all : (plan : Plan) (past : List Move) (moves : List KeptData) (i : ℕ) (account : Account)
-    → AnsweredSoFar plan past moves i account → length moves ≤ i → EachAfter (IsAnswered plan) past (map move_of moves)
-answered_all plan past moves i account so_far le =
-    subst (λ (l : List KeptData). EachAfter (IsAnswered plan) past (map move_of l)) (take_all i moves le) so_far.answered

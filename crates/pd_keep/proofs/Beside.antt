@@ -280,9 +280,6 @@ pub own_old : (n : ℕ) (old : Plan) (old_spans : List RunData) → IsOld n old 
 own_old n old old_spans (inl none) = subst (λ (l : List RunData). All (IsOwn old) (kept_of_spans l)) (sym none) (All-nil (IsOwn old))
 own_old n old old_spans (inr kept) = kept.own
 
-pub over_later : (spans : List RunData) (from at : ℕ) → from ≤ at → AreOver spans from → AreOver spans at
-over_later spans from at le over = λ k d lt. let e = over k d lt in omega arith
-
 pub over_those : (spans : List RunData) (at to : ℕ) → AreOver spans at → AreThose (kept_of_spans spans) at to []
 over_those spans at to over = λ k ge lt. (
   λ h.
@@ -302,10 +299,6 @@ done_alike n old old_spans plan moves at standing.Alike s le =
     let past = s.kept.reach.beyond in
     ⊎_elim (λ (e : old.end ≡ plan.end). omega arith) (λ (e : at ≤ old.end). absurd (omega arith)) s.ends
 done_alike n old old_spans plan moves at (standing.Apart live alike) s le = tt
-
-pub done_past : (n : ℕ) (plan : Plan) (at : ℕ) (st : Standing n) → plan.end < at → IsDone n plan at st
-done_past n plan at standing.Alike past = past
-done_past n plan at (standing.Apart live alike) past = tt
 
 -- the cost with one more span
 pub next_costs : (old : Plan) (old_moves : List Move) (plan : Plan) (spans : List RunData) (s : RunData) (first a b : ℕ)

@@ -199,10 +199,6 @@ traded_charge n former run len fresh before after kept is len_is fresh_is after_
     let fresh_too : fresh ≡ back.0 = omega (arith, back.2, length-map (kept_of_spans former.run.spans) move_of, len_is, fresh_is) in
     (back.0, back.1, after_is ∙ ap (raised before) fresh_too)
 
--- the meter rises
-pub traded_rises : (len common before after : ℕ) → before ≤ 2 ^ 64 - 1 → after ≡ raised before (len - common) → before ≤ after
-traded_rises len common before after fits after_is = omega (arith, fits, after_is)
-
 -- no more are fresh than there are
 pub charged_few : (n : ℕ) (run : Option (KeptRun n)) (plan : Plan) (spans : List RunData) (len first last fresh : ℕ)
     → len ≡ length (kept_of_spans spans) → first ≡ 0 → fresh ≡ last → IsCharged (running n run) plan (moves_of spans) first last

@@ -1,7 +1,6 @@
 -- What is kept stands in the order of times.
-use Rattle.std.proofs.Common.{◌≡◌, ◌≢◌, ◌+◌, ⊎_elim, All, Contains, leb, true, false, ℕ, ◌<◌, ◌≤◌, ◌-◌, List, [], ◌∷◌, ◌++◌, length, map}
+use Rattle.std.proofs.Common.{◌≡◌, ◌+◌, All, ℕ, ◌<◌, ◌≤◌, ◌-◌, List, [], ◌∷◌, ◌++◌, length, map}
 use Rattle.std.proofs.Common.{arith, get_or, zero, suc, ap}
-use Rattle.std.proofs.lemmas.Bool.Decides.{leb_tells}
 use Rattle.std.proofs.lemmas.List.{get_or-map, length-map}
 use Rattle.pd_run.specs.Order.{EachAfter}
 use Rattle.pd_run.specs.Run.{Move, IsInOrder, NoneLater}
@@ -34,19 +33,6 @@ times (m ∷ ms) past (suc i) (suc j) e h le lt = times ms (past ++ move_of m �
 -- those before a time are before a later one
 pub before_later : (old : List KeptData) (n t u : ℕ) → AreBefore old n t → t ≤ u → AreBefore old n u
 before_later old n t u h le = λ k e lt. let less = h k e lt in omega arith
-
--- a move that isn't among the first ones isn't there where those that follow are later
-pub not_later : (old : List KeptData) (i : ℕ) (m : KeptData) → AreInTime old → ((k : ℕ) → k < i → get_or old k m ≢ m) → i < length old
-    → m.due.time < (get_or old i m).due.time → Contains old m → ⊥
-not_later old i m in_time none lt later has =
-    let j = has.0 in
-    ⊎_elim
-    (λ (then : (leb i j ≡ true) × (i ≤ j)).
-    let le = in_time i j m then.1 has.1 in
-    let there : (get_or old j m).due.time ≡ m.due.time = ap (λ (k : KeptData). k.due.time) has.2 in
-    absurd (omega arith))
-    (λ (first : (leb i j ≡ false) × (j < i)). none j first.1 has.2)
-    (leb_tells i j)
 
 -- where the last move is before a time, all are
 pub all_before : (old : List KeptData) (i t : ℕ) → AreInTime old → i + 1 ≡ length old

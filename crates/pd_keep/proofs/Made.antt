@@ -8,7 +8,7 @@ use Rattle.pd_run.specs.Run.{Move}
 use Rattle.pd_run.specs.Live.{LiveData, next_move, port_at, port_after, reply_at, moved_port}
 use Rattle.pd_port.specs.Meter.{raised}
 use Rattle.pd_keep.specs.Charge.{Charges}
-use Rattle.pd_keep.specs.Kept.{KeptData, kept_of, move_of, IsOwn, IsMade}
+use Rattle.pd_keep.specs.Kept.{KeptData, kept_of, move_of, IsOwn}
 use Rattle.pd_keep.specs.Rerun.{AreThose}
 
 -- what is kept is the next move
@@ -28,14 +28,6 @@ pub kept_is_moved : (live : LiveData) (p q : ℕ) (x : PortData) (d : Due) (a : 
     → (kept_of q x d a).after ≡ moved_port live p d
 kept_is_moved live p q x d a x_is a_is =
     ap (λ (z : PortData). (kept_of q z d a).after) x_is ∙ ap (λ (b : Option Answer). (kept_of q (port_at live p) d b).after) a_is
-
--- a move that was made of the same is the same
-pub kept_same : (k : KeptData) (p : ℕ) (x : PortData) (d : Due) (a : Option Answer) → IsMade k → k.port ≡ p → k.due ≡ d → k.answer ≡ a
-    → k.before.settings ≡ x.settings → k.before.port_record ≡ x.port_record → k ≡ kept_of p x d a
-kept_same k p x d a made port due answer settings state =
-    let before : k.before ≡ x = λ i. record { settings = settings i; port_record = state i } in
-    made ∙ ap (λ q. kept_of q k.before k.due k.answer) port ∙ ap (λ (z : PortData). kept_of p z k.due k.answer) before
-    ∙ ap (λ (e : Due). kept_of p x e k.answer) due ∙ ap (kept_of p x d) answer
 
 -- what a move costs beside those of a time is what it costs beside all
 pub charges_those : (all some : List KeptData) (k : KeptData) (from to before after : ℕ) → AreThose all from to some → from ≤ k.due.time

@@ -32,11 +32,6 @@ paid_anew n run then old plan now spans before mid after old_is then_is now_is m
     (subst (λ (m : ℕ). IsPaid CostsFreshMoves (running n run).plan now m after) mid_is
     (paid_fresh n run now (moves_of spans) mid after keeps kept.safe.run charge_too)))
 
--- what a run costs beside what was kept
-pub charged_some : (n : ℕ) (run : KeptRun n) (plan : Plan) (moves : List Move) (before after : ℕ)
-    → Costs run.plan (moves_of run.spans) plan moves before after → IsCharged (running n (Some run)) plan moves before after
-charged_some n run plan moves before after cost = cost
-
 -- and beside nothing
 pub charged_none : (n : ℕ) (plan : Plan) (moves : List Move) (before after : ℕ) → Costs plan [] plan moves before after
     → IsCharged (running n None) plan moves before after

@@ -5,7 +5,7 @@ use Rattle.std.proofs.Common.{ap, sym, ◌∙◌, arith, subst, drop, get_or, sl
 use Rattle.std.proofs.Math.ListN.{get_or-append}
 use Rattle.std.proofs.Math.Seq.{get_or-append_seam}
 use Rattle.std.proofs.lemmas.List.{get_or-drop, length-drop, take_more}
-use Rattle.std.proofs.lemmas.List.{get_or-set_same, get_or-set_other, get_or-replicate, get_or_default, length_push, length-set}
+use Rattle.std.proofs.lemmas.List.{get_or-set_same, get_or-set_other, get_or-replicate, length_push, length-set}
 use Rattle.std.proofs.lemmas.Bool.{cases_eq, cases_Bool, cond-true, cond-false, eq-eqb, ne_eqb}
 use Rattle.pd_setup.specs.Settings.{SettingsData}
 use Rattle.pd_port.specs.Port.{PortData, record_after}
@@ -42,14 +42,6 @@ left_last first moves k p n x count after =
       λ d. ap (λ i. (slice_index_or (moves ++ k ∷ []) i d).after) count
           ∙ ap (λ (m : KeptData). m.after) (get_or-append_seam moves k [] d) ∙ after,
     )
-
--- a port stands as an equal move has left it
-pub left_found : (first : List PortData) (moves : List KeptData) (p i : ℕ) (k : KeptData) (x : PortData) → i < length moves
-    → slice_index_or moves i k ≡ k → k.after ≡ x → IsKnown first moves p (Some (After i)) x
-left_found first moves p i k x inside is after = (
-  inside,
-  λ d. ap (λ (m : KeptData). m.after) (get_or_default moves i d k inside ∙ is) ∙ after,
-)
 
 -- at one place a port stands in one way
 same_left : (first : List PortData) (moves : List KeptData) (p : ℕ) (place : Place) (x y : PortData) → IsLeft first moves p place x

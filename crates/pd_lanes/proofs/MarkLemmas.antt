@@ -2,7 +2,6 @@
 use Rattle.std.proofs.Common.{◌≡◌, ℕ, List, [], ◌∷◌, ◌++◌, refl, sym, ap, ◌∙◌, append_assoc}
 use Rattle.std.specs.Prelude.{true}
 use Rattle.std.specs.List.{flat_map}
-use Rattle.std.proofs.lemmas.List.{append-nil}
 use Rattle.std.proofs.lemmas.List.Concat.{flat_map-append}
 use Rattle.std.proofs.lemmas.List.Sums.{fold-append}
 use Rattle.pd_svg.specs.Elements.{Element, element_text}
@@ -38,10 +37,6 @@ marks_more p l l1 xs ys t t1 t2 g h e =
 pub lane_more : (p : Place) (l l1 l2 : Lane) (xs ys : List Mark) → l1 ≡ lane_marked p l xs → l2 ≡ lane_marked p l1 ys
     → l2 ≡ lane_marked p l (xs ++ ys)
 lane_more p l l1 l2 xs ys h e = e ∙ ap (λ (v : Lane). lane_marked p v ys) h ∙ sym (lane_marked-append p l xs ys)
-
--- the text of one mark
-pub one_mark : (p : Place) (l : Lane) (m : Mark) → flat_map element_text (mark_elements p l m) ≡ marks_text p l (m ∷ [])
-one_mark p l m = ap (flat_map element_text) (sym (append-nil (mark_elements p l m)))
 
 -- what is drawn together with the mark before draws nothing
 pub joined_elements : (p : Place) (l : Lane) (m : Mark) → joins p l m.row ≡ true → marks_elements p l (m ∷ []) ≡ []

@@ -100,9 +100,6 @@ pub passes_none : (plan : Plan) (live : LiveData) (n : ℕ) (first : Option (ℕ
     (f : Due) → due_at live n ≡ Some f → Passes plan f first
 passes_none plan live n first e f g = absurd (let x : None ≡ Some f = sym e ∙ g in cc)
 
-pub none_so_far : (plan : Plan) (live : LiveData) → IsSoFar plan live 0 None
-none_so_far plan live = record { late = λ q f below g. absurd (omega arith) }
-
 -- the first due of all ports is the next one, its port numbered from 1
 pub first_is_next : (plan : Plan) (live : LiveData) (n p : ℕ) (d : Due) → count plan ≡ n → IsFirstOf plan live n p d
     → IsNext plan live (p + 1) d

@@ -57,31 +57,6 @@ StandsBut-all plan past away live s none = record {
   gone = λ p lt there. absurd (let h = none p lt in cc);
 }
 
--- one more follows
-pub StandsBut-aside : (plan : Plan) (past : List Move) (away : List Bool) (whole live : LiveData) (p : ℕ)
-    → StandsBut plan past away whole live → p < count plan → p < length away
-    → StandsBut plan past (slice_set away p true) whole (record live { dues = slice_set live.dues p None })
-StandsBut-aside plan past away whole live p b known room =
-    let dues : List (Option Due) = live.dues in
-    let others : (q : ℕ) → slice_index_or (slice_set away p true) q false ≡ false → q ≢ p =
-    λ q here same. absurd (let h = at_set away p q true false room same in cc) in
-    record {
-      stands = b.stands;
-      ports_count = b.ports_count;
-      dues_count = length-set dues p None ∙ b.dues_count;
-      taken_is = b.taken_is;
-      account_is = b.account_is;
-      ports_are = λ q lt here. b.ports_are q lt (sym (get_or-set_other away p q true false (others q here)) ∙ here);
-      dues_are = λ q lt here. get_or-set_other dues p q None None (others q here)
-          ∙ b.dues_are q lt (sym (get_or-set_other away p q true false (others q here)) ∙ here);
-      gone = λ q lt there.
-          ⊎_elim
-          (λ (same : q ≡ p). at_set dues p q None None (omega (arith, b.dues_count)) same)
-          (λ (other : q ≢ p). get_or-set_other dues p q None None other
-          ∙ b.gone q lt (sym (get_or-set_other away p q true false other) ∙ there))
-          (cases_eq q p);
-    }
-
 -- one that followed moves for itself, from where it stands
 pub StandsBut-taken_up : (plan : Plan) (past : List Move) (away : List Bool) (whole live : LiveData) (p : ℕ) (x : PortData)
     → StandsBut plan past away whole live → p < count plan → p < length away → x ≡ port_at whole p
@@ -379,14 +354,6 @@ first_at a b past mid rest to i d q f h lt known other e soon =
 
 pub later_time : (t p u q : ℕ) → t < u → IsNoLater t p u q
 later_time t p u q lt = record { by_time = omega arith; by_port = λ e. absurd (omega arith) }
-
--- its next move is due on its port in the other run too
-pub due_followed : (a b : Plan) (past mid rest others : List Move) (to i : ℕ) (d : Move) → IsFollowed a b past mid rest to
-    → i < length mid → (get_or mid i d).port < count b → PortIsAlike a b (past ++ take i mid) others (get_or mid i d).port to
-    → due_after b others (get_or mid i d).port ≡ Some (get_or mid i d).due
-due_followed a b past mid rest others to i d h lt known alike =
-    ((each_goes_on_alike a b (past ++ take i mid) others (get_or mid i d).port to known alike).dues (get_or mid i d).due
-    (h.early i d lt)).0 (goes_at a b past mid rest to i d h lt).due_is
 
 -- and nothing is due before it on a port that stands alike
 pub none_before : (a b : Plan) (past mid rest others : List Move) (to i : ℕ) (d : Move) (q : ℕ) (f : Due)

@@ -1,10 +1,10 @@
 -- What the ports, the events that they have had and the budget are after one more move.
 use Rattle.std.proofs.Common.{◌≡◌, ◌≢◌, ℕ, ◌+◌, ◌<◌, ◌≤◌, ⊎_elim, List, [], ◌∷◌, ◌++◌, length, map, max, Option, Some, None}
 use Rattle.std.proofs.Common.{option_map, ◌-◌}
-use Rattle.std.proofs.Common.{true, refl, ap, sym, ◌∙◌, subst, arith, get_or, slice_index, slice_index_or, slice_set, slice_get}
-use Rattle.std.proofs.Common.{set, replicate}
+use Rattle.std.proofs.Common.{true, refl, ap, sym, ◌∙◌, subst, arith, get_or, slice_index, slice_set, slice_get}
+use Rattle.std.proofs.Common.{set}
 use Rattle.std.specs.List.{range_with_len}
-use Rattle.std.proofs.lemmas.List.{length-map, length-replicate, get_or-replicate, get_or_default, get_or-set_same}
+use Rattle.std.proofs.lemmas.List.{get_or-set_same}
 use Rattle.std.proofs.lemmas.List.{get_or-set_other, length-set, same_lists}
 use Rattle.std.proofs.Math.ListN as list_map
 use Rattle.std.proofs.lemmas.Option.{slice_get_within}
@@ -16,15 +16,15 @@ use Rattle.pd_setup.specs.Events.{EventData}
 use Rattle.pd_port.specs.declared.due.Due.{Due}
 use Rattle.pd_port.specs.declared.due.What.{What}
 use Rattle.pd_port.specs.declared.due.What.TheVariants as what
-use Rattle.pd_port.specs.Port.{PortData, is_event, detached, due, ask, entry_of, hold, record_after}
-use Rattle.pd_port.proofs.PortLaws.{due_event, hold_fits, hold_detached, hold_floor}
+use Rattle.pd_port.specs.Port.{PortData, is_event, due, ask, hold, record_after}
+use Rattle.pd_port.proofs.PortLaws.{due_event, hold_fits, hold_floor}
 use Rattle.pd_ledger.specs.Account.{Account, free_of}
 use Rattle.pd_ledger.specs.Offer.{answer_of}
 use Rattle.pd_ledger.proofs.Offers.{answer-allowed}
-use Rattle.pd_scenario.specs.Plan.{Plan, IsPlan, count, settings_of, script_of, floors_of, force, no_settings}
+use Rattle.pd_scenario.specs.Plan.{Plan, IsPlan, count, settings_of, script_of, force, no_settings}
 use Rattle.pd_run.specs.Run.{Move, Standing, standing, moved, after, taken_after, due_after, account_after, holds_after, reply_after}
-use Rattle.pd_run.specs.Start.{start_of, no_port}
-use Rattle.pd_run.specs.Live.{LiveData, RunsTo, StandsAfter, IsFirst, IsNext, at_budget, due_at, next_move, port_at, port_after}
+use Rattle.pd_run.specs.Start.{no_port}
+use Rattle.pd_run.specs.Live.{LiveData, RunsTo, StandsAfter, IsNext, at_budget, due_at, next_move, port_at, port_after}
 use Rattle.pd_run.specs.Live.{reply_at, moved_port, moved_live, asked_due, HasMoved, IsNextBeside, HasMovedBeside}
 use Rattle.pd_run.proofs.Moves.{standing-same, standing-other, due_after-other}
 use Rattle.pd_run.proofs.Runs.{runs_step}
@@ -189,41 +189,6 @@ taken_few n plan past live p d is s lt du ev =
     let inside = slice_get_within (script_of plan p) (standing plan past p).taken e.0 next.0 in
     omega (arith, is.brief p (omega (arith, is.settings_count)), s.taken_are p lt)
 
--- at the start
-pub StandsAfter-start : (n : ℕ) (plan : Plan) (ports : List PortData) (taken : List ℕ) (dues : List (Option Due))
-    → RunsTo plan [] → IsPlan n plan
-    → ports ≡ map start_of plan.settings → taken ≡ replicate n 0 → length dues ≡ n
-    → ((p : ℕ) → p < n → slice_index_or dues p None ≡ due (slice_index_or ports p no_port).port_record (slice_get (script_of plan p) 0))
-    → StandsAfter plan [] (record {
-      ports = ports;
-      taken = taken;
-      dues = dues;
-      account = record { budget = plan.budget; floors = floors_of plan; holds = floors_of plan };
-    })
-StandsAfter-start n plan ports taken dues runs is ports_is taken_is dues_count dues_are =
-    let start : (p : ℕ) → p < count plan → slice_index_or ports p no_port ≡ port_after plan [] p =
-    λ p k. ap (λ (l : List PortData). get_or l p no_port) ports_is ∙ list_map.get_or-map start_of plan.settings p no_settings in
-    let holds : floors_of plan ≡ holds_after plan [] =
-    same_lists (floors_of plan) (holds_after plan []) (length-map plan.settings floor_of ∙ sym (length-holds_after plan []))
-    (λ k d h.
-    let kn : k < count plan = omega (arith, length-map plan.settings floor_of) in
-    let here : get_or (floors_of plan) k 0 ≡ floor_of (settings_of plan k) = list_map.get_or-map floor_of plan.settings k no_settings in
-    get_or_default (floors_of plan) k d 0 h ∙ here ∙ sym (hold_detached (settings_of plan k))
-    ∙ sym (get_or-map-range_with_len (λ i. hold (settings_of plan i) (detached (settings_of plan i))) 0 (count plan) k k d
-    kn (omega arith))) in
-    record {
-      runs = runs;
-      ports_count = ap length ports_is ∙ length-map plan.settings start_of;
-      taken_count = ap length taken_is ∙ length-replicate n 0 ∙ sym is.settings_count;
-      ports_are = start;
-      taken_are = λ p k. ap (λ (l : List ℕ). slice_index l p) taken_is ∙ get_or-replicate n p 0 0 (omega (arith, is.settings_count));
-      dues_count = dues_count ∙ sym is.settings_count;
-      dues_are = λ p k. dues_are p (omega (arith, is.settings_count))
-          ∙ ap (λ (x : PortData). due x.port_record (slice_get (script_of plan p) 0)) (start p k);
-      floors_are = refl;
-      holds_are = holds;
-    }
-
 -- the answer by the ports is the answer after the moves
 pub reply_known : (plan : Plan) (past : List Move) (live : LiveData) (p : ℕ) (d : Due) → StandsAfter plan past live
     → live.account.budget ≡ force plan d.time → p < count plan → reply_at live p d ≡ (next_move plan past p d).answer
@@ -254,18 +219,6 @@ pub moved_hold : (plan : Plan) (past : List Move) (p : ℕ) (d : Due) (x : PortD
 moved_hold plan past p d x e =
     ap (λ (z : PortData). hold z.settings z.port_record) e
     ∙ ap (λ (z : Standing). hold (settings_of plan p) z.state) (standing-same plan past (next_move plan past p d) p refl)
-
--- the same port, numbered from 1
-pub next_of_first : (plan : Plan) (live : LiveData) (p : ℕ) (d : Due) → IsFirst plan live p d → IsNext plan live (p + 1) d
-next_of_first plan live p d h = record { from_one = omega arith; first = subst (λ k. IsFirst plan live k d) (omega arith) h }
-
--- the entry that a port leaves, by the moves
-pub entry_known : (plan : Plan) (past : List Move) (live : LiveData) (p : ℕ) (d : Due) (x : PortData) (a : Option Answer)
-    → StandsAfter plan past live → live.account.budget ≡ force plan d.time → p < count plan → x ≡ port_at live p → a ≡ reply_at live p d
-    → entry_of x.settings x.port_record d a ≡ (next_move plan past p d).entry
-entry_known plan past live p d x a s budget_is lt x_is a_is =
-    ap (λ (z : PortData). entry_of z.settings z.port_record d a) (x_is ∙ s.ports_are p lt)
-    ∙ ap (entry_of (settings_of plan p) (standing plan past p).state d) (a_is ∙ reply_known plan past live p d s budget_is lt)
 
 -- the moved port, as it stands
 pub moved_at : (plan : Plan) (past : List Move) (before : LiveData) (port : ℕ) (d : Due) (live : LiveData)

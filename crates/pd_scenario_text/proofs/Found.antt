@@ -131,12 +131,6 @@ ids_part xs ys h =
     ids_are (xs ++ ys) ∙ ap (differ same_number) (map-append (λ (x : ScenarioEvent). x.id) xs ys)
     ∙ differ-part same_number (ids xs) (ids ys) (sym (ids_are xs) ∙ h)
 
-pub texts_more : (names : List (Bor (List ℕ))) (i : ℕ) (k : Bor (List ℕ)) → i < length names → k ≡ get_or names i k
-    → texts (take (i + 1) names) ≡ texts (take i names) ++ k.now ∷ []
-texts_more names i k below is =
-    ap texts (take_more names i k below) ∙ map-append (λ (name : Bor (List ℕ)). name.now) (take i names) (get_or names i k ∷ [])
-    ∙ ap (λ (x : Bor (List ℕ)). texts (take i names) ++ x.now ∷ []) (sym is)
-
 pub events_more : (events : List ScenarioEvent) (i : ℕ) (e : ScenarioEvent) → i < length events → e ≡ get_or events i e
     → take (i + 1) events ≡ take i events ++ e ∷ []
 events_more events i e below is = take_more events i e below ∙ ap (λ (x : ScenarioEvent). take i events ++ x ∷ []) (sym is)

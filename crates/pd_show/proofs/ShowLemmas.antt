@@ -100,11 +100,6 @@ progress_passed plan choice moves page page' a b c p q = record {
   before_is = q.before_is ∙ p.before_is;
 }
 
--- what was written begins the text
-pub progress_part : (plan : Plan) (choice : Choice) (moves : List Move) (page : PageData) (a b : Option (List ℕ)) →
-    Progress plan choice moves page a b → WrotePart a b (show_text plan choice moves)
-progress_part plan choice moves page a b p = record { out = p.out; begins = (page.text, p.text_is); appends = p.appends }
-
 -- also where the page is written in part
 pub progress_torn : (plan : Plan) (choice : Choice) (moves : List Move) (page : PageData) (a b c : Option (List ℕ)) →
     Progress plan choice moves page a b → WrotePart b c page.text → WrotePart a c (show_text plan choice moves)

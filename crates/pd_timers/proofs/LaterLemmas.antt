@@ -1,5 +1,5 @@
 -- What starting and stopping timers does to the deadlines that run.
-use Rattle.std.proofs.Common.{◌≡◌, ℕ, ◌+◌, ◌<◌, ◌⊎◌, inl, inr, zero, suc, List, [], ◌∷◌, Option, Some, None, get_or, set, refl, ap, arith}
+use Rattle.std.proofs.Common.{◌≡◌, ℕ, ◌+◌, ◌<◌, ◌⊎◌, inl, inr, zero, suc, List, [], ◌∷◌, Option, Some, None, get_or, set, refl, arith}
 use Rattle.pd_timers.specs.declared.Timer.{Timer}
 use Rattle.pd_timers.specs.declared.Timer.TheVariants.{Delay}
 use Rattle.pd_timers.specs.Timers.{place, value_of}
@@ -37,28 +37,6 @@ SetsLater-same now d u at h = inl h
 
 pub SetsLater-then : (now : ℕ) (a b c : List (Option ℕ)) → SetsLater now a b → SetsLater now b c → SetsLater now a c
 SetsLater-then now a b c p q t at h = elim (q t at h) [ inl g ↦ p t at g | inr l ↦ inr l ]
-
--- a deadline after one was written at another place
-get_or-set-other : (d : List (Option ℕ)) (i j : ℕ) (v : Option ℕ) → (i ≡ j → ⊥) → get_or (set d i v) j None ≡ get_or d j None
-get_or-set-other [] i j v n = refl
-get_or-set-other (x ∷ xs) zero zero v n = absurd (n refl)
-get_or-set-other (x ∷ xs) zero (suc j) v n = refl
-get_or-set-other (x ∷ xs) (suc i) zero v n = refl
-get_or-set-other (x ∷ xs) (suc i) (suc j) v n = get_or-set-other xs i j v (λ e. n (ap suc e))
-
-get_or-set-none : (d : List (Option ℕ)) (i : ℕ) → get_or (set d i None) i None ≡ None
-get_or-set-none [] i = refl
-get_or-set-none (x ∷ xs) zero = refl
-get_or-set-none (x ∷ xs) (suc i) = get_or-set-none xs i
-
--- a timer that was stopped doesn't run, and every other runs as before
-pub deadline-stopped : (d : List (Option ℕ)) (t : Timer) → deadline (stopped d t) t ≡ None
-unfolding stopped
-deadline-stopped d t = get_or-set-none d (place t)
-
-pub deadline-stopped-other : (d : List (Option ℕ)) (t u : Timer) → (place t ≡ place u → ⊥) → deadline (stopped d t) u ≡ deadline d u
-unfolding stopped
-deadline-stopped-other d t u n = get_or-set-other d (place t) (place u) None n
 
 set-none : (d : List (Option ℕ)) (i j at : ℕ) → get_or (set d i None) j None ≡ Some at → get_or d j None ≡ Some at
 set-none [] i j at h = h
