@@ -24,3 +24,4 @@ pub mod Plans
 pub mod Taken
 pub mod Until
 pub mod Agree
+pub mod Searched
