@@ -1,7 +1,10 @@
 //! The step of which a run mostly consists: the source finds the offer as it was delivered, and nothing starts.
 
-ghost use Rattle.std.specs.Prelude.{◌≡◌, ◌≤◌, ◌&&◌, ◌||◌, None, IsTrue};
+ghost use Rattle.std.specs.Prelude.{◌≡◌, ◌↔◌, ◌≤◌, ◌&&◌, ◌||◌, None, IsTrue};
+ghost use Rattle.pd_header.specs.declared.side.Side.TheVariants as sides;
+ghost use Rattle.pd_timers.specs.declared.Timer.TheVariants.{OfferPoll};
 ghost use Rattle.pd_line.specs.Lines.{is_idle, is_waiting};
+ghost use Rattle.pd_port.specs.declared.due.What.TheVariants as whats;
 ghost use Rattle.pd_port.specs.Port.{begun, portstep};
 
 use crate::{Due, What};
@@ -38,7 +41,9 @@ pub(crate) fn polls_again(parts: &mut PortParts, due: &Due, answer: &Option<Answ
 }
 
 /// Whether the end of OfferPoll falls due on the source.
-pub(crate) fn is_poll(due: &Due) -> bool {
+pub(crate) fn is_poll(due: &Due) -> bool
+    ensures { IsTrue result ↔ (due.now.what ≡ whats.Timer sides.Source OfferPoll) }
+{
     matches!(
         due.what,
         What::Timer {
