@@ -12,7 +12,7 @@ use pd_tell::push_number;
 use std::alloc::AllocError;
 
 /// What an entry is looked at for.
-#[derive(Clone, Copy, Debug)]
+#[derive(Clone, Copy)]
 pub(crate) enum Sign {
     /// The contract of the port changes.
     Change { port: u64 },
@@ -37,7 +37,7 @@ impl Sign {
 }
 
 /// The last time before a range, and the first after it, in microseconds.
-#[derive(Clone, Copy, Debug)]
+#[derive(Clone, Copy)]
 pub(crate) struct Near {
     pub before: Option<u64>,
     pub after: Option<u64>,

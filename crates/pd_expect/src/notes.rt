@@ -16,7 +16,7 @@ use std::alloc::{AllocError, Global};
 const MOST_NOTES: usize = 5;
 
 /// A fault of a run: when, in microseconds, on which port, numbered from 1, and which.
-#[derive(Clone, Copy, Debug)]
+#[derive(Clone, Copy)]
 pub(crate) struct FaultNote {
     pub at: u64,
     pub port: usize,

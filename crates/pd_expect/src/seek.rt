@@ -54,7 +54,7 @@ pub(crate) fn has_fault<const N: usize, T: Runner<N>>(run: &T, port: u64, words:
 
 /// Which packets are looked for: those of a side and a kind that start on a port, numbered from 1, at one of these times, in
 /// microseconds.
-#[derive(Clone, Copy, Debug)]
+#[derive(Clone, Copy)]
 pub(crate) struct Sought {
     pub port: u64,
     pub side: Side,

@@ -47,7 +47,7 @@ pub enum Act {
 }
 
 /// One thing that a row of the state table does: a change of what the engine keeps, or an act.
-#[derive(Clone, Copy, Debug)]
+#[derive(Clone, Copy)]
 pub(crate) enum Deed {
     /// Enters a state: no timer runs, nothing waits on this side, and nothing was sent.
     Enter(State),
@@ -58,7 +58,7 @@ pub(crate) enum Deed {
 }
 
 /// What the guards of the rows ask: one answer for each guard.
-#[derive(Clone, Copy, Debug)]
+#[derive(Clone, Copy)]
 pub(crate) struct Facts {
     /// A cable is attached that has no plug.
     pub without_plug: bool,

@@ -19,7 +19,7 @@ use pd_scenario::{BudgetChange, Scenario};
 pub(crate) const WIDTH: usize = 160;
 
 /// What stands at the end of an instant, in microwatts: what the contracts take, and the budget.
-#[derive(Clone, Copy, Debug, PartialEq, Eq)]
+#[derive(Clone, Copy, PartialEq, Eq)]
 pub(crate) struct Standing {
     pub contracts: u128,
     pub budget: u64,
