@@ -59,22 +59,33 @@ def calm():
 
 
 def edits(end):
-    """By kind of edit: a function from a number to two edits, the second of which takes the first back."""
-    def disturbed(time, step):
-        return lambda n: (f"insert {SPARE} {time + n * step} {1 + n % PORTS} lose", f"remove {SPARE}")
+    """By kind of edit: a function from a number to an edit. None of them leads back to one of the two runs before it."""
+    def wandering(time, step, kind):
+        """An event is put in, moved on eight times and taken out, on one port after the other."""
+        def edit(n):
+            at, place = time + n * step, n % 10
+            if place == 9:
+                return f"remove {SPARE}"
+            return f"move {SPARE} {at}" if place else f"insert {SPARE} {at} {1 + n // 10 % PORTS} {kind}"
+        return edit
 
-    offers = " ".join(f"{mv} {ma}" for mv, ma in SUPPLIES)
+    def offers(n):
+        """A port comes to have two, three and all four of its supplies, one port after the other."""
+        supplies = " ".join(f"{mv} {ma}" for mv, ma in SUPPLIES[:2 + n % 3])
+        return f"caps {1 + n // 3 % PORTS} {supplies}"
+
+    plugs, ratings = ("ack", "nak", "busy"), (3_000, 5_000)
     return {
-        "late: a packet is lost in the last 0.2 s": disturbed(end - 200_000, 1),
-        "early: a packet is lost after 2.3 s": disturbed(2_300_000, 1),
-        "middle: a packet is lost half-way": disturbed(end // 2, 100),
-        "port: a device leaves after 1 s, until the next comes": lambda n: (f"insert {SPARE} {SECOND + n} {1 + n % PORTS} detach", f"remove {SPARE}"),
-        "cable: one that nobody uses is added": lambda n: ("cable spare ack 5000", "cable spare drop"),
-        "budget: less by some mW": lambda n: (f"budget {399_999 - n}", "budget 400000"),
-        "caps: other supplies of a port": lambda n: (f"caps {1 + n % PORTS} 5000 3000", f"caps {1 + n % PORTS} {offers}"),
+        "late: a packet is lost in the last 0.2 s": wandering(end - 200_000, 1, "lose"),
+        "early: a packet is lost after 2.3 s": wandering(2_300_000, 1, "lose"),
+        "middle: a packet is lost half-way": wandering(end // 2, 100, "lose"),
+        "port: a device leaves after 1 s, until the next comes": wandering(SECOND, 1, "detach"),
+        "cable: one that nobody uses is another": lambda n: f"cable spare {plugs[n % 3]} {ratings[n % 2]}",
+        "budget: less by a mW": lambda n: f"budget {399_999 - n}",
+        "caps: other supplies of a port": offers,
     }
 
 
-def script(pairs, count):
-    """An edit script of so many edits, an even number."""
-    return "".join(f"{line}\n" for n in range(count // 2) for line in pairs(n))
+def script(edit, count):
+    """An edit script of so many edits."""
+    return "".join(f"{edit(n)}\n" for n in range(count))

@@ -19,11 +19,11 @@ use Rattle.pd_run.specs.Live.{LiveData, StandsAfter, StandsBut, IsNext, at_budge
 use Rattle.pd_run.specs.Live.{moved_port, moved_live, next_move}
 use Rattle.pd_run.specs.Live.{IsNextBeside, reply_at, taken_up}
 use Rattle.pd_run.specs.Order.{IsNoLater}
-use Rattle.pd_run.specs.Run.{Move, NoneLater, GoesOn, IsAnswered, standing}
+use Rattle.pd_run.specs.Run.{Move, GoesOn, IsAnswered, standing}
 use Rattle.pd_run.specs.Start.{no_port}
 use Rattle.pd_run.specs.StepsLeft.{steps_left}
 use Rattle.pd_run.specs.UpTo.{before, AgreeInScripts, PortIsAlike}
-use Rattle.pd_run.proofs.Alike.{between, none_later-back, stands_aside_too, in_both}
+use Rattle.pd_run.proofs.Alike.{between, stands_aside_too, in_both}
 use Rattle.pd_run.proofs.Cut.{All-nil, All-append, IsEarlier, IsLater, up_to}
 use Rattle.pd_run.proofs.Follow.{StandsBut-budget, StandsBut-moved, StandsBut-taken_up, next_beside, next_of_own, next_of_others}
 use Rattle.pd_run.proofs.Follow.{none_before, none_due, alike_on, goes_at, goes_too, later_time, timely_at}
@@ -38,7 +38,7 @@ use Rattle.pd_keep.specs.Following.{GoBeside, CanFollow, HasCome, HasCameOn, Has
 use Rattle.pd_keep.specs.Following.{AreNumbered, ComesApart, ComesFirst, ComesAfter, followed_to, IsLate, IsFirstFollowed, IsOwnNext}
 use Rattle.pd_keep.specs.Following.{HoldAlike, IsOwnTurn, IsFollowedTurn, KeepHold, ShareAlike}
 use Rattle.pd_keep.specs.Fresh.{IsRepeated, AreFresh}
-use Rattle.pd_keep.specs.Kept.{KeptData, RunData, held_by, kept_of, move_of, left_by, IsKnown, IsOwn, AreBefore, moves_from}
+use Rattle.pd_keep.specs.Kept.{KeptData, RunData, held_by, kept_of, move_of, left_by, IsKnown, IsOwn, moves_from}
 use Rattle.pd_keep.specs.Places.{StandAs}
 use Rattle.pd_keep.specs.declared.rerun.Common.{Common}
 use Rattle.pd_keep.specs.declared.rerun.Standing.{Standing}
@@ -47,7 +47,6 @@ use Rattle.pd_keep.specs.Spans.{BeginsAfter, moves_of}
 use Rattle.pd_keep.proofs.Parted.{in_span}
 use Rattle.pd_keep.proofs.Following.{followed_by, begins_alike, skipped}
 use Rattle.pd_keep.proofs.Fresh.{fresh-push_repeated, fresh_step}
-use Rattle.pd_keep.proofs.InTime.{none_later-last, before_later}
 use Rattle.pd_keep.proofs.Later.{due_later_yet}
 use Rattle.pd_keep.proofs.Made.{kept_is_next, kept_is_own, charges_those}
 use Rattle.pd_keep.proofs.Places.{left_after, moves_from-more}
@@ -59,11 +58,6 @@ later_in : (n : ℕ) (a : Plan) (all : List Move) (old : RunData) (b : Plan) (pa
     → GoBeside n a all old b past from → All (IsLater from) (map move_of old.moves)
 later_in n a all old b past from h =
     let w = between a all (map move_of old.moves) from old.to h.run h.is_between in λ k d lt. (w.inside k d lt).0
-
--- the first moves of none that is later
-none_later-first : (t p : ℕ) (moves : List Move) (m : Move) → NoneLater t p (moves ++ m ∷ []) → NoneLater t p moves
-none_later-first t p [] m h = tt
-none_later-first t p (x ∷ xs) m h = (h.0, none_later-first t p xs m h.1)
 
 -- one more move of a span, in the run
 one_more : (past : List Move) (kept : List KeptData) (k : KeptData)
@@ -261,11 +255,11 @@ pub came_followed : (n : ℕ) (a : Plan) (all : List Move) (old : RunData) (b : 
     → IsNextFollowed old.moves course.away course.at at → at < length old.moves
     → IsPassing b (past ++ map move_of course.span.moves) course.away h.whole live (slice_index_or old.moves at d)
     → HasPassed b (past ++ map move_of course.span.moves) course.away h.whole on (slice_index_or old.moves at d)
-    → on.ports ≡ live.ports → course.at ≡ at → then.at ≡ at + 1 → then.from ≡ course.from → then.same_holds ≡ course.same_holds
+    → on.ports ≡ live.ports → course.at ≡ at → then.at ≡ at + 1 → then.same_holds ≡ course.same_holds
     → then.away ≡ course.away → then.places ≡ course.places
     → then.span.first ≡ course.span.first → then.span.moves ≡ course.span.moves ++ slice_index_or old.moves at d ∷ []
     → HasCameOn n a all old b past from most first meter then on (length course.span.moves)
-came_followed n a all old b past from most first meter course then live on at d h next lt is passed ports here at_is from_is held_is
+came_followed n a all old b past from most first meter course then live on at d h next lt is passed ports here at_is held_is
     away_is places_is first_is moves_is =
     let k : KeptData = slice_index_or old.moves at d in
     let kept : List KeptData = course.span.moves in
@@ -313,9 +307,6 @@ came_followed n a all old b past from most first meter course then live on at d 
             (sym ports)
             (subst (λ (l : List (Option Place)). IsKnown old.first old.moves p (slice_index_or l p None) (port_at live p)) (sym places_is)
             (h.placed p less here_p));
-        looked = (let e = h.looked in omega arith);
-        passed = λ t p none. subst (λ i. AreBefore old.moves i t) (sym from_is)
-            (h.passed t p (none_later-first t p (map move_of kept) (move_of k) (subst (NoneLater t p) moves_more none)));
         own = subst (All (IsOwn b)) (sym moves_is) (All-push (IsOwn b) kept k h.own is.own);
         begun = begins_same n b past course.span then.span first_is h.begun;
         earlier = subst (All (IsEarlier old.to)) (sym moves_more) (All-push (IsEarlier old.to) (map move_of kept) (move_of k) h.earlier
@@ -356,7 +347,7 @@ pub came_own : (n : ℕ) (a : Plan) (all : List Move) (old : RunData) (b : Plan)
     → (h : IsOwnTurn n a all old b past from most first before_it course live port d)
     → asked ≡ at_budget live (force b d.time) → answer ≡ reply_at asked (port - 1) d
     → on ≡ moved_live b asked (port - 1) d
-    → then.at ≡ course.at → then.from ≤ length old.moves → AreBefore old.moves then.from d.time
+    → then.at ≡ course.at
     → (IsTrue then.same_holds → IsTrue course.same_holds × (held_by (port_at on (port - 1)) ≡ held_by (port_at live (port - 1))))
     → then.away ≡ course.away
     → then.places ≡ slice_set course.places (port - 1) place → then.span.first ≡ course.span.first
@@ -365,7 +356,7 @@ pub came_own : (n : ℕ) (a : Plan) (all : List Move) (old : RunData) (b : Plan)
     → Charges old.moves (kept_of port (port_at asked (port - 1)) d answer) before_it after_it
     → HasCameOn n a all old b past from most first after_it then on (length course.span.moves)
 came_own n a all old b past from most first before_it after_it course then live asked on port d answer place o asked_is answer_is on_is
-    at_is from_in from_before held_is away_is places_is first_is moves_is known_place charges =
+    at_is held_is away_is places_is first_is moves_is known_place charges =
     let h = o.come in
     let p = port - 1 in
     let kept : List KeptData = course.span.moves in
@@ -464,9 +455,6 @@ came_own n a all old b past from most first before_it after_it course then live 
             (sym (get_or-set_other asked.ports p q z no_port e ∙ ap (λ (l : LiveData). port_at l q) asked_is))
             (h.placed q lt here_q)))
             (cases_eq q p)));
-        looked = from_in;
-        passed = λ t q none. before_later old.moves then.from d.time t from_before
-            (none_later-last t q (map move_of kept) (move_of k) (subst (NoneLater t q) moves_more none));
         own = subst (All (IsOwn b)) (sym moves_is) (All-push (IsOwn b) kept k h.own own_k);
         begun = begins_same n b past course.span then.span first_is h.begun;
         earlier = subst (All (IsEarlier old.to)) (sym moves_more) (All-push (IsEarlier old.to) (map move_of kept) (move_of k) h.earlier
@@ -487,11 +475,11 @@ pub turned : (n : ℕ) (a : Plan) (all : List Move) (old : RunData) (b : Plan) (
     (course then : Course) (live on : LiveData) (k : KeptData) (place : Place)
     → (h : IsFollowedTurn n a all old b past from most first meter course live) → slice_index_or old.moves course.at k ≡ k
     → course.at < length old.moves
-    → on ≡ taken_up b live (k.port - 1) k.before → then.at ≡ course.at → then.from ≡ course.from → then.same_holds ≡ course.same_holds
+    → on ≡ taken_up b live (k.port - 1) k.before → then.at ≡ course.at → then.same_holds ≡ course.same_holds
     → then.away ≡ slice_set course.away (k.port - 1) false → then.places ≡ slice_set course.places (k.port - 1) (Some place)
     → then.span ≡ course.span → IsKnown old.first old.moves (k.port - 1) (Some place) k.before
     → IsOwnTurn n a all old b past from most first meter then on k.port k.due
-turned n a all old b past from most first meter course then live on k place t k_is inside on_is at_is from_is held_is away_is places_is
+turned n a all old b past from most first meter course then live on k place t k_is inside on_is at_is held_is away_is places_is
     span_is known_place =
     let h = t.come in
     let p = k.port - 1 in
@@ -562,9 +550,6 @@ turned n a all old b past from most first meter course then live on k place t k_
           (subst (λ (y : PortData). IsKnown old.first old.moves q (get_or course.places q None) y)
           (sym (get_or-set_other live.ports p q k.before no_port e)) (h.placed q lt here_q)))
           (cases_eq q p)));
-      looked = (let e = h.looked in omega arith);
-      passed = λ u q none. subst (λ i. AreBefore old.moves i u) (sym from_is)
-          (h.passed u q (subst (λ (l : List KeptData). NoneLater u q (map move_of l)) moves_is none));
       own = subst (All (IsOwn b)) (sym moves_is) h.own;
       begun = begins_same n b past course.span then.span (ap (λ (r : RunData). r.first) span_is) h.begun;
       earlier = subst (λ (l : List KeptData). All (IsEarlier old.to) (map move_of l)) (sym moves_is) h.earlier;
@@ -587,16 +572,6 @@ turned n a all old b past from most first meter course then live on k place t k_
           arith))
 
 -- What a turn asks of the old run and of the ports.
-
--- no old move before the place looked from is as late
-pub own_before : (n : ℕ) (a : Plan) (all : List Move) (old : RunData) (b : Plan) (past : List Move) (from most first meter : ℕ)
-    (course : Course) (live : LiveData) (port : ℕ) (d : Due) → IsOwnTurn n a all old b past from most first meter course live port d
-    → AreBefore old.moves course.from d.time
-own_before n a all old b past from most first meter course live port d o =
-    let s = o.come.but.stands in
-    let known = o.next.first.known in
-    let none = s.runs.ahead (port - 1) d known (sym (s.dues_are (port - 1) known) ∙ o.next.first.is_due) in
-    o.come.passed d.time (port - 1) (none_later-back d.time (port - 1) past (map move_of course.span.moves) none)
 
 -- the ports at the budget of the due's time
 pub own_asked : (n : ℕ) (a : Plan) (all : List Move) (old : RunData) (b : Plan) (past : List Move) (from most first meter : ℕ)
@@ -699,8 +674,6 @@ advanced n a all old b past from most first meter course then live d h next_then
           (λ i k ge lt. (keep known).1 i k ge (omega arith)) (h.held (keep known).0));
       room = h.room;
       placed = h.placed;
-      looked = h.looked;
-      passed = h.passed;
       own = h.own;
       begun = h.begun;
       earlier = h.earlier;
@@ -721,8 +694,6 @@ come_budget n a all old b past from most first meter course live budget h = reco
   held = h.held;
   room = h.room;
   placed = h.placed;
-  looked = h.looked;
-  passed = h.passed;
   own = h.own;
   begun = h.begun;
   earlier = h.earlier;
@@ -839,7 +810,7 @@ pub first_passed : (n : ℕ) (a : Plan) (all : List Move) (old : RunData) (b : P
 first_passed n a all old b past from most first meter course begun live on at own brief d h numbered q own_next dues le passed ports =
     let is = first_passing n a all old b past from most first meter course begun live at own brief d h numbered q own_next dues in
     (came_followed n a all old b past from most first meter (followed_to course old.moves at) (followed_to course old.moves (at + 1))
-    live on at d h (first_followed_at old.moves course.away at own brief q) q.inside is passed ports refl refl refl refl refl refl refl
+    live on at d h (first_followed_at old.moves course.away at own brief q) q.inside is passed ports refl refl refl refl refl refl
     (followed_more course old.moves at d le q.inside)).come
 
 -- where none has followed yet
@@ -928,8 +899,6 @@ come_first n a all old b past from meter alike share same places span live on h 
           (subst (λ (l : List Move). HoldAlike a b from old.to l past) (sym (append-nil (before from all))) (held yes));
       room = (room, room_too);
       placed = λ p lt here. subst (λ (v : Option Place). IsKnown old.first old.moves p v (port_at on p)) (sym (none p)) tt;
-      looked = omega arith;
-      passed = λ t p later k e lt. absurd (omega arith);
       own = subst (All (IsOwn b)) (sym moves) (All-nil (IsOwn b));
       begun = begins_with_live n b past live span h.beside.is_plan_too h.stands first;
       earlier = subst (λ (l : List KeptData). All (IsEarlier old.to) (map move_of l)) (sym moves) (All-nil (IsEarlier old.to));

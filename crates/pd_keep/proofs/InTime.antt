@@ -4,9 +4,9 @@ use Rattle.std.proofs.Common.{arith, get_or, zero, suc, ap}
 use Rattle.std.proofs.lemmas.List.{get_or-map, length-map}
 use Rattle.pd_run.specs.Order.{EachAfter}
 use Rattle.pd_run.specs.Run.{Move, IsInOrder, NoneLater}
-use Rattle.pd_keep.specs.Kept.{KeptData, move_of, AreInTime, AreBefore}
+use Rattle.pd_keep.specs.Kept.{KeptData, move_of, AreInTime}
 
-pub none_later-last : (t p : ℕ) (past : List Move) (m : Move) → NoneLater t p (past ++ m ∷ []) → m.due.time ≤ t
+none_later-last : (t p : ℕ) (past : List Move) (m : Move) → NoneLater t p (past ++ m ∷ []) → m.due.time ≤ t
 none_later-last t p [] m h = h.0.by_time
 none_later-last t p (x ∷ xs) m h = none_later-last t p xs m h.1
 
@@ -29,10 +29,6 @@ times (m ∷ ms) past zero (suc j) e h le lt =
     none_later-last _ _ past (move_of m) (none_later-at ms (past ++ move_of m ∷ []) j e h.1 (omega arith))
 times (m ∷ ms) past (suc i) zero e h le lt = absurd (omega arith)
 times (m ∷ ms) past (suc i) (suc j) e h le lt = times ms (past ++ move_of m ∷ []) i j e h.1 (omega arith) (omega arith)
-
--- those before a time are before a later one
-pub before_later : (old : List KeptData) (n t u : ℕ) → AreBefore old n t → t ≤ u → AreBefore old n u
-before_later old n t u h le = λ k e lt. let less = h k e lt in omega arith
 
 -- where the last move is before a time, all are
 pub all_before : (old : List KeptData) (i t : ℕ) → AreInTime old → i + 1 ≡ length old

@@ -4,7 +4,6 @@ pub mod Counts
 pub mod Entries
 pub mod Course
 mod Following
-pub mod Former
 pub mod Fresh
 pub mod InTime
 pub mod Later
@@ -13,6 +12,7 @@ pub mod Paid
 pub mod Noted
 pub mod Parted
 pub mod Places
+pub mod Ranks
 pub mod Shares
 pub mod Shows
 pub mod Starts

@@ -21,16 +21,14 @@ pub paid_fresh : (n : ℕ) (old : Option (KeptRun n)) (plan : Plan) (moves : Lis
 paid_fresh n old plan moves before after keeps run charge =
     (charge.0, ((running n old).moves, moves, kept_run n old keeps, run, charge.1), charge.2)
 
--- so it is after what left run and meter as they were
-pub paid_anew : (n : ℕ) (run then : Option (KeptRun n)) (old : Running) (plan now : Plan) (spans : List RunData) (before mid after : ℕ)
-    → running n run ≡ old → then ≡ run → now ≡ plan → mid ≡ before → Keeps n run → IsKept n now spans
-    → IsCharged (running n then) now (moves_of spans) mid after → IsPaid CostsFreshMoves old.plan plan before after
-paid_anew n run then old plan now spans before mid after old_is then_is now_is mid_is keeps kept charge =
-    let charge_too = subst (λ (r : Option (KeptRun n)). IsCharged (running n r) now (moves_of spans) mid after) then_is charge in
+-- so it is where what is told of is what a runner keeps, and the plan a scenario's
+pub paid_anew : (n : ℕ) (run : Option (KeptRun n)) (old : Running) (plan now : Plan) (spans : List RunData) (before after : ℕ)
+    → running n run ≡ old → now ≡ plan → Keeps n run → IsKept n now spans → IsCharged (running n run) now (moves_of spans) before after
+    → IsPaid CostsFreshMoves old.plan plan before after
+paid_anew n run old plan now spans before after old_is now_is keeps kept charge =
     subst (λ (r : Running). IsPaid CostsFreshMoves r.plan plan before after) old_is
     (subst (λ (q : Plan). IsPaid CostsFreshMoves (running n run).plan q before after) now_is
-    (subst (λ (m : ℕ). IsPaid CostsFreshMoves (running n run).plan now m after) mid_is
-    (paid_fresh n run now (moves_of spans) mid after keeps kept.safe.run charge_too)))
+    (paid_fresh n run now (moves_of spans) before after keeps kept.safe.run charge))
 
 -- and beside nothing
 pub charged_none : (n : ℕ) (plan : Plan) (moves : List Move) (before after : ℕ) → Costs plan [] plan moves before after

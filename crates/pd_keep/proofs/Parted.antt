@@ -209,7 +209,6 @@ pub record InSpan (n : ℕ) (plan : Plan) (spans : List RunData) (k : ℕ) (s : 
   pub rising : begins_at spans k < s.to
   pub begun : BeginsAfter n plan (before (begins_at spans k) (moves_of spans)) s
   pub made : All IsMade s.moves
-  pub in_time : AreInTime s.moves
   pub those : AreThose (kept_of_spans spans) (begins_at spans k) s.to s.moves
   pub own : All (IsOwn plan) s.moves
 
@@ -270,7 +269,6 @@ in_span n plan spans k s kept e =
       rising = kept.spanned.rising k s e;
       begun = subst (λ (l : List Move). BeginsAfter n plan l s) (sym first) (kept.spanned.begun k s e);
       made = λ i d lt. (own i d lt).made;
-      in_time = λ i j d le lt. times s.moves (map move_of x) i j d ordered le lt;
       those = subst (λ (l : List KeptData). AreThose l at to s.moves) (sym split) (contains_middle x s.moves z at to early late);
       own = own;
     }

@@ -5,11 +5,11 @@ use Rattle.std.specs.Prelude.{slice_get, slice_index_or}
 use Rattle.pd_port.specs.declared.due.Due.{Due}
 use Rattle.pd_scenario.specs.Plan.{Plan, IsPlan, count, floors_of, force}
 use Rattle.pd_run.specs.Live.{LiveData, StandsAfter, StandsBut, IsNext, due_at, port_at}
-use Rattle.pd_run.specs.Run.{Move, Run, GoesOn, IsAnswered, NoneLater, holds_after}
+use Rattle.pd_run.specs.Run.{Move, Run, GoesOn, IsAnswered, holds_after}
 use Rattle.pd_run.specs.StepsLeft.{steps_left}
 use Rattle.pd_run.specs.UpTo.{before, IsUpTo, AgreeInScripts, PortIsAlike}
 use Rattle.pd_keep.specs.declared.follow.Course.{Course}
-use Rattle.pd_keep.specs.Kept.{KeptData, RunData, move_of, moves_from, IsBrief, IsKnown, IsOwn, KeepsHold, AreBefore}
+use Rattle.pd_keep.specs.Kept.{KeptData, RunData, move_of, moves_from, IsBrief, IsKnown, IsOwn, KeepsHold}
 use Rattle.pd_keep.specs.declared.kept_move.Brief.{Brief}
 use Rattle.pd_keep.specs.declared.rerun.Common.{Common}
 use Rattle.pd_keep.specs.Rerun.{AreThose, Costs, HaveInCommon, BeginsWithMarked, IsSoFar}
@@ -138,8 +138,6 @@ pub record HasCome (n : ℕ) (a : Plan) (all : List Move) (old : RunData) (b : P
   pub room : (length course.away ≡ 8) × (length course.places ≡ 8)
   pub placed : (p : ℕ) → p < n → slice_index_or course.away p false ≡ false
       → IsKnown old.first old.moves p (slice_index_or course.places p None) (port_at live p)
-  pub looked : course.from ≤ length old.moves
-  pub passed : (t p : ℕ) → NoneLater t p (map move_of course.span.moves) → AreBefore old.moves course.from t
   pub own : All (IsOwn b) course.span.moves
   pub begun : BeginsAfter n b past course.span
   pub earlier : All (λ m. m.due.time < old.to) (map move_of course.span.moves)

@@ -13,6 +13,8 @@ use Rattle.pd_port.specs.declared.entry.Entry.{Entry}
 use Rattle.pd_keep.specs.declared.kept_move.Brief.{Brief}
 use Rattle.pd_keep.specs.declared.kept_move.Place.{Place}
 use Rattle.pd_keep.specs.declared.kept_move.Place.TheVariants as place
+use Rattle.pd_keep.specs.declared.rank.Rank.{Rank}
+use Rattle.pd_keep.specs.Ranks.{IsBefore, number_due, rank_of}
 
 -- What is kept of a move: its port, numbered from 1, as it was before it; what fell due; the answer to what the port asked; the
 -- port after it; and what the move left to be read.
@@ -53,9 +55,22 @@ pub record IsOwn (plan : Plan) (k : KeptData) : Type 0 where
 abbrev pub AreInTime : List KeptData → Type 0
 AreInTime old = (i j : ℕ) (e : KeptData) → i ≤ j → j < length old → (slice_index_or old i e).due.time ≤ (slice_index_or old j e).due.time
 
--- the first n of them are before this time
-abbrev pub AreBefore : List KeptData → ℕ → ℕ → Type 0
-AreBefore old n time = (k : ℕ) (e : KeptData) → k < n → (slice_index_or old k e).due.time < time
+-- where a move stands among the moves of a run
+abbrev pub rank_kept : KeptData → Rank
+rank_kept k = rank_of k.port k.due
+
+-- none of the first n moves stands before one that comes before it
+abbrev pub AreRankedTo : List KeptData → ℕ → Type 0
+AreRankedTo moves n = (i j : ℕ) (k : KeptData) → i < j → j < n
+    → IsBefore (rank_kept (slice_index_or moves j k)) (rank_kept (slice_index_or moves i k)) → ⊥
+
+-- none of all
+abbrev pub AreRanked : List KeptData → Type 0
+AreRanked moves = AreRankedTo moves (length moves)
+
+-- none of the first n stands just here
+abbrev pub NoneStands : Rank → List KeptData → ℕ → Type 0
+NoneStands rank moves n = (i : ℕ) (k : KeptData) → i < n → rank_kept (slice_index_or moves i k) ≡ rank → ⊥
 
 -- so many of them, from a place on
 abbrev pub moves_from : List KeptData → ℕ → ℕ → List KeptData
@@ -105,11 +120,12 @@ pub record IsQuiet (k : KeptData) : Type 0 where
   pub unanswered : k.answer ≡ None
   pub same_hold : KeepsHold k
 
--- this is the brief of a move: when it was, of which port, whether for an event, and what the port held before it; it stirs where it
--- isn't quiet, and is marked where it keeps its port's hold
+-- this is the brief of a move: when it was, of which port, by which number, whether for an event, and what the port held before it; it
+-- stirs where it isn't quiet, and is marked where it keeps its port's hold
 pub record IsBrief (k : KeptData) (b : Brief) : Type 0 where
   pub time : b.time ≡ k.due.time
   pub port : b.port ≡ k.port
+  pub number : b.number ≡ number_due k.due.what
   pub event : b.is_event ≡ is_event k.due.what
   pub quiet : (b.stirs ≡ false) ↔ IsQuiet k
   pub keeps : (b.keeps_hold ≡ true) ↔ KeepsHold k
@@ -117,7 +133,7 @@ pub record IsBrief (k : KeptData) (b : Brief) : Type 0 where
 
 -- stands where there is no move
 abbrev pub no_brief : Brief
-no_brief = record { time = 0; port = 0; is_event = false; stirs = true; keeps_hold = false; held = 0 }
+no_brief = record { time = 0; port = 0; number = 0; is_event = false; stirs = true; keeps_hold = false; held = 0 }
 
 -- these are the briefs of moves
 pub record AreBrief (moves : List KeptData) (briefs : List Brief) : Type 0 where

@@ -7,6 +7,7 @@ pub mod Fresh
 pub mod Kept
 pub mod Places
 pub mod Presence
+pub mod Ranks
 pub mod Rerun
 pub mod Running
 pub mod Spans

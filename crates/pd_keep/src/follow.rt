@@ -11,20 +11,21 @@ ghost use Rattle.pd_keep.specs.Following.{AreNumbered, CanFollow, ComesAfter, Co
 ghost use Rattle.pd_keep.specs.Following.{followed_to, IsFirstFollowed, IsFollowedTurn, IsNextFollowed, IsOwnNext, IsOwnTurn};
 ghost use Rattle.pd_keep.specs.Following.{IsPassing, IsThrough, KeepHold};
 ghost use Rattle.pd_keep.specs.declared.kept_move.Brief.{Brief as BriefData};
-ghost use Rattle.pd_keep.specs.Kept.{KeptData, move_of, moves_from, IsBrief, IsKnown, IsMade, IsOwn, AreInTime, held_by, left_by};
+ghost use Rattle.pd_keep.specs.Kept.{KeptData, move_of, moves_from, IsBrief, IsKnown, IsMade, IsOwn, held_by, left_by};
 ghost use Rattle.pd_keep.specs.Places.{StandAs};
 ghost use Rattle.pd_keep.specs.Rerun.{AreThose, Costs, IsNextSpan};
 
 use crate::kept_move::{Brief, KeptMoves, Place};
-use crate::one_span::{make, next_before, skip};
+use crate::one_span::{make, next_before, seek};
+use crate::rank::Rank;
 use crate::spare::SpareLists;
 use pd_port::{Due, Meter};
 use pd_run::{Live, Plan};
 use std::alloc::{AllocError, Global};
 
-/// How far a span has come beside an older one: so many moves of the older one are past; before another of its places all are of earlier
-/// times; whether both plans are known to share alike in it, and each port to hold as much now as in the older run; these ports follow
-/// it, and the others stand at these places in it; and the moves of the span.
+/// How far a span has come beside an older one: so many moves of the older one are past; from where its moves are looked for; whether
+/// both plans are known to share alike in it, and each port to hold as much now as in the older run; these ports follow it, and the others
+/// stand at these places in it; and the moves of the span.
 #[derive(Drop)]
 pub struct Course {
     pub at: usize,
@@ -211,7 +212,6 @@ fn move_own<const N: usize>(
     meter: &mut Meter,
 ) -> Result<Option<(usize, Due)>, AllocError>
     requires made { All IsMade old.now.moves }
-    requires in_time { AreInTime old.now.moves }
     requires next { (a : PlanData) × (all : List Move) × (past : List Move) × (from : ℕ) × (most : ℕ) × (first : ℕ)
         × IsOwnTurn N a all old.now plan.now past from most first meter.old course.old live.old port due }
     ensures came { OnOk result ((a : PlanData) (all : List Move) (past : List Move) (from most first : ℕ)
@@ -222,7 +222,7 @@ fn move_own<const N: usize>(
 {
     let held = live.hold(port);
     let asked = live.reply_beside(plan, port, &due);
-    course.from = skip(old, course.from, due.time);
+    course.from = seek(old, course.from, &Rank::of(port, &due));
     let (kept, marks, place) = make(
         alloc,
         old,
@@ -251,7 +251,6 @@ fn leave<const N: usize>(
     meter: &mut Meter,
 ) -> Result<Option<(usize, Due)>, AllocError>
     requires made { All IsMade old.now.moves }
-    requires in_time { AreInTime old.now.moves }
     requires inside { course.old.at < length old.now.moves }
     requires next { (a : PlanData) × (all : List Move) × (past : List Move) × (from : ℕ) × (most : ℕ) × (first : ℕ)
         × IsFollowedTurn N a all old.now plan.now past from most first meter.old course.old live.old }
@@ -282,7 +281,6 @@ fn turn_at<const N: usize>(
     meter: &mut Meter,
 ) -> Result<bool, AllocError>
     requires made { All IsMade old.now.moves }
-    requires in_time { AreInTime old.now.moves }
     requires numbered { AreNumbered N old.now.moves }
     requires here { IsNextFollowed old.now.moves course.old.away course.old.at course.old.at }
     requires own { IsOwnNext plan.now live.old old.now.to own.old }
@@ -320,7 +318,6 @@ fn turn<const N: usize>(
     meter: &mut Meter,
 ) -> Result<bool, AllocError>
     requires made { All IsMade old.now.moves }
-    requires in_time { AreInTime old.now.moves }
     requires numbered { AreNumbered N old.now.moves }
     requires own { IsOwnNext plan.now live.old old.now.to own.old }
     requires come { (a : PlanData) × (all : List Move) × (past : List Move) × (from : ℕ) × (most : ℕ) × (first : ℕ)
@@ -432,7 +429,6 @@ pub fn follow_span<const N: usize>(
     meter: &mut Meter,
 ) -> Result<(KeptMoves, [bool; 8]), AllocError>
     requires made { All IsMade old.now.moves }
-    requires in_time { AreInTime old.now.moves }
     requires numbered { AreNumbered N old.now.moves }
     requires follows { (a : PlanData) × (all : List Move) × (past : List Move) × (from : ℕ)
         × CanFollow N a all old.now plan.now past from alike.now share live.old }

@@ -9,10 +9,11 @@ ghost use Rattle.pd_run.specs.Run.{Move, IsAnswered};
 ghost use Rattle.pd_run.specs.Start.{no_port};
 ghost use Rattle.pd_run.specs.UpTo.{AreAfter};
 ghost use Rattle.pd_keep.specs.Asked.{IsAsked};
-ghost use Rattle.pd_keep.specs.Kept.{KeptData, IsBrief, IsLeft, IsMade, IsKnown, IsQuiet, KeepsHold, held_by, kept_of, left_by, move_of};
-ghost use Rattle.pd_keep.specs.Kept.{marks_kept, moves_from, shown_of};
+ghost use Rattle.pd_keep.specs.Kept.{KeptData, AreRanked, IsBrief, IsLeft, IsMade, IsKnown, IsQuiet, KeepsHold, held_by, kept_of};
+ghost use Rattle.pd_keep.specs.Kept.{left_by, marks_kept, move_of, moves_from, rank_kept, shown_of};
 
 use crate::presence::Presence;
+use crate::rank::{Rank, number_due};
 use crate::spare::SpareLists;
 use pd_objects::Answer;
 use pd_port::{Due, Entry, Port, What};
@@ -151,6 +152,7 @@ impl KeptMove {
         Brief {
             time: due.time,
             port: self.port,
+            number: number_due(&due.what),
             is_event: matches!(due.what, What::Event(_)),
             stirs: self.stirs(),
             keeps_hold: self.keeps_hold(),
@@ -160,12 +162,13 @@ impl KeptMove {
 }
 
 /// What of a move is looked at where ports go on as in the run that has it: when it was, in microseconds, its port, numbered from 1,
-/// whether it was for an event, whether it asked the shared budget or changed what its port holds, whether it left that as it was, and
-/// what the port held before it, in microwatts.
+/// the number of its event (`number_due`), whether it was for an event, whether it asked the shared budget or changed what its port
+/// holds, whether it left that as it was, and what the port held before it, in microwatts.
 #[derive(Clone, Copy)]
 pub struct Brief {
     pub time: u64,
     pub port: usize,
+    pub number: u32,
     pub is_event: bool,
     pub stirs: bool,
     pub keeps_hold: bool,
@@ -182,7 +185,7 @@ pub enum Place {
 /// Moves of a run up to a time, and the ports as they are before them. Moves lie far apart in memory, so beside them stand the marks
 /// of their entries, for whoever looks for a note; their briefs, for ports that go on as they did; and where each move's port stood
 /// before it, so that ports that come from one move to the next needn't be compared. It is also known where each port stands after the
-/// moves. What none of them leaves is noted too.
+/// moves. What none of them leaves is noted too, and whether they are known to stand in their order (`Rank`).
 #[derive(Drop)]
 pub struct KeptMoves {
     to: u64,
@@ -193,11 +196,12 @@ pub struct KeptMoves {
     briefs: Vec<Brief>,
     lasts: [Place; 8],
     presence: Presence,
+    ranked: bool,
 }
 
 impl Model for KeptMoves {
-    ghost use Rattle.std.specs.Prelude.{◌≡◌, map};
-    ghost use Rattle.pd_keep.specs.Kept.{RunData, AreBrief, AreLast, AreLinked, marks_kept};
+    ghost use Rattle.std.specs.Prelude.{◌≡◌, map, IsTrue};
+    ghost use Rattle.pd_keep.specs.Kept.{RunData, AreBrief, AreLast, AreLinked, AreRanked, marks_kept};
     ghost use Rattle.pd_keep.specs.Presence.{AreNoted};
 
     ghost Value = { RunData };
@@ -206,7 +210,7 @@ impl Model for KeptMoves {
 
     ghost invariant = { λ r. (r.marks.items ≡ map marks_kept r.moves.items) × AreLinked r.first.items r.moves.items r.links.items
         × AreBrief r.moves.items r.briefs.items × AreLast r.first.items r.moves.items r.lasts
-        × AreNoted r.presence r.marks.items };
+        × AreNoted r.presence r.marks.items × (IsTrue r.ranked → AreRanked r.moves.items) };
 }
 
 impl KeptMoves {
@@ -230,6 +234,7 @@ impl KeptMoves {
             briefs: emptied(lists.briefs, room)?,
             lasts: [Place::First; 8],
             presence: Presence::nothing(),
+            ranked: false,
         })
     }
 
@@ -244,9 +249,43 @@ impl KeptMoves {
     pub fn ended(self, to: u64) -> KeptMoves
         ensures { result ≡ record self { to = to } }
     {
+        let ranked = self.rises();
         let mut ended = self;
+        ended.ranked = ranked;
         ended.to = to;
         ended
+    }
+
+    // Whether each move stands no earlier than the one before it.
+    fn rises(&self) -> bool
+        ensures { IsTrue result → AreRanked self.now.moves }
+    {
+        for i in 1..self.len() {
+            if self.rank(i).is_before(&self.rank(i - 1)) {
+                return false;
+            }
+        }
+        true
+    }
+
+    /// Whether it is known that none of the moves stands before one that comes before it. So it is in each run.
+    pub fn is_ranked(&self) -> bool
+        ensures { IsTrue result → AreRanked self.now.moves }
+    {
+        self.ranked
+    }
+
+    /// Where a move stands among the moves of a run.
+    pub fn rank(&self, i: usize) -> Rank
+        requires { i < length self.now.moves }
+        ensures { (k : KeptData) → result ≡ rank_kept (slice_index_or self.now.moves i k) }
+    {
+        let brief = self.brief(i);
+        Rank {
+            time: brief.time,
+            port: brief.port,
+            number: brief.number,
+        }
     }
 
     /// Takes back the room of the moves and ports that no other run has. The lists are spare, and own no step any more.
@@ -593,6 +632,7 @@ impl KeptMoves {
         self.briefs.push_reserved(brief);
         self.lasts[port - 1] = place;
         self.presence = presence;
+        self.ranked = false;
         Ok(())
     }
 }

@@ -8,6 +8,7 @@ mod kept_move;
 pub mod laws;
 mod one_span;
 mod presence;
+mod rank;
 mod rerun;
 mod spans;
 mod spare;

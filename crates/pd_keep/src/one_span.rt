@@ -1,23 +1,26 @@
 //! A span of a run beside an older run's: moves that the older one has are shared.
 
-ghost use Rattle.std.specs.Prelude.{◌≡◌, ◌⊎◌, ℕ, ◌+◌, ◌-◌, ◌<◌, ◌≤◌, ◌++◌, ◌∷◌, [], List, IfOk, OnOk, IfSome, IfNone, map, length};
+ghost use Rattle.std.specs.Prelude.{◌≡◌, ◌⊎◌, ℕ, ◌+◌, ◌-◌, ◌<◌, ◌≤◌, ◌++◌, ◌∷◌, [], List, IfOk, OnOk, IfSome, IfNone, IsTrue, map, length};
 ghost use Rattle.std.specs.Prelude.{Contains};
 ghost use Rattle.std.specs.Prelude.{All, slice_index, slice_index_or, slice_set};
 ghost use Rattle.pd_port.specs.Meter.{raised};
 ghost use Rattle.pd_port.specs.Port.{ask};
 ghost use Rattle.pd_scenario.specs.Plan.{Plan as PlanData, IsPlan, force};
 ghost use Rattle.pd_run.specs.Live.{LiveData, StandsAfter, IsNext, IsNextBeside, port_at, moved_port, moved_live, reply_at};
-ghost use Rattle.pd_run.specs.Run.{Move, NoneLater};
+ghost use Rattle.pd_run.specs.Run.{Move};
 ghost use Rattle.pd_run.specs.Start.{no_port};
 ghost use Rattle.pd_run.specs.StepsLeft.{steps_left};
 ghost use Rattle.pd_run.specs.UpTo.{IsUpTo};
-ghost use Rattle.pd_keep.specs.Kept.{KeptData, held_by, kept_of, move_of, marks_kept, IsMade, IsOwn, IsKnown, AreInTime, AreBefore};
+ghost use Rattle.pd_keep.specs.Kept.{KeptData, held_by, kept_of, move_of, marks_kept, rank_kept, IsMade, IsOwn, IsKnown, AreInTime};
+ghost use Rattle.pd_keep.specs.Kept.{NoneStands};
+ghost use Rattle.pd_keep.specs.Ranks.{IsBefore, rank_of};
 ghost use Rattle.pd_keep.specs.Charge.{Charges};
 ghost use Rattle.pd_keep.specs.Following.{IsOwnNext};
 ghost use Rattle.pd_keep.specs.Places.{ArePlaced};
 ghost use Rattle.pd_keep.specs.Rerun.{AreThose, Costs, IsNextSpan};
 
 use crate::kept_move::{KeptMove, KeptMoves, Place};
+use crate::rank::Rank;
 use crate::spare::SpareLists;
 use pd_objects::Answer;
 use pd_port::{Due, Meter, Port};
@@ -50,7 +53,6 @@ pub fn run_span<const N: usize>(
     meter: &mut Meter,
 ) -> Result<KeptMoves, AllocError>
     requires made { All IsMade old.now.moves }
-    requires in_time { AreInTime old.now.moves }
     requires placed { ArePlaced N old.now places.old live.old }
     requires stands { (past : List Move) × StandsAfter plan.now past live.old }
     ensures span { IfOk result (λ span. (past : List Move) (from : ℕ) → from < to → StandsAfter plan.now past live.old
@@ -71,7 +73,7 @@ pub fn run_span<const N: usize>(
             return Ok(span.ended(end));
         }
         let asked = live.reply_beside(plan, port, &due);
-        from = skip(old, from, due.time);
+        from = seek(old, from, &Rank::of(port, &due));
         let left = places[port - 1];
         let (kept, marks, at) = make(alloc, old, from, left, plan, live, port, due, asked, meter)?;
         span.push(port, kept, marks)?;
@@ -99,8 +101,6 @@ fn end_before(span: &KeptMoves, time: u64) -> Option<u64>
 // The port that moves next, with what falls due on it, if that is before a time.
 pub fn next_before<const N: usize>(live: &Live<N>, plan: &Plan<N>, to: u64) -> Option<(usize, Due)>
     ensures next { IfSome result (λ r. IsNext plan.now live.now r.0 r.1 × (r.1.time < to)) }
-    ensures in_order { IfSome result (λ r. (past : List Move) → StandsAfter plan.now past live.now
-        → NoneLater r.1.time (r.0 - 1) past) }
     ensures none { IfNone result ((past : List Move) → StandsAfter plan.now past live.now
         → All (λ m. m.due.time < to) past → IsUpTo plan.now past to) }
     ensures own { IsOwnNext plan.now live.now to result }
@@ -130,8 +130,7 @@ pub fn make<const N: usize>(
     meter: &mut Meter,
 ) -> Result<(KeptMove, Marks, Option<Place>), AllocError>
     requires made { All IsMade old.now.moves }
-    requires in_time { AreInTime old.now.moves }
-    requires before { AreBefore old.now.moves from due.time }
+    requires before { NoneStands (rank_of port due) old.now.moves from }
     requires left { IsKnown old.now.first old.now.moves (port - 1) left (port_at live.old (port - 1)) }
     requires plan { IsPlan N plan.now }
     requires room { length live.old.ports ≡ N }
@@ -183,21 +182,34 @@ fn step<const N: usize>(
     Ok(KeptMove::new(port, before, step))
 }
 
-// The first place from `from` on whose move isn't before this time.
-pub fn skip(old: &KeptMoves, from: usize, time: u64) -> usize
-    requires within { from ≤ length old.now.moves }
-    requires before { AreBefore old.now.moves from time }
-    ensures within { result ≤ length old.now.moves }
-    ensures before { AreBefore old.now.moves result time }
+// A place of the old run before which no move stands here. It is looked for from where it was before, if the moves up to there stand
+// before, else from the first one. A run comes to each rank in its order, so what comes before is passed over once.
+pub fn seek(old: &KeptMoves, from: usize, rank: &Rank) -> usize
+    ensures { NoneStands rank.now old.now.moves result }
 {
-    let mut at = from;
-    while at < old.len() && old.time(at) < time {
+    if !old.is_ranked() {
+        return 0;
+    }
+    let mut at = resumed(old, from, rank);
+    while at < old.len() && old.rank(at).is_before(rank) {
         at += 1;
     }
     at
 }
 
-// The place of a move in the old run, of which all moves before `from` are of earlier times.
+// A place, if the move before it stands before this, else the first.
+fn resumed(old: &KeptMoves, from: usize, rank: &Rank) -> usize
+    ensures within { result ≤ length old.now.moves }
+    ensures passed { 1 ≤ result → (k : KeptData) → IsBefore (rank_kept (slice_index_or old.now.moves (result - 1) k)) rank.now }
+{
+    if 0 < from && from <= old.len() && old.rank(from - 1).is_before(rank) {
+        from
+    } else {
+        0
+    }
+}
+
+// The place of a move in the old run, of which no move before `from` stands where it does.
 fn find(
     old: &KeptMoves,
     from: usize,
@@ -209,16 +221,17 @@ fn find(
     answer: &Option<Answer>,
 ) -> Option<usize>
     requires made { All IsMade old.now.moves }
-    requires in_time { AreInTime old.now.moves }
-    requires before { AreBefore old.now.moves from due.now.time }
+    requires before { NoneStands (rank_of port due.now) old.now.moves from }
     requires left { IsKnown old.now.first old.now.moves (port - 1) left before.now }
     requires held { held ≡ held_by before.now }
     ensures found { IfSome result (λ i. i < length old.now.moves
         × slice_index_or old.now.moves i (kept_of port before.now due.now answer.now) ≡ kept_of port before.now due.now answer.now) }
     ensures none { IfNone result (Contains old.now.moves (kept_of port before.now due.now answer.now) → ⊥) }
 {
+    let rank = Rank::of(port, due);
+    let ranked = old.is_ranked();
     for i in from..old.len() {
-        if old.time(i) > due.time {
+        if ranked && rank.is_before(&old.rank(i)) {
             return None;
         }
         if old.repeats(i, left, port, held, before, due, answer) {

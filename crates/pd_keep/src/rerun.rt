@@ -9,7 +9,7 @@ ghost use Rattle.pd_run.specs.Live.{StandsAfter, port_at};
 ghost use Rattle.pd_run.specs.Run.{Move};
 ghost use Rattle.pd_run.specs.Start.{no_port};
 ghost use Rattle.pd_run.specs.UpTo.{IsUpTo, AgreeInScripts};
-ghost use Rattle.pd_keep.specs.Kept.{KeptData, move_of, IsMade, IsOwn, AreInTime};
+ghost use Rattle.pd_keep.specs.Kept.{KeptData, move_of, IsMade, IsOwn};
 ghost use Rattle.pd_keep.specs.Kept.{RunData, IsKnown, left_by};
 ghost use Rattle.pd_keep.specs.Following.{AreNumbered, CanFollow, ComesApart, ShareAlike};
 ghost use Rattle.pd_keep.specs.declared.rerun.Common.{Common as CommonData};
@@ -310,7 +310,6 @@ fn follow_on<const N: usize>(
     meter: &mut Meter,
 ) -> Result<[bool; 8], AllocError>
     requires made { All IsMade old.now.moves }
-    requires in_time { AreInTime old.now.moves }
     requires numbered { AreNumbered N old.now.moves }
     requires soon { from ≤ plan.now.end }
     requires so_far { IsSoFar N plan.now spans.old from }
@@ -346,7 +345,6 @@ fn run_on<const N: usize>(
     meter: &mut Meter,
 ) -> Result<[bool; 8], AllocError>
     requires made { All IsMade old.now.moves }
-    requires in_time { AreInTime old.now.moves }
     requires rising { from < to }
     requires soon { from ≤ plan.now.end }
     requires known { BeginsWithMarked N old.now live.old alike }

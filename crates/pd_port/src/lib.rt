@@ -16,6 +16,7 @@ pub use due::{Due, What};
 pub use entry::{ContractChange, Entry};
 pub use meter::Meter;
 pub use own_due::OwnDue;
+pub use pd_line::stepping::Line;
 pub use pd_line::{Fault, Start};
 pub use pd_setup::{Event, EventKind, Happening, PortEventKind, Settings};
 pub use port::Port;

@@ -33,14 +33,6 @@ impl Meter {
         self.steps
     }
 
-    /// So many more steps count as taken.
-    pub fn rise_by(&mut self, steps: u64)
-        ensures { self.new ≡ raised self.old steps }
-    {
-        let own = &mut self.steps;
-        *own = own.saturating_add(steps);
-    }
-
     /// One more step was taken.
     pub(crate) fn rise(&mut self)
         ensures { self.new ≡ raised self.old 1 }

@@ -16,8 +16,9 @@ use crate::polls::{is_poll, polls_again};
 use crate::{Due, Entry, Event, Meter, OwnDue, Settings, What};
 use arrayvec::ArrayVec;
 use pd_header::Side;
-use pd_line::stepping::{PortParts, PortStep};
+use pd_line::stepping::{Line, PortParts, PortStep};
 use pd_objects::{Answer, Contract, Query};
+use pd_setup::SinkSettings;
 use pd_sink::State as SinkState;
 use pd_source::State as SourceState;
 use pd_symbols::copied;
@@ -292,6 +293,28 @@ impl Port {
         ensures { result ≡ self.now.port_record.sink.state }
     {
         self.parts.sink.state()
+    }
+
+    /// The sink that is attached, as its engine knows it.
+    pub fn sink_settings(&self) -> Option<SinkSettings>
+        ensures { result ≡ self.now.port_record.sink.sink }
+    {
+        self.parts.sink.settings()
+    }
+
+    /// The objects of the offer that the sink's engine keeps.
+    pub fn kept_offer(&self) -> &[u32]
+        ensures offer { result.now ≡ self.now.port_record.sink.kept_offer }
+        ensures few { length result.now ≤ 7 }
+    {
+        self.parts.sink.kept_offer()
+    }
+
+    /// What is on the line.
+    pub fn line(&self) -> &Line
+        ensures { result.now ≡ self.now.port_record.line }
+    {
+        &self.parts.line
     }
 
     /// Whether both ports' records are the same, whatever the ports are set to.

@@ -41,20 +41,17 @@ turn-requires g c =
         (
           c.requires.made,
           (
-            c.requires.in_time,
+            c.requires.numbered,
             (
-              c.requires.numbered,
+              c.loop-course.invariant.own,
               (
-                c.loop-course.invariant.own,
-                (
-                  r.0,
-                  r.1,
-                  r.2,
-                  r.3,
-                  steps_left c.args.plan.now c.args.live.now,
-                  c.args.meter.now,
-                  c.loop-course.invariant.come r.0 r.1 r.2 r.3 r.4,
-                ),
+                r.0,
+                r.1,
+                r.2,
+                r.3,
+                steps_left c.args.plan.now c.args.live.now,
+                c.args.meter.now,
+                c.loop-course.invariant.come r.0 r.1 r.2 r.3 r.4,
               ),
             ),
           ),

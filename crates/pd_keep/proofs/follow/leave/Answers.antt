@@ -211,17 +211,14 @@ move_own-requires g c =
         (
           c.requires.made,
           (
-            c.requires.in_time,
-            (
-              r.0,
-              r.1,
-              r.2,
-              r.3,
-              r.4,
-              r.5,
-              turned g.row.N r.0 r.1 c.args.old.now c.args.plan.now r.2 r.3 r.4 r.5 c.args.meter.now c.args.course.now _ c.args.live.now
-                  c.take_up.new.self v c.place_before.result r.6 (sym read) c.requires.inside on refl refl refl refl refl refl place,
-            ),
+            r.0,
+            r.1,
+            r.2,
+            r.3,
+            r.4,
+            r.5,
+            turned g.row.N r.0 r.1 c.args.old.now c.args.plan.now r.2 r.3 r.4 r.5 c.args.meter.now c.args.course.now _ c.args.live.now
+                c.take_up.new.self v c.place_before.result r.6 (sym read) c.requires.inside on refl refl refl refl refl place,
           ),
         ),
       ),
@@ -262,5 +259,5 @@ returns-clause-came g c =
     (λ came a all past from most first turn.
     came a all past from most first
     (turned g.row.N a all c.args.old.now c.args.plan.now past from most first c.args.meter.now c.args.course.now _ c.args.live.now
-    c.take_up.new.self v c.place_before.result turn (sym read) c.requires.inside on refl refl refl refl refl refl place))
+    c.take_up.new.self v c.place_before.result turn (sym read) c.requires.inside on refl refl refl refl refl place))
     c.move_own.ensures.came

@@ -1,16 +1,11 @@
-use Rattle.std.proofs.Common.{◌≡◌, ◌-◌, ◌++◌, ◌∷◌, [], IsTrue, List, map, ap, sym, ◌∙◌, arith, refl}
+use Rattle.std.proofs.Common.{◌≡◌, ◌-◌, ◌++◌, ◌∷◌, [], IsTrue, List, map, ap, sym, ◌∙◌, subst, arith, refl}
 use Rattle.std.proofs.lemmas.Bool.{eqb-true}
 use Rattle.pd_run.specs.Live.{port_at}
-use Rattle.pd_keep.specs.Kept.{KeptData, RunData, held_by, move_of}
-use Rattle.pd_keep.proofs.Course.{came_own, own_asked, own_before, own_is_next, own_left, own_place}
+use Rattle.pd_keep.specs.declared.rank.Rank.{Rank}
+use Rattle.pd_keep.specs.Kept.{KeptData, RunData, NoneStands, held_by, move_of}
+use Rattle.pd_keep.proofs.Course.{came_own, own_asked, own_is_next, own_left, own_place}
 use Rattle.pd_keep.proofs.follow.move_own.Goals.{then-course, else-course}
 use Rattle.pd_keep.proofs.follow.move_own.Goals as goal
-
-pub skip-course-requires-clause-before : goal.skip-course-requires-clause-before
-skip-course-requires-clause-before g c =
-    let r = c.requires.next in
-    own_before g.row.N r.0 r.1 c.args.old.now c.args.plan.now r.2 r.3 r.4 r.5 c.args.meter.now c.args.course.now c.args.live.now
-    c.args.port c.args.due r.6
 
 pub make-requires : goal.make-requires
 make-requires g c =
@@ -34,17 +29,14 @@ make-requires g c =
         (
           c.requires.made,
           (
-            c.requires.in_time,
+            subst (λ (r : Rank). NoneStands r c.args.old.now.moves c.seek-course.result) c.of.ensures c.seek-course.ensures,
             (
-              c.skip-course.ensures.before,
+              left,
               (
-                left,
+                plan_is,
                 (
-                  plan_is,
-                  (
-                    room,
-                    ((others, _, next), (c.reply_beside-asked.ensures.query, c.reply_beside-asked.ensures.answer)),
-                  ),
+                  room,
+                  ((others, _, next), (c.reply_beside-asked.ensures.query, c.reply_beside-asked.ensures.answer)),
                 ),
               ),
             ),
@@ -75,5 +67,5 @@ returns-clause-came g c = λ a all past from most first o.
     came_own g.row.N a all c.args.old.now c.args.plan.now past from most first c.args.meter.now c.make.new.meter c.args.course.now _
     c.args.live.now c.reply_beside-asked.new.self c.make.new.live c.args.port c.args.due c.reply_beside-asked.result.answer
     c.in_ok-kept.place o c.reply_beside-asked.ensures.budget c.reply_beside-asked.ensures.answer c.in_ok-kept.ensures.moved refl
-    c.skip-course.ensures.within c.skip-course.ensures.before held refl refl (ap (λ (x : RunData). x.first) c.in_ok-push.ensures) moves_is
+    held refl refl (ap (λ (x : RunData). x.first) c.in_ok-push.ensures) moves_is
     c.in_ok-kept.ensures.found c.in_ok-kept.ensures.charges

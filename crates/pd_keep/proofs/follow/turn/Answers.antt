@@ -68,29 +68,26 @@ turn_at-requires g c =
         (
           c.requires.made,
           (
-            c.requires.in_time,
+            c.requires.numbered,
             (
-              c.requires.numbered,
+              followed_here old.moves c.pass_over.new.course.away c.args.course.now.at c.pass_over.new.course.at
+                  c.pass_over.ensures.next,
               (
-                followed_here old.moves c.pass_over.new.course.away c.args.course.now.at c.pass_over.new.course.at
-                    c.pass_over.ensures.next,
+                own_next_on c.args.plan.now c.args.live.now c.pass_on-passed.new.live old.to c.args.own.now
+                    c.pass_on-passed.ensures.dues c.requires.own,
                 (
-                  own_next_on c.args.plan.now c.args.live.now c.pass_on-passed.new.live old.to c.args.own.now
-                      c.pass_on-passed.ensures.dues c.requires.own,
-                  (
-                    r.0,
-                    r.1,
-                    r.2,
-                    r.3,
-                    r.4,
-                    r.5,
-                    come_back g.row.N r.0 r.1 c.args.old.now c.args.plan.now r.2 r.3 r.4 r.5 c.args.meter.now
-                        c.pass_over.new.course c.pass_on-passed.new.live c.pass_on-passed.result
-                        (c.pass_on-passed.ensures.passed r.0 r.1 r.2 r.3 r.4 r.5 c.args.meter.now
-                        (advanced g.row.N r.0 r.1 c.args.old.now c.args.plan.now r.2 r.3 r.4 r.5 c.args.meter.now c.args.course.now
-                        c.pass_over.new.course c.args.live.now some_kept r.6 c.pass_over.ensures.next c.pass_over.ensures.held.0
-                        c.pass_over.ensures.rest)) here,
-                  ),
+                  r.0,
+                  r.1,
+                  r.2,
+                  r.3,
+                  r.4,
+                  r.5,
+                  come_back g.row.N r.0 r.1 c.args.old.now c.args.plan.now r.2 r.3 r.4 r.5 c.args.meter.now
+                      c.pass_over.new.course c.pass_on-passed.new.live c.pass_on-passed.result
+                      (c.pass_on-passed.ensures.passed r.0 r.1 r.2 r.3 r.4 r.5 c.args.meter.now
+                      (advanced g.row.N r.0 r.1 c.args.old.now c.args.plan.now r.2 r.3 r.4 r.5 c.args.meter.now c.args.course.now
+                      c.pass_over.new.course c.args.live.now some_kept r.6 c.pass_over.ensures.next c.pass_over.ensures.held.0
+                      c.pass_over.ensures.rest)) here,
                 ),
               ),
             ),

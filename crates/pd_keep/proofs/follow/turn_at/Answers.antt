@@ -15,25 +15,22 @@ leave-requires g c =
         (
           c.requires.made,
           (
-            c.requires.in_time,
+            inside,
             (
-              inside,
-              (
-                r.0,
-                r.1,
-                r.2,
-                r.3,
-                r.4,
-                r.5,
-                record {
-                  come = r.6;
-                  passing = λ k.
-                      let first = c.comes_first.ensures.first c.if-comes_first.true k in
-                      let numbered = c.requires.numbered at k first.0 in
-                      passing g.row.N r.0 r.1 c.args.old.now plan r.2 r.3 r.4 r.5 c.args.meter.now c.args.course.now c.args.live.now at
-                      c.args.own.now k r.6 c.requires.here first.0 first.1 c.requires.own numbered.0 numbered.1;
-                },
-              ),
+              r.0,
+              r.1,
+              r.2,
+              r.3,
+              r.4,
+              r.5,
+              record {
+                come = r.6;
+                passing = λ k.
+                    let first = c.comes_first.ensures.first c.if-comes_first.true k in
+                    let numbered = c.requires.numbered at k first.0 in
+                    passing g.row.N r.0 r.1 c.args.old.now plan r.2 r.3 r.4 r.5 c.args.meter.now c.args.course.now c.args.live.now at
+                    c.args.own.now k r.6 c.requires.here first.0 first.1 c.requires.own numbered.0 numbered.1;
+              },
             ),
           ),
         ),
@@ -49,19 +46,16 @@ move_own-requires g c =
         (
           c.requires.made,
           (
-            c.requires.in_time,
-            (
-              r.0,
-              r.1,
-              r.2,
-              r.3,
-              r.4,
-              r.5,
-              own_is_turn g.row.N r.0 r.1 c.args.old.now c.args.plan.now r.2 r.3 r.4 r.5 c.args.meter.now c.args.course.now c.args.live.now
-                  c.in-Some.port c.in-Some.due c.args.own.now some_kept r.6
-                  c.requires.here
-                  c.in-Some.is c.requires.own (c.comes_first.ensures.other c.if-comes_first.false),
-            ),
+            r.0,
+            r.1,
+            r.2,
+            r.3,
+            r.4,
+            r.5,
+            own_is_turn g.row.N r.0 r.1 c.args.old.now c.args.plan.now r.2 r.3 r.4 r.5 c.args.meter.now c.args.course.now c.args.live.now
+                c.in-Some.port c.in-Some.due c.args.own.now some_kept r.6
+                c.requires.here
+                c.in-Some.is c.requires.own (c.comes_first.ensures.other c.if-comes_first.false),
           ),
         ),
       ),

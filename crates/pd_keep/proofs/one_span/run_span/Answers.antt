@@ -10,15 +10,15 @@ use Rattle.pd_run.specs.Live.{LiveData, StandsAfter, IsNextBeside, port_at, port
 use Rattle.pd_run.specs.StepsLeft.{steps_left}
 use Rattle.pd_run.specs.Start.{no_port}
 use Rattle.pd_run.specs.UpTo.{IsUpTo}
-use Rattle.pd_run.proofs.Alike.{none_later-back}
 use Rattle.pd_run.proofs.Steps.{StandsAfter-asked, StandsAfter-moved, IsNext-asked, reply_known}
 use Rattle.pd_run.proofs.StepsLeft.{steps_left_less}
 use Rattle.pd_run.proofs.Cut.{All-nil, All-append, EachAfter-back, IsEarlier, IsLater, next_up_to}
-use Rattle.pd_keep.specs.Kept.{KeptData, move_of, kept_of, IsKnown, IsOwn}
+use Rattle.pd_keep.specs.declared.rank.Rank.{Rank}
+use Rattle.pd_keep.specs.Kept.{KeptData, move_of, kept_of, IsKnown, IsOwn, NoneStands}
 use Rattle.pd_keep.specs.Places.{ArePlaced}
 use Rattle.pd_keep.specs.Kept.{RunData}
 use Rattle.pd_keep.proofs.Fresh.{fresh_step}
-use Rattle.pd_keep.proofs.InTime.{none_later-last, before_later, times}
+use Rattle.pd_keep.proofs.InTime.{times}
 use Rattle.pd_keep.proofs.Later.{due_later_yet, between_some}
 use Rattle.pd_keep.proofs.Made.{kept_is_next, kept_is_own, kept_is_moved, charges_those}
 use Rattle.pd_keep.proofs.Places.{AreLeft, left_moved, placed_at_budget, placed_more}
@@ -43,15 +43,6 @@ reply_beside-asked-requires g c =
       ),
     )
 
--- no old move before the place is as late as what comes next
-pub skip-from-requires-clause-before : goal.skip-from-requires-clause-before
-skip-from-requires-clause-before g c =
-    let i = c.loop-port.invariant in
-    let past = c.requires.stands.0 in
-    let moves : List Move = map move_of c.loop-port.span.moves in
-    let none = c.in-Some.ensures.in_order (past ++ moves) (i.stands past c.requires.stands.1) in
-    i.passed c.in-Some.due.time (c.in-Some.port - 1) (none_later-back c.in-Some.due.time (c.in-Some.port - 1) past moves none)
-
 pub make-requires : goal.make-requires
 make-requires g c =
     let i = c.loop-port.invariant in
@@ -65,8 +56,7 @@ make-requires g c =
     let next = IsNext-asked c.args.plan.now c.loop-port.live live port d is c.in-Some.ensures.next.0 in
     let budget = ap (λ (l : LiveData). l.account.budget) is in
     let made = c.requires.made in
-    let in_time = c.requires.in_time in
-    let before = c.skip-from.ensures.before in
+    let before = subst (λ (r : Rank). NoneStands r c.args.old.now.moves c.seek-from.result) c.of.ensures c.seek-from.ensures in
     let plan = c.in-Some.ensures.is_plan in
     let query = c.reply_beside-asked.ensures.query in
     let answer = c.reply_beside-asked.ensures.answer in
@@ -78,7 +68,7 @@ make-requires g c =
     let beside : IsNextBeside c.args.plan.now moves live port d live =
     record { stood = stands; next = next; budget = budget; port_is = refl; taken_is = refl; account_is = refl } in
     let room = stands.ports_count ∙ plan.settings_count in
-    (omega arith, (omega arith, (made, (in_time, (before, (left, (plan, (room, ((moves, live, beside), (query, answer))))))))))
+    (omega arith, (omega arith, (made, (before, (left, (plan, (room, ((moves, live, beside), (query, answer)))))))))
 
 pub push-requires : goal.push-requires
 push-requires g c =
@@ -103,8 +93,6 @@ loop-port-init g c =
     let first = ap (λ (r : RunData). r.first) c.in_ok-span.ensures in
     rw nothing (record {
       stands = λ past s. subst (λ (l : List Move). StandsAfter c.args.plan.now l c.args.live.now) (sym (append-nil past)) s;
-      within = omega arith;
-      passed = λ t p h k e lt. absurd (omega arith);
       own = All-nil (IsOwn c.args.plan.now);
       begun = λ past s. begins_with_live g.row.N c.args.plan.now past c.args.live.now _ c.end-end.ensures.is_plan s
           (first ∙ c.in_ok-ports.ensures);
@@ -185,9 +173,6 @@ loop-port-preserved g c =
           (subst (λ (z : Move). StandsAfter plan ((o ++ moves) ++ z ∷ []) new) (sym same)
           (subst (λ (l : LiveData). StandsAfter plan ((o ++ moves) ++ next_move plan (o ++ moves) p d ∷ []) l)
           (sym c.in_ok-kept.ensures.moved) then));
-      within = c.skip-from.ensures.within;
-      passed = λ t q h. before_later c.args.old.now.moves c.skip-from.result d.time t c.skip-from.ensures.before
-          (none_later-last t q moves (move_of k) h);
       own = rw pushed (All-push (IsOwn plan) kept k i.own own);
       begun = λ o s. begins_same g.row.N plan o c.loop-port.span c.push.new.self first (i.begun o s);
       placed = placed_more g.row.N c.args.old.now c.loop-port.places live new p (moved_port live p d) c.in_ok-kept.at

@@ -1,10 +1,10 @@
 use Rattle.std.proofs.Common.{ℕ, ◌++◌, List, map, length, All, ◌≤◌, ◌<◌}
 use Rattle.pd_scenario.specs.Plan.{Plan}
-use Rattle.pd_run.specs.Run.{Move, NoneLater}
+use Rattle.pd_run.specs.Run.{Move}
 use Rattle.pd_run.specs.Live.{StandsAfter}
 use Rattle.pd_run.specs.StepsLeft.{steps_left}
 use Rattle.pd_run.specs.UpTo.{IsUpTo}
-use Rattle.pd_keep.specs.Kept.{KeptData, move_of, IsOwn, AreBefore}
+use Rattle.pd_keep.specs.Kept.{KeptData, move_of, IsOwn}
 use Rattle.pd_keep.specs.Places.{ArePlaced}
 use Rattle.pd_keep.specs.Rerun.{AreThose, Costs}
 use Rattle.pd_keep.specs.Spans.{BeginsAfter}
@@ -14,8 +14,6 @@ use Rattle.pd_keep.proofs.one_span.run_span.Given as goal
 abbrev pub invariant-loop-port : goal.invariant-loop-port
 invariant-loop-port g l = record {
   stands : (past : List Move) → StandsAfter l.plan past l.fn.live → StandsAfter l.plan (past ++ map move_of l.span.moves) l.live;
-  within : l.from ≤ length l.old.moves;
-  passed : (t p : ℕ) → NoneLater t p (map move_of l.span.moves) → AreBefore l.old.moves l.from t;
   own : All (IsOwn l.plan) l.span.moves;
   begun : (past : List Move) → StandsAfter l.plan past l.fn.live → BeginsAfter g.row.N l.plan past l.span;
   placed : ArePlaced g.row.N l.old l.places l.live;

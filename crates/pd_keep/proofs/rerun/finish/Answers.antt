@@ -1,7 +1,7 @@
 use Rattle.std.proofs.Common.{◌/◌, ◌*◌, ◌≡◌, ◌+◌, [], List, All, ap, sym, subst, arith}
 use Rattle.std.proofs.Common.{false, replicate}
 use Rattle.pd_run.proofs.Cut.{All-nil}
-use Rattle.pd_keep.specs.Kept.{KeptData, IsMade, AreInTime}
+use Rattle.pd_keep.specs.Kept.{KeptData, IsMade}
 use Rattle.pd_keep.specs.Kept.{RunData}
 use Rattle.pd_keep.specs.Rerun.{IsSoFar, AreThose, BeginsWithMarked}
 use Rattle.pd_keep.specs.Spans.{kept_of_spans}
@@ -14,12 +14,10 @@ pub run_on-requires : goal.run_on-requires
 run_on-requires g c =
     let none : c.in_ok-nothing.nothing.moves ≡ [] = ap (λ (r : RunData). r.moves) c.in_ok-nothing.ensures in
     let made : All IsMade c.in_ok-nothing.nothing.moves = subst (λ (l : List KeptData). All IsMade l) (sym none) (All-nil IsMade) in
-    let in_time : AreInTime c.in_ok-nothing.nothing.moves =
-    subst (λ (l : List KeptData). AreInTime l) (sym none) (λ a b e le lt. absurd (omega arith)) in
     let few = c.requires.so_far.is_plan.few_ports in
     let known : BeginsWithMarked g.row.N c.in_ok-nothing.nothing c.args.live.now (replicate 8 false) =
     λ p lt yes. absurd (unmarked p (omega arith) yes) in
-    (omega arith, (omega arith, (made, (in_time, (omega arith, (omega arith, (known, (c.requires.so_far, c.requires.stands))))))))
+    (omega arith, (omega arith, (made, (omega arith, (omega arith, (known, (c.requires.so_far, c.requires.stands)))))))
 
 pub returns-then-end-from-clause-kept : goal.returns-then-end-from-clause-kept
 returns-then-end-from-clause-kept g c = kept_whole g.row.N c.args.plan.now c.args.spans.now c.args.from c.requires.so_far (omega arith)

@@ -18,7 +18,7 @@ follow_on-requires g c =
     (λ share. c.share_alike-share.ensures share h.0 c.args.plan.now c.args.from c.args.old.now.to k.in_common) in
     let numbered = numbered_in g.row.N h.0 (moves_of h.1) c.args.old.now c.args.plan.now (moves_of c.args.spans.now) c.args.from
     can.beside in
-    (omega arith, (omega arith, (w.made, (w.in_time, (numbered, (k.soon, (k.far, (h.0, moves_of h.1, can))))))))
+    (omega arith, (omega arith, (w.made, (numbered, (k.soon, (k.far, (h.0, moves_of h.1, can)))))))
 
 pub returns-then-have_same_scripts-clause-cost : goal.returns-then-have_same_scripts-clause-cost
 returns-then-have_same_scripts-clause-cost g c =
@@ -44,7 +44,7 @@ run_on-requires g c =
     let begins = k.from_is in
     let to_is = c.to-to.ensures in
     let rising : c.args.from < c.to-to.result = omega arith in
-    (omega arith, (omega arith, (w.made, (w.in_time, (rising, (k.soon, (k.known, (k.far, k.stands))))))))
+    (omega arith, (omega arith, (w.made, (rising, (k.soon, (k.known, (k.far, k.stands)))))))
 
 pub returns-clause-cost : goal.returns-clause-cost
 returns-clause-cost g c =

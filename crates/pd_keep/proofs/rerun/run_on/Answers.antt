@@ -26,7 +26,7 @@ loop-at-init g c = record {
 pub run_span-requires : goal.run_span-requires
 run_span-requires g c =
     let i = c.loop-at.invariant in
-    (omega arith, (omega arith, (c.requires.made, (c.requires.in_time, (i.placed, (moves_of c.loop-at.spans, i.stands))))))
+    (omega arith, (omega arith, (c.requires.made, (i.placed, (moves_of c.loop-at.spans, i.stands)))))
 
 pub loop-at-smaller : goal.loop-at-smaller
 loop-at-smaller g c =

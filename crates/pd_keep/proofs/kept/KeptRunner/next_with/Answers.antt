@@ -14,7 +14,7 @@ pub returns-in-Some : goal.returns-in-Some
 returns-in-Some g c =
     let run : KeptRun g.row.N = c.in-Some.run' in
     let is : c.self.inside.run ≡ Some run = c.in-Some.is in
-    let kept : IsKept g.row.N run.plan run.spans = subst (λ (r : Option (KeptRun g.row.N)). Keeps g.row.N r) is c.self.invariant.0 in
+    let kept : IsKept g.row.N run.plan run.spans = subst (λ (r : Option (KeptRun g.row.N)). Keeps g.row.N r) is c.self.invariant in
     let same : map shown_of (kept_of_spans run.spans) ≡ map shown c.args.self.now.moves =
     shown_all run.plan (kept_of_spans run.spans) kept.own
     ∙ ap (λ (r : Option (KeptRun g.row.N)). map shown (running g.row.N r).moves) (sym is)

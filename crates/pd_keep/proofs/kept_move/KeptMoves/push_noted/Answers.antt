@@ -1,4 +1,5 @@
 use Rattle.std.proofs.Common.{◌≡◌, ◌-◌, ◌<◌, ◌++◌, ◌∷◌, [], List, length, map, ap, sym, ◌∙◌, subst, slice_index_or, arith}
+use Rattle.std.proofs.lemmas.Bool.{false≢true}
 use Rattle.std.proofs.lemmas.List.{map-append}
 use Rattle.pd_port.specs.Port.{PortData}
 use Rattle.pd_run.specs.declared.note.Marks.{Marks}
@@ -48,4 +49,5 @@ invariant_of-self-2 c =
       last_more first moves lasts k p c.len.result c.self.invariant.3 own known
           (c.len.ensures ∙ ap (λ (r : RunData). length r.moves) (sym c.self.view_is)),
       noted,
+      λ no. absurd (false≢true no),
     )))
