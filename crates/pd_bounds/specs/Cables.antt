@@ -1,65 +1,61 @@
--- What is known of a port's cable, and how that came (docs/TABLES.md, rows S2 to S9).
-use Rattle.std.specs.Prelude.{ℕ, ◌==◌, Bool, true, false, if◌then◌else◌, List, [], ◌∷◌, Option, Some}
-use Rattle.std.specs.List.{list_any}
-use Rattle.pd_header.specs.declared.side.Side.TheVariants as side
-use Rattle.pd_header.specs.declared.kind.Kind.TheVariants as kind
-use Rattle.pd_identity.specs.Identity.{reply_of}
+-- How the limit of a port's cable is known (docs/TABLES.md, rows S2 to S9).
+use Rattle.std.specs.Prelude.{◌≡◌, ℕ, ◌==◌, Bool, true, false, if◌then◌else◌, Option, Some, None}
+use Rattle.pd_timers.specs.declared.Timer.TheVariants as timer
+use Rattle.pd_identity.specs.Identity.{limit_of, reply_of}
 use Rattle.pd_identity.specs.declared.identity.Reply.{Reply}
 use Rattle.pd_identity.specs.declared.identity.Reply.TheVariants as reply
 use Rattle.pd_source.specs.declared.kinds.State.{State}
 use Rattle.pd_source.specs.declared.kinds.State.TheVariants as state
-use Rattle.pd_line.specs.declared.notes.Fault.{Fault}
-use Rattle.pd_line.specs.declared.notes.Fault.TheVariants as fault
-use Rattle.pd_line.specs.declared.notes.Start.{Start}
-use Rattle.pd_line.specs.declared.notes.Start.TheVariants as start
+use Rattle.pd_source.specs.declared.kinds.Stimulus.{Stimulus}
+use Rattle.pd_source.specs.declared.kinds.Stimulus.TheVariants as stimulus
+use Rattle.pd_source.specs.Record.{cable_current}
+use Rattle.pd_line.specs.declared.port_parts.Line.{Line}
+use Rattle.pd_line.specs.declared.port_parts.Line.TheVariants as line
 use Rattle.pd_port.specs.declared.due.What.{What}
 use Rattle.pd_port.specs.declared.due.What.TheVariants as what
 use Rattle.pd_bounds.specs.declared.cable.CableLimit.{CableLimit}
 use Rattle.pd_bounds.specs.declared.cable.CableLimit.TheVariants as known
 
--- of a cable that is attached anew, which is asked so often
-abbrev pub at_attach : ℕ → CableLimit
-at_attach tries = if tries == 0 then known.NotAsked else known.Unknown
+-- of a cable that is asked so often, and of which the source has learnt nothing yet
+abbrev pub unlearnt : ℕ → CableLimit
+unlearnt tries = if tries == 0 then known.NotAsked else known.Unknown
 
--- what the objects that a plug sends answer; a GoodCRC has none
-abbrev pub replied : List ℕ → Option Reply → Option Reply
-replied [] before = before
-replied (header ∷ objects) before = Some (reply_of (header ∷ objects))
+-- and where it has learnt something
+abbrev pub how_known : ℕ → Option CableLimit → CableLimit
+how_known tries None = unlearnt tries
+how_known tries (Some how) = how
 
--- the plug's last answer, with one more start on the line
-abbrev pub reply_after : Option Start → Option Reply → Option Reply
-reply_after (Some (start.Packet side.Plug packet fate)) before = replied packet.objects before
-reply_after s before = before
+abbrev pub by_reply : Reply → CableLimit
+by_reply reply.Ack = known.Told
+by_reply reply.Nak = known.Nak
+by_reply reply.Busy = known.Busy
 
--- a fault says that nobody acknowledged Discover Identity
-abbrev pub is_unheard : Fault → Bool
-is_unheard (fault.NoGoodCrc side.Source kind.VendorDefined) = true
-is_unheard f = false
+-- by what is on the line, whose end falls due: the plug's answer goes up as its GoodCRC ends, and else nobody has acknowledged the
+-- question, however often it was sent
+abbrev pub learnt_on : Line → CableLimit
+learnt_on (line.GoodCrc side packet answer fate end) = by_reply (reply_of packet.objects)
+learnt_on l = known.NoPlug
 
-abbrev pub is_unread : Fault → Bool
-is_unread fault.CableUnread = true
-is_unread f = false
-
-abbrev pub is_timer : What → Bool
-is_timer (what.Timer s t) = true
-is_timer w = false
-
-abbrev pub by_reply : Option Reply → CableLimit
-by_reply (Some reply.Busy) = known.Busy
-by_reply r = known.Nak
-
--- why a cable stays unread, in the step in which the source gives up asking: nobody acknowledged the question, no answer came in
--- time, or the plug's last answer
-abbrev pub unread : List Fault → What → Option Reply → CableLimit
-unread faults due said =
-    if list_any is_unheard faults then known.NoPlug else (if is_timer due then known.Silent else by_reply said)
+-- by what falls due: where it is a timer, no answer came in time
+abbrev pub learnt_by : What → Line → CableLimit
+learnt_by what.Line l = learnt_on l
+learnt_by w l = known.Silent
 
 -- the source leaves the state in which it asks for the one in which it offers
 abbrev pub settles : State → State → Bool
 settles state.VdmIdentityRequest state.SendCapabilities = true
 settles before after = false
 
--- what is known after a step
-abbrev pub learnt : State → State → List Fault → What → Option Reply → CableLimit → CableLimit
-learnt before after faults due said cable =
-    if settles before after then (if list_any is_unread faults then unread faults due said else known.Told) else cable
+-- how it learns the limit in a step between these states, if it does
+abbrev pub learnt : State → State → CableLimit → Option CableLimit
+learnt before after how = if settles before after then Some how else None
+
+-- What the source's engine was told where it came to its limit so, and the limit (rows S5 to S8): that which the plug's acknowledged
+-- objects tell, or 3,000 mA.
+abbrev pub LearntBy : CableLimit → Stimulus → Option ℕ → Type 0
+LearntBy known.Told (stimulus.Identity objects) limit = (reply_of objects.items ≡ reply.Ack) × (limit ≡ Some (limit_of objects.items))
+LearntBy known.Nak (stimulus.Identity objects) limit = (reply_of objects.items ≡ reply.Nak) × (limit ≡ Some cable_current)
+LearntBy known.Busy (stimulus.Identity objects) limit = (reply_of objects.items ≡ reply.Busy) × (limit ≡ Some cable_current)
+LearntBy known.NoPlug stimulus.Failed limit = limit ≡ Some cable_current
+LearntBy known.Silent (stimulus.Ended timer.VdmResponse) limit = limit ≡ Some cable_current
+LearntBy how x limit = ⊥

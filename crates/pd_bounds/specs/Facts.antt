@@ -10,8 +10,7 @@ use Rattle.pd_source.specs.declared.kinds.State.TheVariants as state
 use Rattle.pd_line.specs.declared.notes.Fault.{Fault}
 use Rattle.pd_line.specs.declared.notes.Fault.TheVariants as fault
 use Rattle.pd_port.specs.declared.entry.ContractChange.{ContractChange}
-use Rattle.pd_port.specs.declared.due.What.{What}
-use Rattle.pd_port.specs.Happens.{is_detach}
+use Rattle.pd_port.specs.declared.entry.Entry.{Entry}
 use Rattle.pd_bounds.specs.declared.fact.Fact.{Fact}
 use Rattle.pd_bounds.specs.declared.fact.Fact.TheVariants as fact
 use Rattle.pd_bounds.specs.declared.holder.Holder.{Holder}
@@ -19,6 +18,8 @@ use Rattle.pd_bounds.specs.declared.known.Known.{Known}
 use Rattle.pd_bounds.specs.declared.look.Look.{Look}
 use Rattle.pd_bounds.specs.declared.look.Share.{Share}
 use Rattle.pd_bounds.specs.Bounds.{bounds_of}
+use Rattle.pd_bounds.specs.Cables.{how_known}
+use Rattle.pd_bounds.specs.Known.{pulls_out}
 use Rattle.pd_bounds.specs.Requests.{started_facts}
 
 -- what another port holds
@@ -42,7 +43,7 @@ share_facts look share =
 abbrev pub offer_facts : Look → Known → List SupplyData → ℕ → List ℕ → Share → List Fact
 offer_facts look known supplies limit currents share =
     share_facts look share
-    ++ (fact.Cable limit known.cable look.tries ∷ supply_facts share.free limit 1 supplies currents)
+    ++ (fact.Cable limit (how_known look.tries known.cable) look.tries ∷ supply_facts share.free limit 1 supplies currents)
 
 -- whether the power of a request fits, and what is free
 abbrev pub fits_facts : ℕ → Option Query → Option Answer → Option Share → List Fact
@@ -61,16 +62,16 @@ abbrev pub contract_facts : ℕ → Option ContractChange → List Fact
 contract_facts at None = []
 contract_facts at (Some change) = fact.Contract at change ∷ []
 
-abbrev pub detach_facts : ℕ → What → List Fact
-detach_facts at due = if is_detach due then fact.Detached at ∷ [] else []
+abbrev pub detach_facts : Entry → List Fact
+detach_facts e = if pulls_out e then fact.Detached e.at ∷ [] else []
 
 -- what comes of an offer: whether a request fits, what goes wrong, what becomes of the contract, whether the cable is pulled out, and
 -- what the sink asks for
 abbrev pub later_facts : Look → Known → List Fact
 later_facts look known =
     fits_facts look.entry.at look.entry.query look.answer look.share ++ (wrong_facts look.entry.at look.entry.faults.items
-    ++ (contract_facts look.entry.at look.entry.contract ++ (detach_facts look.entry.at look.entry.due.what
-    ++ started_facts look.entry.at known.sink known.offer.items look.entry.start)))
+    ++ (contract_facts look.entry.at look.entry.contract ++ (detach_facts look.entry
+    ++ started_facts look.entry.at look.again known.wish look.entry.start)))
 
 -- a move makes an offer where its source goes to the state that sends one, with currents of the shared budget
 abbrev pub offers_in : State → Bool

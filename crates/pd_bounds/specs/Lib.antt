@@ -3,6 +3,8 @@ pub mod Cables
 pub mod Facts
 pub mod Holds
 pub mod Known
+pub mod Laws
 pub mod Looks
 pub mod Requests
 pub mod Story
+pub mod Wishes

@@ -1,4 +1,5 @@
--- Why a sink asks for what it asks for: what it needs of each supply that it was offered, by its rule (pd_sink/specs/Rule.antt).
+-- Why a sink asks for what it asks for: what it needs of each supply of the offer from which it chose, by its rule
+-- (pd_sink/specs/Rule.antt).
 use Rattle.std.specs.Prelude.{ℕ, ◌+◌, ◌*◌, ◌==◌, Bool, true, false, if◌then◌else◌, List, [], ◌∷◌, ◌++◌, Option, Some, None}
 use Rattle.pd_symbols.specs.Words.{field}
 use Rattle.pd_header.specs.Kinds.{kind_of_header}
@@ -11,6 +12,7 @@ use Rattle.pd_line.specs.declared.notes.Start.{Start}
 use Rattle.pd_line.specs.declared.notes.Start.TheVariants as start
 use Rattle.pd_bounds.specs.declared.fact.Fact.{Fact}
 use Rattle.pd_bounds.specs.declared.fact.Fact.TheVariants as fact
+use Rattle.pd_bounds.specs.declared.wish.Wish.{Wish}
 
 -- what a sink needs of the supply of an object, where it accepts that
 abbrev pub need_of_object : SinkData → ℕ → Option ℕ
@@ -26,26 +28,26 @@ need_facts sink position [] = []
 need_facts sink position (w ∷ ws) = need_fact sink position w ∷ need_facts sink (position + 1) ws
 
 -- what the sink wants, and what it needs of each supply of the offer
-abbrev pub reason_facts : Option SinkData → List ℕ → List Fact
-reason_facts None offer = []
-reason_facts (Some sink) offer = fact.Demand sink.demand_mw sink.max_mv sink.mode ∷ need_facts sink 1 offer
+abbrev pub reason_facts : Option Wish → List Fact
+reason_facts None = []
+reason_facts (Some w) = fact.Demand w.sink.demand_mw w.sink.max_mv w.sink.mode ∷ need_facts w.sink 1 w.offer
 
 -- whether a request has the bit of a capability mismatch
 abbrev pub has_mismatch : ℕ → Bool
 has_mismatch w = field w 26 26 == 1
 
 -- a request, by its object: the position of the supply, the maximum operating current, and why
-abbrev pub request_facts : ℕ → Option SinkData → List ℕ → List ℕ → List Fact
-request_facts at sink offer [] = []
-request_facts at sink offer (w ∷ ws) =
-    fact.Request at (field w 30 28) (field w 9 0 * 10) (has_mismatch w) ∷ (reason_facts sink offer ++ fact.Choice (has_mismatch w) ∷ [])
+abbrev pub request_facts : ℕ → Option Wish → List ℕ → List Fact
+request_facts at wish [] = []
+request_facts at wish (w ∷ ws) =
+    fact.Request at (field w 30 28) (field w 9 0 * 10) (has_mismatch w) ∷ (reason_facts wish ++ fact.Choice (has_mismatch w) ∷ [])
 
 abbrev pub is_request : Kind → Bool
 is_request kind.Request = true
 is_request k = false
 
--- the request that starts on the line, if one does
-abbrev pub started_facts : ℕ → Option SinkData → List ℕ → Option Start → List Fact
-started_facts at sink offer (Some (start.Packet side.Sink packet fate)) =
-    if is_request (kind_of_header packet.header) then request_facts at sink offer packet.objects else []
-started_facts at sink offer s = []
+-- the request that starts on the line, if one does; one that is sent once more is no new request
+abbrev pub started_facts : ℕ → Bool → Option Wish → Option Start → List Fact
+started_facts at false wish (Some (start.Packet side.Sink packet fate)) =
+    if is_request (kind_of_header packet.header) then request_facts at wish packet.objects else []
+started_facts at again wish s = []

@@ -1,14 +1,10 @@
-//! What is known of a port's cable.
+//! How the limit of a port's cable is known.
 
 ghost use Rattle.std.specs.Prelude.{◌≡◌};
-ghost use Rattle.std.specs.List.{list_any};
-ghost use Rattle.pd_bounds.specs.Cables.{at_attach, by_reply, is_timer, is_unheard, is_unread, learnt, replied, reply_after};
-ghost use Rattle.pd_bounds.specs.Cables.{settles, unread};
+ghost use Rattle.pd_bounds.specs.Cables.{by_reply, how_known, learnt, learnt_by, learnt_on, settles, unlearnt};
 
-use pd_header::{Kind, Side};
 use pd_identity::{Reply, reply_of};
-use pd_line::{Fault, Start};
-use pd_port::What;
+use pd_port::{Line, What};
 use pd_source::State;
 
 /// How the source came to its cable's limit.
@@ -30,9 +26,9 @@ pub enum CableLimit {
     NoPlug,
 }
 
-/// What is known of a cable that is attached anew, which is asked so often.
-pub(crate) fn at_attach(tries: u8) -> CableLimit
-    ensures { result ≡ at_attach tries }
+/// Of a cable of which the source has learnt nothing yet, and which is asked so often.
+fn unlearnt(tries: u8) -> CableLimit
+    ensures { result ≡ unlearnt tries }
 {
     if tries == 0 {
         CableLimit::NotAsked
@@ -41,90 +37,49 @@ pub(crate) fn at_attach(tries: u8) -> CableLimit
     }
 }
 
-/// What the objects that a plug sends answer.
-fn replied(objects: &[u32], before: Option<Reply>) -> Option<Reply>
-    ensures { result ≡ replied objects.now before }
+/// Of a cable that is asked so often, and of which the source has learnt this.
+pub(crate) fn how_known(tries: u8, learnt: Option<CableLimit>) -> CableLimit
+    ensures { result ≡ how_known tries learnt }
 {
-    match objects {
-        [] => before,
-        _ => Some(reply_of(objects)),
+    match learnt {
+        None => unlearnt(tries),
+        Some(how) => how,
     }
 }
 
-/// The plug's last answer, with one more start on the line.
-pub(crate) fn reply_after(start: &Option<Start>, before: Option<Reply>) -> Option<Reply>
-    ensures { result ≡ reply_after start.now before }
+fn by_reply(reply: Reply) -> CableLimit
+    ensures { result ≡ by_reply reply }
 {
-    match start {
-        Some(
-            Start::Packet {
-                side: Side::Plug,
-                packet,
-                fate: _,
-            },
-        ) => replied(packet.objects(), before),
-        _ => before,
+    match reply {
+        Reply::Ack => CableLimit::Told,
+        Reply::Nak => CableLimit::Nak,
+        Reply::Busy => CableLimit::Busy,
     }
 }
 
-fn is_unheard(fault: &Fault) -> bool
-    ensures { result ≡ is_unheard fault.now }
+fn learnt_on(line: &Line) -> CableLimit
+    ensures { result ≡ learnt_on line.now }
 {
-    matches!(
-        fault,
-        Fault::NoGoodCrc {
-            side: Side::Source,
-            kind: Kind::VendorDefined,
-        }
-    )
-}
-
-fn is_unread(fault: &Fault) -> bool
-    ensures { result ≡ is_unread fault.now }
-{
-    matches!(fault, Fault::CableUnread)
-}
-
-fn is_timer(due: &What) -> bool
-    ensures { result ≡ is_timer due.now }
-{
-    matches!(due, What::Timer { side: _, timer: _ })
-}
-
-fn by_reply(said: Option<Reply>) -> CableLimit
-    ensures { result ≡ by_reply said }
-{
-    match said {
-        Some(Reply::Busy) => CableLimit::Busy,
-        _ => CableLimit::Nak,
+    match line {
+        Line::GoodCrc {
+            side: _,
+            packet,
+            answer: _,
+            fate: _,
+            end: _,
+        } => by_reply(reply_of(packet.objects())),
+        _ => CableLimit::NoPlug,
     }
 }
 
-/// Whether nobody acknowledged Discover Identity.
-fn has_unheard(faults: &[Fault]) -> bool
-    ensures { result ≡ list_any is_unheard faults.now }
+/// How the source learns its cable's limit, where it does, for what falls due while this is on the line.
+pub(crate) fn learnt_by(due: &What, line: &Line) -> CableLimit
+    ensures { result ≡ learnt_by due.now line.now }
 {
-    faults.iter().any(|fault| is_unheard(fault))
-}
-
-/// Whether the cable stays unread.
-fn has_unread(faults: &[Fault]) -> bool
-    ensures { result ≡ list_any is_unread faults.now }
-{
-    faults.iter().any(|fault| is_unread(fault))
-}
-
-/// Why a cable stays unread.
-fn unread(faults: &[Fault], due: &What, said: Option<Reply>) -> CableLimit
-    ensures { result ≡ unread faults.now due.now said }
-{
-    if has_unheard(faults) {
-        return CableLimit::NoPlug;
+    match due {
+        What::Line => learnt_on(line),
+        _ => CableLimit::Silent,
     }
-    if is_timer(due) {
-        return CableLimit::Silent;
-    }
-    by_reply(said)
 }
 
 fn settles(before: State, after: State) -> bool
@@ -136,22 +91,13 @@ fn settles(before: State, after: State) -> bool
     )
 }
 
-/// What is known of the cable after a step between these states of the source, with these faults, for this due.
-pub(crate) fn learnt(
-    before: State,
-    after: State,
-    faults: &[Fault],
-    due: &What,
-    said: Option<Reply>,
-    cable: CableLimit,
-) -> CableLimit
-    ensures { result ≡ learnt before after faults.now due.now said cable }
+/// How the source learns its cable's limit in a step between these states, if it does.
+pub(crate) fn learnt(before: State, after: State, how: CableLimit) -> Option<CableLimit>
+    ensures { result ≡ learnt before after how }
 {
-    if !settles(before, after) {
-        return cable;
+    if settles(before, after) {
+        Some(how)
+    } else {
+        None
     }
-    if has_unread(faults) {
-        return unread(faults, due, said);
-    }
-    CableLimit::Told
 }

@@ -12,6 +12,7 @@ mod question;
 mod request;
 mod story;
 mod walk;
+mod wish;
 
 pub use bound::{Bound, Bounds};
 pub use cable::CableLimit;

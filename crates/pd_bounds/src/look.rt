@@ -3,18 +3,22 @@
 ghost use Rattle.std.specs.Prelude.{◌≡◌, ℕ, ◌+◌, ◌-◌, ◌∷◌, ◌++◌, ◌<◌, ◌≤◌, [], List, IfOk, OnOk, option_map, max};
 ghost use Rattle.pd_objects.specs.declared.query.Answer.{Answer as AnswerData};
 ghost use Rattle.arrayvec.specs.ArrayVec.{array_vec_len};
+ghost use Rattle.pd_port.specs.Meter.{raised};
 ghost use Rattle.pd_run.specs.Live.{IsNext, StandsAfter, next_move, port_at};
 ghost use Rattle.pd_run.specs.Run.{Move};
 ghost use Rattle.pd_run.specs.StepsLeft.{steps_left};
 ghost use Rattle.pd_scenario.specs.Plan.{IsPlan, force, count};
 ghost use Rattle.pd_bounds.specs.Holds.{hold_beside, left_of, other, others};
-ghost use Rattle.pd_bounds.specs.Looks.{look_of, share_at};
+ghost use Rattle.pd_bounds.specs.Looks.{look_of, share_at, stood_at};
 
+use crate::cable::{CableLimit, learnt, learnt_by};
 use crate::holder::{Holder, holds_of};
+use crate::wish::{Wish, asks_in, is_again, wish_of};
 use arrayvec::ArrayVec;
 use pd_objects::Answer;
-use pd_port::{Due, Entry, Meter};
+use pd_port::{Due, Entry, Meter, Port};
 use pd_run::{Live, Plan};
+use pd_sink::State as SinkState;
 use pd_source::State;
 use std::alloc::{AllocError, Global};
 
@@ -26,15 +30,19 @@ pub struct Share {
     pub others: ArrayVec<Holder, 8>,
 }
 
-/// A move of a port, numbered from 1: how often the port asks its cable, its floor in microwatts, the states of its source before
-/// and after, its entry, the answer to what it asked, and how the budget was shared then.
+/// A move of a port, numbered from 1: how often the port asks its cable, its floor in microwatts, the state of its source after it, how
+/// the source has learnt its cable's limit in it, whether the sink sends a Request in it, and by what it would choose then, whether what
+/// starts is a Request once more, the move's entry, the answer to what it asked, and how the budget was shared.
 #[derive(Drop)]
 pub struct Look {
     pub port: usize,
     pub tries: u8,
     pub floor: u64,
-    pub before: State,
     pub after: State,
+    pub learnt: Option<CableLimit>,
+    pub asks: bool,
+    pub wish: Option<Wish>,
+    pub again: bool,
     pub entry: Entry,
     pub answer: Option<Answer>,
     pub share: Option<Share>,
@@ -141,6 +149,27 @@ fn copy_answer(answer: &Option<Answer>) -> Option<Answer>
     }
 }
 
+/// What is looked at of a port before its step.
+#[derive(Clone, Copy)]
+struct Stood {
+    source: State,
+    sink: SinkState,
+    how: CableLimit,
+    again: bool,
+}
+
+/// What is looked at of a port before its step for what falls due.
+fn stood_at(port: &Port, due: &Due) -> Stood
+    ensures { result ≡ stood_at port.now.port_record due.now }
+{
+    Stood {
+        source: port.source_state(),
+        sink: port.sink_state(),
+        how: learnt_by(&due.what, port.line()),
+        again: is_again(&due.what, port.line()),
+    }
+}
+
 /// Steps the port that moves next, for what falls due, and tells what is looked at of that move.
 ///
 /// # Errors
@@ -161,21 +190,25 @@ pub(crate) fn step_look<const N: usize>(
     ensures stands { OnOk result ((past : List Move) → StandsAfter plan.now past live.old
         → StandsAfter plan.now (past ++ next_move plan.now past (port - 1) due.now ∷ []) live.new) }
     ensures less { OnOk result (steps_left plan.now live.new < steps_left plan.now live.old) }
+    ensures meter { OnOk result (meter.new ≡ raised meter.old 1) }
 {
     let settings = plan.settings(port);
     let tries = settings.identity_tries();
     let floor = u64::from(settings.floor_mw()) * 1_000;
-    let before = live.port(port).source_state();
+    let stood = stood_at(live.port(port), due);
     let answer = live.reply(plan, port, due);
     let share = share_if(plan, live, port, due.time, &answer);
     let entry = live.step(alloc, plan, port, due, copy_answer(&answer), meter)?;
-    let after = live.port(port).source_state();
+    let stands = live.port(port);
     Ok(Look {
         port,
         tries,
         floor,
-        before,
-        after,
+        after: stands.source_state(),
+        learnt: learnt(stood.source, stands.source_state(), stood.how),
+        asks: asks_in(stood.sink, stands.sink_state()),
+        wish: wish_of(stands),
+        again: stood.again,
         entry,
         answer,
         share,

@@ -6,6 +6,7 @@ ghost use Rattle.pd_bounds.specs.Requests.{has_mismatch, is_request, need_fact, 
 ghost use Rattle.pd_bounds.specs.Requests.{started_facts};
 
 use crate::fact::Fact;
+use crate::wish::Wish;
 use pd_header::{Kind, Side, header_kind};
 use pd_line::Start;
 use pd_objects::field;
@@ -62,23 +63,18 @@ fn push_needs(
 }
 
 /// What the sink wants, and what it needs of each supply of the offer.
-fn push_reasons(
-    facts: &mut Vec<Fact>,
-    sink: &Option<SinkSettings>,
-    offer: &[u32],
-) -> Result<(), AllocError>
-    requires { length offer.now ≤ 7 }
-    ensures { OnOk result (facts.new.items ≡ facts.old.items ++ reason_facts sink.now offer.now) }
+fn push_reasons(facts: &mut Vec<Fact>, wish: &Option<Wish>) -> Result<(), AllocError>
+    ensures { OnOk result (facts.new.items ≡ facts.old.items ++ reason_facts wish.now) }
 {
-    let Some(sink) = sink else {
+    let Some(wish) = wish else {
         return Ok(());
     };
     facts.push(Fact::Demand {
-        demand_mw: sink.demand_mw(),
-        max_mv: sink.max_mv(),
-        mode: sink.mode(),
+        demand_mw: wish.sink.demand_mw(),
+        max_mv: wish.sink.max_mv(),
+        mode: wish.sink.mode(),
     })?;
-    push_needs(facts, sink, 1, offer)
+    push_needs(facts, &wish.sink, 1, wish.offer.as_slice())
 }
 
 /// Whether a request has the bit of a capability mismatch.
@@ -92,12 +88,10 @@ fn has_mismatch(object: u32) -> bool
 fn push_request(
     facts: &mut Vec<Fact>,
     at: u64,
-    sink: &Option<SinkSettings>,
-    offer: &[u32],
+    wish: &Option<Wish>,
     objects: &[u32],
 ) -> Result<(), AllocError>
-    requires { length offer.now ≤ 7 }
-    ensures { OnOk result (facts.new.items ≡ facts.old.items ++ request_facts at sink.now offer.now objects.now) }
+    ensures { OnOk result (facts.new.items ≡ facts.old.items ++ request_facts at wish.now objects.now) }
 {
     let [object, ..] = objects else {
         return Ok(());
@@ -108,7 +102,7 @@ fn push_request(
         ma: field(*object, 9, 0) * 10,
         mismatch: has_mismatch(*object),
     })?;
-    push_reasons(facts, sink, offer)?;
+    push_reasons(facts, wish)?;
     facts.push(Fact::Choice {
         mismatch: has_mismatch(*object),
     })?;
@@ -121,17 +115,19 @@ fn is_request(kind: Kind) -> bool
     matches!(kind, Kind::Request)
 }
 
-/// The request that starts on the line, if one does.
+/// The request that starts on the line, if one does that isn't sent once more.
 pub(crate) fn push_started(
     facts: &mut Vec<Fact>,
     at: u64,
-    sink: &Option<SinkSettings>,
-    offer: &[u32],
+    again: bool,
+    wish: &Option<Wish>,
     start: &Option<Start>,
 ) -> Result<(), AllocError>
-    requires { length offer.now ≤ 7 }
-    ensures { OnOk result (facts.new.items ≡ facts.old.items ++ started_facts at sink.now offer.now start.now) }
+    ensures { OnOk result (facts.new.items ≡ facts.old.items ++ started_facts at again wish.now start.now) }
 {
+    if again {
+        return Ok(());
+    }
     match start {
         Some(
             Start::Packet {
@@ -140,7 +136,7 @@ pub(crate) fn push_started(
                 fate: _,
             },
         ) if is_request(header_kind(packet.header())) => {
-            push_request(facts, at, sink, offer, packet.objects())
+            push_request(facts, at, wish, packet.objects())
         }
         _ => Ok(()),
     }

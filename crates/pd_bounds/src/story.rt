@@ -5,19 +5,18 @@ ghost use Rattle.pd_objects.specs.Supply.{SupplyData};
 ghost use Rattle.pd_bounds.specs.Facts.{contract_facts, detach_facts, fits_facts, hold_fact, later_facts, offer_facts, offers_in};
 ghost use Rattle.pd_bounds.specs.Facts.{share_facts, supply_facts, wrong_facts};
 ghost use Rattle.pd_bounds.specs.Story.{is_within};
-ghost use Rattle.pd_port.specs.Happens.{is_detach};
 
 use crate::bound::Bounds;
+use crate::cable::how_known;
 use crate::fact::Fact;
 use crate::holder::Holder;
-use crate::known::{Known, known_after, nothing};
+use crate::known::{Known, known_after, nothing, pulls_out};
 use crate::look::{Look, Share};
 use crate::question::Question;
 use crate::request::push_started;
 use pd_line::Fault;
 use pd_objects::{Answer, Query, Supply};
-use pd_port::{ContractChange, What};
-use pd_setup::{EventKind, Happening};
+use pd_port::{ContractChange, Entry};
 use pd_source::State;
 use std::alloc::{AllocError, Global};
 use std::marker::Model;
@@ -114,7 +113,7 @@ fn push_offer(
     push_share(facts, look, share)?;
     facts.push(Fact::Cable {
         ma: limit_ma,
-        known: known.cable,
+        known: how_known(look.tries, known.cable),
         tries: look.tries,
     })?;
     push_supplies(facts, share.free, limit_ma, 1, supplies, currents)
@@ -175,25 +174,12 @@ fn push_change(
     Ok(())
 }
 
-/// Whether the cable is pulled out.
-fn is_detach(due: &What) -> bool
-    ensures { result ≡ is_detach due.now }
-{
-    let What::Event(event) = due else {
-        return false;
-    };
-    match event.happening() {
-        Happening::Port { id: _, kind } => matches!(kind, EventKind::Detach),
-        Happening::Budget => false,
-    }
-}
-
 /// Writes that the cable is pulled out, where it is.
-fn push_detach(facts: &mut Vec<Fact>, at: u64, due: &What) -> Result<(), AllocError>
-    ensures { OnOk result (facts.new.items ≡ facts.old.items ++ detach_facts at due.now) }
+fn push_detach(facts: &mut Vec<Fact>, entry: &Entry) -> Result<(), AllocError>
+    ensures { OnOk result (facts.new.items ≡ facts.old.items ++ detach_facts entry.now) }
 {
-    if is_detach(due) {
-        facts.push(Fact::Detached { at })?;
+    if pulls_out(entry) {
+        facts.push(Fact::Detached { at: entry.at })?;
     }
     Ok(())
 }
@@ -206,14 +192,8 @@ fn push_later(facts: &mut Vec<Fact>, look: &Look, known: &Known) -> Result<(), A
     push_fits(facts, look)?;
     push_wrong(facts, entry.at, entry.faults.as_slice())?;
     push_change(facts, entry.at, &entry.contract)?;
-    push_detach(facts, entry.at, &entry.due.what)?;
-    push_started(
-        facts,
-        entry.at,
-        &known.sink,
-        known.offer.as_slice(),
-        &entry.start,
-    )
+    push_detach(facts, entry)?;
+    push_started(facts, entry.at, look.again, &known.wish, &entry.start)
 }
 
 /// Whether a time is no later than the one that is asked for, if one is.

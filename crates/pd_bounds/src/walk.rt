@@ -1,6 +1,7 @@
 //! What bounds a port, over the run of a plan.
 
-ghost use Rattle.std.specs.Prelude.{IfOk, ◌≤◌};
+ghost use Rattle.std.specs.Prelude.{IfOk, OnOk, ◌≤◌, None};
+ghost use Rattle.pd_run.specs.Cost.{CostsAllMoves, IsPaid};
 ghost use Rattle.pd_bounds.specs.Story.{TellsFacts};
 
 use crate::fact::Fact;
@@ -12,7 +13,7 @@ use pd_run::{Live, Plan};
 use std::alloc::{AllocError, Global};
 
 /// Runs a plan, and tells what bounds a port of it: of each offer up to a time, or of the last one, how the budget was shared, what
-/// bounds each supply, what the sink asked and why, and what came of it; or that there is no offer.
+/// bounds each supply, what the sink asked and why, and what came of it; or that there is no offer. The meter rises by one for each move.
 ///
 /// # Errors
 /// There is no memory.
@@ -20,14 +21,16 @@ pub fn facts_of<const N: usize>(
     alloc: Global,
     plan: &Plan<N>,
     question: &Question,
+    meter: &mut Meter,
 ) -> Result<Vec<Fact>, AllocError>
-    ensures { IfOk result (λ facts. TellsFacts plan.now question.now facts.items) }
+    ensures facts { IfOk result (λ facts. TellsFacts plan.now question.now facts.items) }
+    ensures paid { OnOk result (IsPaid CostsAllMoves None plan.now meter.old meter.new) }
 {
+    let _count = meter.count();
     let mut live = Live::new(alloc, plan)?;
     let mut story = Story::new(alloc);
-    let mut meter = Meter::new();
     while let Some((port, due)) = live.next(plan) {
-        let look = step_look(alloc, plan, &mut live, port, &due, &mut meter)?;
+        let look = step_look(alloc, plan, &mut live, port, &due, meter)?;
         story = story.hear(question, &look)?;
     }
     story.end(question)

@@ -119,6 +119,21 @@ impl Sink {
         self.state
     }
 
+    /// The sink that is attached.
+    pub fn settings(&self) -> Option<SinkSettings>
+        ensures { result ≡ self.now.sink }
+    {
+        self.sink
+    }
+
+    /// The objects of the offer that it keeps.
+    pub fn kept_offer(&self) -> &[u32]
+        ensures offer { result.now ≡ self.now.kept_offer }
+        ensures few { length result.now ≤ 7 }
+    {
+        self.kept_offer.as_slice()
+    }
+
     /// Whether messages reach the engine.
     pub fn hears(&self) -> bool
         ensures { result ≡ hears_in self.now }

@@ -19,3 +19,5 @@ pub mod Commits
 pub mod Rests
 pub mod Silent
 pub mod Attached
+pub mod Offering
+pub mod Learning

@@ -5,6 +5,7 @@ ghost use Rattle.std.specs.List.{flat_map};
 ghost use Rattle.pd_why_text.specs.Forms.{TellsStory, line_in};
 
 use pd_bounds::{Fact, Question, facts_of};
+use pd_port::Meter;
 use pd_run::Plan;
 use pd_why::push_fact_lines;
 use pd_why_json::push_fact_objects;
@@ -35,10 +36,11 @@ pub(crate) fn tell_story<const N: usize>(
     plan: &Plan<N>,
     question: &Question,
     form: Form,
+    meter: &mut Meter,
     said: &mut Vec<u8>,
 ) -> Result<(), AllocError>
     ensures { OnOk result (TellsStory form plan.now question.now said.old.items said.new.items) }
 {
-    let facts = facts_of(alloc, plan, question)?;
+    let facts = facts_of(alloc, plan, question, meter)?;
     push_facts(said, form, facts.as_slice())
 }

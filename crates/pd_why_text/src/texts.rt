@@ -13,6 +13,7 @@ ghost use Rattle.pd_why_text.specs.Texts.{TellsText};
 
 use crate::form::{Form, tell_story};
 use pd_bounds::Question;
+use pd_port::Meter;
 use pd_run::Plan;
 use pd_scenario::Scenario;
 use pd_scenario_text::{ScenarioFault, ScenarioFile};
@@ -32,16 +33,16 @@ pub enum WhyFault {
 
 // Asks the run of as many ports as the file has.
 macro_rules! why_by {
-    ($alloc:ident, $file:ident, $script:ident, $question:ident, $form:ident, $said:ident; $($n:literal)*) => {
+    ($alloc:ident, $file:ident, $script:ident, $question:ident, $form:ident, $meter:ident, $said:ident; $($n:literal)*) => {
         match $file.port_count().map_err(WhyFault::Scenario)? {
-            $($n => why_file::<$n>($alloc, $file, $script, $question, $form, $said),)*
+            $($n => why_file::<$n>($alloc, $file, $script, $question, $form, $meter, $said),)*
             _ => Err(WhyFault::Scenario(ScenarioFault::Limit)),
         }
     };
 }
 
 /// Tells what bounds a port in the run of the scenario of a text, which has 1 to 8 ports, as an edit script leaves it: each fact in a
-/// form. A line that is refused changes nothing.
+/// form. A line that is refused changes nothing. The meter rises by one for each move of the run.
 ///
 /// # Errors
 /// `Scenario` where the text is refused and `NoSuchPort` where it hasn't the port, and nothing is written; `Memory` where there is none
@@ -52,12 +53,13 @@ pub fn why_text(
     script: &[u8],
     question: &Question,
     form: Form,
+    meter: &mut Meter,
     said: &mut Vec<u8>,
 ) -> Result<(), WhyFault>
     ensures { TellsText form result text.now script.now question.now said.old.items said.new.items }
 {
     let file = ScenarioFile::parse(alloc, text).map_err(WhyFault::Scenario)?;
-    why_by!(alloc, file, script, question, form, said; 1 2 3 4 5 6 7 8)
+    why_by!(alloc, file, script, question, form, meter, said; 1 2 3 4 5 6 7 8)
 }
 
 // Whether a port is among so many.
@@ -74,6 +76,7 @@ fn why_file<const N: usize>(
     script: &[u8],
     question: &Question,
     form: Form,
+    meter: &mut Meter,
     said: &mut Vec<u8>,
 ) -> Result<(), WhyFault>
     requires from_one { 1 ≤ N }
@@ -88,7 +91,7 @@ fn why_file<const N: usize>(
     if !is_port(N, question.port) {
         return Err(WhyFault::NoSuchPort);
     }
-    match why_scenario(alloc, scenario, script, question, form, said) {
+    match why_scenario(alloc, scenario, script, question, form, meter, said) {
         Ok(()) => Ok(()),
         Err(_) => Err(WhyFault::Memory),
     }
@@ -101,6 +104,7 @@ fn why_scenario<const N: usize>(
     script: &[u8],
     question: &Question,
     form: Form,
+    meter: &mut Meter,
     said: &mut Vec<u8>,
 ) -> Result<(), AllocError>
     ensures { OnOk result (TellsStory form (plan_of (followed N scenario.entry (lines script.now))) question.now
@@ -109,5 +113,5 @@ fn why_scenario<const N: usize>(
     let mut scenario = scenario;
     follow(alloc, &mut scenario, script)?;
     let plan = Plan::of_scenario(alloc, &scenario)?;
-    tell_story(alloc, &plan, question, form, said)
+    tell_story(alloc, &plan, question, form, meter, said)
 }

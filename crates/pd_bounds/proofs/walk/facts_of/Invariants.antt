@@ -1,4 +1,5 @@
-use Rattle.std.proofs.Common.{◌≡◌, List}
+use Rattle.std.proofs.Common.{◌≡◌, List, length}
+use Rattle.pd_port.specs.Meter.{raised}
 use Rattle.pd_run.specs.Run.{Move}
 use Rattle.pd_run.specs.Live.{StandsAfter}
 use Rattle.pd_run.specs.StepsLeft.{steps_left}
@@ -10,6 +11,7 @@ invariant-loop-port g l = record {
   moves : List Move;
   stands : StandsAfter l.plan moves l.live;
   story : l.story ≡ story_of l.plan l.question moves;
+  cost : l.meter ≡ raised l.fn.meter (length moves);
 }
 
 abbrev pub decreases-loop-port : goal.decreases-loop-port

@@ -6,10 +6,10 @@ use Rattle.pd_why.specs.Story.{story_text}
 use Rattle.pd_why.specs.Words.{fact_line}
 use Rattle.pd_why.proofs.run.why.Goals as goal
 
-pub returns : goal.returns
+pub returns-clause-text : goal.returns-clause-text
 unfolding story_text
-returns g c =
-    let told = c.in_ok-facts.ensures in
+returns-clause-text g c =
+    let told = c.in_ok-facts.ensures.facts in
     on_ok_weaker c.push_fact_lines.result
     (λ h. record {
       moves = told.moves;
@@ -18,3 +18,6 @@ returns g c =
           (c.as_slice.ensures.value ∙ told.facts_are);
     })
     c.push_fact_lines.ensures
+
+pub returns-clause-paid : goal.returns-clause-paid
+returns-clause-paid g c = on_ok_weaker c.push_fact_lines.result (λ h. c.in_ok-facts.ensures.paid) c.push_fact_lines.ensures

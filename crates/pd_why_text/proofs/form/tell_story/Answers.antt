@@ -7,7 +7,7 @@ use Rattle.pd_why_text.proofs.form.tell_story.Goals as goal
 
 pub returns : goal.returns
 returns g c =
-    let told = c.in_ok-facts.ensures in
+    let told = c.in_ok-facts.ensures.facts in
     on_ok_weaker c.push_facts.result
     (λ h. record {
       moves = told.moves;
