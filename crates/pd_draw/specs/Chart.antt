@@ -1,8 +1,8 @@
 -- The chart of the budget, of the contracts and of the holds.
-use Rattle.std.specs.Prelude.{ℕ, ◌+◌, ◌-◌, ◌*◌, ◌/◌, ◌==◌, ◌&&◌, nat_le, min, Bool, List, [], ◌∷◌, ◌++◌, take, drop, sum, codes, decimal}
+use Rattle.std.specs.Prelude.{ℕ, ◌+◌, ◌-◌, ◌*◌, ◌/◌, ◌==◌, ◌&&◌, nat_le, Bool, List, [], ◌∷◌, ◌++◌, take, drop, sum, codes, decimal}
 use Rattle.std.specs.Prelude.{if◌then◌else◌}
 use Rattle.std.specs.List.{flat_map}
-use Rattle.pd_svg.specs.Elements.{Element, element_text}
+use Rattle.pd_svg.specs.Elements.{Element}
 use Rattle.pd_svg.specs.Shapes.{box_of, path_of, words_at}
 use Rattle.pd_tell.specs.Amounts.{watts}
 use Rattle.pd_draw.specs.declared.curves.Curve.{Curve}

@@ -1,6 +1,6 @@
 -- The steps of the curves: what the budget is, what the contracts take of it, and what the ports hold of it, from when on.
-use Rattle.std.specs.Prelude.{ℕ, ◌-◌, ◌==◌, ◌&&◌, ◌||◌, not, nat_le, nat_lt, max, Bool, true, false, if◌then◌else◌, List, [], ◌∷◌, ◌++◌}
-use Rattle.std.specs.Prelude.{length, take, map, replicate, slice_set, sum, Option, Some, None, is_some}
+use Rattle.std.specs.Prelude.{ℕ, ◌-◌, ◌==◌, ◌&&◌, ◌||◌, not, nat_le, nat_lt, max, Bool, if◌then◌else◌, List, [], ◌∷◌, ◌++◌}
+use Rattle.std.specs.Prelude.{length, take, map, replicate, slice_set, sum, is_some}
 use Rattle.std.specs.List.{fold}
 use Rattle.pd_port.specs.Happens.{is_budget}
 use Rattle.pd_scenario.specs.Plan.{Plan, force, settings_of}

@@ -1,5 +1,5 @@
 -- The chart of a picture, and the picture's size.
-use Rattle.std.specs.Prelude.{◌≡◌, ℕ, ◌+◌, ◌-◌, ◌*◌, ◌/◌, min, max, List, [], ◌∷◌, ◌++◌, map, codes, decimal}
+use Rattle.std.specs.Prelude.{ℕ, ◌+◌, ◌-◌, ◌*◌, ◌/◌, min, max, List, [], ◌∷◌, ◌++◌, map, codes, decimal}
 use Rattle.std.specs.List.{flat_map}
 use Rattle.pd_scenario.specs.Plan.{Plan}
 use Rattle.pd_svg.specs.Elements.{Attribute, Element, element_text}

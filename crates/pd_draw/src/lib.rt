@@ -5,11 +5,13 @@ mod amounts;
 mod chart;
 mod curves;
 mod frame;
+mod laws;
 mod look;
 mod picture;
 
 pub use chart::push_port_name;
 pub use curves::{Curve, Curves, Level};
 pub use frame::Frame;
+pub use laws::curves_are_true;
 pub use look::Look;
 pub use picture::{push_chart, push_head};

@@ -13,6 +13,7 @@ ghost use Rattle.pd_draw_text.specs.declared.texts.DrawFault.TheVariants.{Memory
 ghost use Rattle.pd_draw_text.specs.Texts.{DrewText, NotDrawn, has_port};
 
 use pd_lanes::{Look, draw};
+use pd_port::Meter;
 use pd_run::Plan;
 use pd_scenario::Scenario;
 use pd_scenario_text::{ScenarioFault, ScenarioFile};
@@ -32,9 +33,9 @@ pub enum DrawFault {
 
 // Draws the run of as many ports as the file has.
 macro_rules! draw_by {
-    ($alloc:ident, $file:ident, $script:ident, $look:ident; $($n:literal)*) => {
+    ($alloc:ident, $file:ident, $script:ident, $look:ident, $meter:ident; $($n:literal)*) => {
         match $file.port_count().map_err(DrawFault::Scenario)? {
-            $($n => draw_file::<$n>($alloc, $file, $script, $look),)*
+            $($n => draw_file::<$n>($alloc, $file, $script, $look, $meter),)*
             _ => Err(DrawFault::Scenario(ScenarioFault::Limit)),
         }
     };
@@ -50,11 +51,12 @@ pub fn draw_text(
     text: &[u8],
     script: &[u8],
     look: Look,
+    meter: &mut Meter,
 ) -> Result<Vec<u8>, DrawFault>
     ensures { MatchResult result (λ drawn. DrewText text.now script.now look drawn.items) (NotDrawn text.now look) }
 {
     let file = ScenarioFile::parse(alloc, text).map_err(DrawFault::Scenario)?;
-    draw_by!(alloc, file, script, look; 1 2 3 4 5 6 7 8)
+    draw_by!(alloc, file, script, look, meter; 1 2 3 4 5 6 7 8)
 }
 
 // Whether the port that is chosen is among so many.
@@ -73,6 +75,7 @@ fn draw_file<const N: usize>(
     file: ScenarioFile,
     script: &[u8],
     look: Look,
+    meter: &mut Meter,
 ) -> Result<Vec<u8>, DrawFault>
     requires from_one { 1 ≤ N }
     requires to_eight { N ≤ 8 }
@@ -86,7 +89,7 @@ fn draw_file<const N: usize>(
     if !has_port(N, look.port) {
         return Err(DrawFault::NoSuchPort);
     }
-    draw_scenario(alloc, scenario, script, look)
+    draw_scenario(alloc, scenario, script, look, meter)
 }
 
 // Draws the run of a scenario, as a script leaves it.
@@ -95,6 +98,7 @@ fn draw_scenario<const N: usize>(
     scenario: Scenario<N>,
     script: &[u8],
     look: Look,
+    meter: &mut Meter,
 ) -> Result<Vec<u8>, DrawFault>
     ensures { MatchResult result (λ drawn. DrewRun (plan_of (followed N scenario.entry (lines script.now))) look drawn.items)
         (λ fault. fault ≡ memory) }
@@ -106,7 +110,7 @@ fn draw_scenario<const N: usize>(
     let Ok(plan) = Plan::of_scenario(alloc, &scenario) else {
         return Err(DrawFault::Memory);
     };
-    match draw(alloc, &plan, look) {
+    match draw(alloc, &plan, look, meter) {
         Ok(drawn) => Ok(drawn),
         Err(_) => Err(DrawFault::Memory),
     }

@@ -43,7 +43,7 @@ curves_more f plan seens s seen c c' h e g =
     g ∙ ap (λ v. curves_after f v seen) h ∙ ap (curves_after f (curves_of f plan seens)) e
     ∙ sym (fold-append (curves_after f) (curves_start f plan) seens (s ∷ []))
 
-drawn_push : (f : Frame) (chosen : Option ℕ) (seens : List Seen) (s : Seen)
+pub drawn_push : (f : Frame) (chosen : Option ℕ) (seens : List Seen) (s : Seen)
     → drawn_of f chosen (seens ++ s ∷ []) ≡ drawn_after f chosen (drawn_of f chosen seens) s
 drawn_push f chosen seens s =
     fold-append (drawn_after f chosen) (record { lanes = lanes_start f; before = 0; elements = [] }) seens (s ∷ [])

@@ -1,9 +1,10 @@
--- The bands of a lane: what an engineer calls the groups of states that a port's source goes through.
-use Rattle.std.specs.Prelude.{ℕ, ◌+◌, ◌-◌, ◌==◌, nat_lt, nat_le, Bool, if◌then◌else◌, List, [], ◌∷◌, codes}
+-- The bands of a lane: whether a port has a contract, and what an engineer calls the groups of states without one.
+use Rattle.std.specs.Prelude.{ℕ, ◌+◌, ◌-◌, ◌==◌, ◌||◌, not, nat_lt, nat_le, Bool, if◌then◌else◌, List, [], ◌∷◌, codes}
 use Rattle.pd_svg.specs.Elements.{Element}
 use Rattle.pd_svg.specs.Shapes.{box_of, words_at}
 use Rattle.pd_source.specs.declared.kinds.State as source
 use Rattle.pd_source.specs.declared.kinds.State.TheVariants as state
+use Rattle.pd_show.specs.declared.seen.Glance.{Glance}
 use Rattle.pd_draw.specs.Scale.{x_of}
 use Rattle.pd_lanes.specs.declared.place.Place.{Place}
 use Rattle.pd_lanes.specs.declared.lane.Lane.{Lane}
@@ -11,25 +12,18 @@ use Rattle.pd_lanes.specs.declared.phase.Phase.{Phase}
 use Rattle.pd_lanes.specs.declared.phase.Phase.TheVariants.{Detached, Negotiating, Contract, HardReset, Disabled}
 use Rattle.pd_lanes.specs.Places.{box_width}
 
--- the phase of each state
-abbrev pub phase_of : source.State → Phase
-phase_of state.Off = Detached
-phase_of state.Startup = Negotiating
-phase_of state.VdmIdentityRequest = Negotiating
-phase_of state.SendCapabilities = Negotiating
-phase_of state.Discovery = Negotiating
-phase_of state.NegotiateCapability = Negotiating
-phase_of state.CapabilityResponse = Negotiating
-phase_of state.TransitionSupply = Negotiating
-phase_of state.Ready = Contract
-phase_of state.WaitNewCapabilities = Negotiating
-phase_of state.GetSinkCap = Contract
-phase_of state.SendSoftReset = Negotiating
-phase_of state.SoftReset = Negotiating
-phase_of state.HardReset = HardReset
-phase_of state.HardResetReceived = HardReset
-phase_of state.TransitionToDefault = HardReset
-phase_of state.Disabled = Disabled
+-- the phase of each state, where there is no contract
+abbrev pub phase_without : source.State → Phase
+phase_without state.Off = Detached
+phase_without state.HardReset = HardReset
+phase_without state.HardResetReceived = HardReset
+phase_without state.TransitionToDefault = HardReset
+phase_without state.Disabled = Disabled
+phase_without _ = Negotiating
+
+-- the phase of a port: a contract, while it has one, and else that of its source's state
+abbrev pub phase_of : Glance → Phase
+phase_of port = if port.contract then Contract else phase_without port.source
 
 abbrev pub phase_number : Phase → ℕ
 phase_number Detached = 1
@@ -85,7 +79,10 @@ lane_in p lane phase =
     if phase_number lane.phase == phase_number phase then lane else if is_narrow p lane then record lane { phase = phase }
     else record lane { phase = phase; since = p.at }
 
+-- the band of the lane's phase ends, where the lane goes into another phase and that one isn't drawn in its place
+abbrev pub ends_band : Place → Lane → Phase → Bool
+ends_band p lane phase = not (phase_number lane.phase == phase_number phase || is_narrow p lane)
+
 -- what is drawn then: the band of the phase that ends
 unfoldable pub turn_elements : Place → Lane → Phase → List Element
-turn_elements p lane phase =
-    if phase_number lane.phase == phase_number phase then [] else if is_narrow p lane then [] else band_elements p lane
+turn_elements p lane phase = if ends_band p lane phase then band_elements p lane else []

@@ -53,7 +53,7 @@ marks_shown f seen = if nat_le f.from seen.entry.at then marks_of seen else []
 
 -- the lane after a move: its phase, and then its marks
 abbrev pub lane_turned : Place → Lane → Seen → Lane
-lane_turned p lane seen = lane_in p lane (phase_of seen.after.source)
+lane_turned p lane seen = lane_in p lane (phase_of seen.after)
 
 unfoldable pub lane_after : Place → Lane → Seen → Lane
 lane_after p lane seen = lane_marked p (lane_turned p lane seen) (marks_shown p.frame seen)
@@ -61,7 +61,7 @@ lane_after p lane seen = lane_marked p (lane_turned p lane seen) (marks_shown p.
 -- what a move draws
 unfoldable pub move_elements : Place → Lane → Seen → List Element
 move_elements p lane seen =
-    turn_elements p lane (phase_of seen.after.source) ++ marks_elements p (lane_turned p lane seen) (marks_shown p.frame seen)
+    turn_elements p lane (phase_of seen.after) ++ marks_elements p (lane_turned p lane seen) (marks_shown p.frame seen)
 
 -- the lanes after a move, and what is drawn of it, after a line of this time
 unfoldable pub lanes_after : Frame → Option ℕ → ℕ → List Lane → Seen → List Lane

@@ -15,7 +15,7 @@ mod walk;
 
 pub use lane::Lane;
 pub use lanes::Lanes;
-pub use laws::titles_are_lines;
+pub use laws::{bands_are_true, phases_stand, titles_are_lines};
 pub use pd_draw::Look;
 pub use phase::Phase;
 pub use place::{Place, Row};

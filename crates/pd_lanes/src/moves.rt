@@ -231,7 +231,7 @@ pub(crate) fn push_move(
     ensures text { OnOk result (text.new.items ≡ text.old.items ++ flat_map element_text (move_elements place lane.old seen.now)) }
     ensures lane { OnOk result (lane.new ≡ lane_after place lane.old seen.now) }
 {
-    let phase = phase_of(seen.after.source);
+    let phase = phase_of(&seen.after);
     push_turn(text, place, lane, phase)?;
     lane.turn(place, phase);
     push_shown_marks(alloc, text, lane, place, seen)

@@ -1,18 +1,19 @@
-//! The phases of a port's source.
+//! The phases of a port.
 
 ghost use Rattle.std.specs.Prelude.{◌≡◌, ◌≤◌};
-ghost use Rattle.pd_lanes.specs.Bands.{phase_height, phase_name, phase_number, phase_of};
+ghost use Rattle.pd_lanes.specs.Bands.{phase_height, phase_name, phase_number, phase_of, phase_without};
 
+use pd_show::Glance;
 use pd_source::State;
 
-/// What an engineer calls a group of states of a port's source.
+/// Whether a port has a contract, and without one what an engineer calls a group of states of its source.
 #[derive(Clone, Copy, Debug)]
 pub enum Phase {
     /// Nothing is attached.
     Detached,
-    /// A contract is being made, or none can be.
+    /// No contract stands: one is being made, or none can be.
     Negotiating,
-    /// A contract stands, and nothing is being changed.
+    /// A contract stands.
     Contract,
     /// The port is being reset, down to no voltage.
     HardReset,
@@ -20,13 +21,12 @@ pub enum Phase {
     Disabled,
 }
 
-/// The phase of a state.
-pub(crate) fn phase_of(state: State) -> Phase
-    ensures { result ≡ phase_of state }
+/// The phase of a state without a contract.
+fn phase_without(state: State) -> Phase
+    ensures { result ≡ phase_without state }
 {
     match state {
         State::Off => Phase::Detached,
-        State::Ready | State::GetSinkCap => Phase::Contract,
         State::HardReset | State::HardResetReceived | State::TransitionToDefault => {
             Phase::HardReset
         }
@@ -38,9 +38,22 @@ pub(crate) fn phase_of(state: State) -> Phase
         | State::NegotiateCapability
         | State::CapabilityResponse
         | State::TransitionSupply
+        | State::Ready
         | State::WaitNewCapabilities
+        | State::GetSinkCap
         | State::SendSoftReset
         | State::SoftReset => Phase::Negotiating,
+    }
+}
+
+/// The phase of a port.
+pub(crate) fn phase_of(port: &Glance) -> Phase
+    ensures { result ≡ phase_of port.now }
+{
+    if port.contract {
+        Phase::Contract
+    } else {
+        phase_without(port.source)
     }
 }
 

@@ -20,6 +20,7 @@ pub fn draw<const N: usize>(
     alloc: Global,
     plan: &Plan<N>,
     look: Look,
+    meter: &mut Meter,
 ) -> Result<Vec<u8>, AllocError>
     ensures { IfOk result (λ text. DrewRun plan.now look text.items) }
 {
@@ -28,9 +29,8 @@ pub fn draw<const N: usize>(
     let mut watches = at_rest(alloc, N)?;
     let mut curves = Curves::new(alloc, frame, plan)?;
     let mut lanes = Lanes::new(alloc, frame);
-    let mut meter = Meter::new();
     while let Some((port, due)) = live.next(plan) {
-        let seen = step_seen(alloc, plan, &mut live, &mut watches, port, &due, &mut meter)?;
+        let seen = step_seen(alloc, plan, &mut live, &mut watches, port, &due, meter)?;
         curves.see(frame, &seen)?;
         lanes.see(alloc, frame, look.port, &seen)?;
     }

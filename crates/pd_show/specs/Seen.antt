@@ -1,5 +1,5 @@
 -- What is seen of a move of a run.
-use Rattle.std.specs.Prelude.{◌+◌, List, [], ◌∷◌}
+use Rattle.std.specs.Prelude.{◌+◌, List, [], ◌∷◌, is_some}
 use Rattle.pd_setup.specs.Settings.{SettingsData}
 use Rattle.pd_port.specs.Port.{PortRecord, hold as hold_of}
 use Rattle.pd_scenario.specs.Plan.{Plan, count, settings_of, force}
@@ -8,9 +8,14 @@ use Rattle.pd_watch.specs.Watch.{WatchData, after_step, all_at_rest, disturber_o
 use Rattle.pd_show.specs.declared.seen.Glance.{Glance}
 use Rattle.pd_show.specs.declared.seen.Seen.{Seen}
 
--- of a port between its moves: what it holds, and the states that its source and its sink are in
+-- of a port between its moves: what it holds, whether it has a contract, and the states that its source and its sink are in
 abbrev pub glance : SettingsData → PortRecord → Glance
-glance s r = record { hold = hold_of s r; source = r.source.state; sink = r.sink.state }
+glance s r = record {
+  hold = hold_of s r;
+  contract = is_some r.source.contract;
+  source = r.source.state;
+  sink = r.sink.state;
+}
 
 -- Of a move: its port, numbered from 1 here, the budget at its time, the port before and after it, its entry and its answer, and the
 -- event whose disturbance the packet takes that it starts, where that is lost or damaged. What is watched of the ports before it, is

@@ -16,11 +16,12 @@ use pd_source::State as SourceState;
 use pd_watch::Watch;
 use std::alloc::{AllocError, Global};
 
-/// What is seen of a port between its moves: what it holds of the shared budget, in microwatts, and the states that its
-/// source and its sink are in.
+/// What is seen of a port between its moves: what it holds of the shared budget, in microwatts, whether it has a contract, and
+/// the states that its source and its sink are in.
 #[derive(Clone, Copy, Debug)]
 pub struct Glance {
     pub hold: u64,
+    pub contract: bool,
     pub source: SourceState,
     pub sink: SinkState,
 }
@@ -45,6 +46,7 @@ fn glimpse(port: &Port) -> Glance
 {
     Glance {
         hold: port.hold(),
+        contract: port.contract().is_some(),
         source: port.source_state(),
         sink: port.sink_state(),
     }

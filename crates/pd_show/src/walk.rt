@@ -22,6 +22,7 @@ pub fn show<const N: usize, W: TextOut>(
     plan: &Plan<N>,
     choice: &Choice,
     writer: &mut W,
+    meter: &mut Meter,
 ) -> Result<(), BenchFault>
     ensures text { ShowsRun plan.now choice.now result (W.taken writer.old) (W.taken writer.new) }
     ensures counts { CountsShow result (W.failures writer.old) (W.failures writer.new) }
@@ -36,10 +37,8 @@ pub fn show<const N: usize, W: TextOut>(
         return Err(BenchFault::Memory);
     };
     let mut said = Vec::new(alloc);
-    let mut meter = Meter::new();
     while let Some((port, due)) = live.next(plan) {
-        let Ok(seen) = step_seen(alloc, plan, &mut live, &mut watches, port, &due, &mut meter)
-        else {
+        let Ok(seen) = step_seen(alloc, plan, &mut live, &mut watches, port, &due, meter) else {
             return Err(BenchFault::Memory);
         };
         let Ok(()) = push_lines(&mut page, &mut said, choice, &seen) else {

@@ -12,6 +12,7 @@ ghost use Rattle.pd_show.specs.Show.{CountsShow, ShowsRun};
 ghost use Rattle.pd_show_text.specs.Texts.{CountsShown, ShowsText, has_port};
 
 use pd_device::{BenchFault, TextOut};
+use pd_port::Meter;
 use pd_run::Plan;
 use pd_scenario::Scenario;
 use pd_scenario_text::{ScenarioFault, ScenarioFile};
@@ -32,9 +33,9 @@ pub enum ShowFault {
 
 // Shows the run of as many ports as the file has.
 macro_rules! show_by {
-    ($alloc:ident, $file:ident, $script:ident, $choice:ident, $writer:ident; $($n:literal)*) => {
+    ($alloc:ident, $file:ident, $script:ident, $choice:ident, $writer:ident, $meter:ident; $($n:literal)*) => {
         match $file.port_count().map_err(ShowFault::Scenario)? {
-            $($n => show_file::<$n, W>($alloc, $file, $script, $choice, $writer),)*
+            $($n => show_file::<$n, W>($alloc, $file, $script, $choice, $writer, $meter),)*
             _ => Err(ShowFault::Scenario(ScenarioFault::Limit)),
         }
     };
@@ -52,12 +53,13 @@ pub fn show_text<W: TextOut>(
     script: &[u8],
     choice: &Choice,
     writer: &mut W,
+    meter: &mut Meter,
 ) -> Result<(), ShowFault>
     ensures text { ShowsText result text.now script.now choice.now (W.taken writer.old) (W.taken writer.new) }
     ensures counts { CountsShown result (W.failures writer.old) (W.failures writer.new) }
 {
     let file = ScenarioFile::parse(alloc, text).map_err(ShowFault::Scenario)?;
-    show_by!(alloc, file, script, choice, writer; 1 2 3 4 5 6 7 8)
+    show_by!(alloc, file, script, choice, writer, meter; 1 2 3 4 5 6 7 8)
 }
 
 // Whether the port that is chosen is among so many.
@@ -77,6 +79,7 @@ fn show_file<const N: usize, W: TextOut>(
     script: &[u8],
     choice: &Choice,
     writer: &mut W,
+    meter: &mut Meter,
 ) -> Result<(), ShowFault>
     requires from_one { 1 ≤ N }
     requires to_eight { N ≤ 8 }
@@ -91,7 +94,7 @@ fn show_file<const N: usize, W: TextOut>(
     if !has_port(N, choice.port) {
         return Err(ShowFault::NoSuchPort);
     }
-    show_scenario(alloc, scenario, script, choice, writer).map_err(ShowFault::Run)
+    show_scenario(alloc, scenario, script, choice, writer, meter).map_err(ShowFault::Run)
 }
 
 // Shows the run of a scenario, as a script leaves it.
@@ -101,6 +104,7 @@ fn show_scenario<const N: usize, W: TextOut>(
     script: &[u8],
     choice: &Choice,
     writer: &mut W,
+    meter: &mut Meter,
 ) -> Result<(), BenchFault>
     ensures text { ShowsRun (plan_of (followed N scenario.entry (lines script.now))) choice.now result
         (W.taken writer.old) (W.taken writer.new) }
@@ -113,5 +117,5 @@ fn show_scenario<const N: usize, W: TextOut>(
     let Ok(plan) = Plan::of_scenario(alloc, &scenario) else {
         return Err(BenchFault::Memory);
     };
-    show(alloc, &plan, choice, writer)
+    show(alloc, &plan, choice, writer, meter)
 }
