@@ -5,6 +5,7 @@ use Rattle.pd_port.specs.declared.entry.Entry.{Entry}
 use Rattle.pd_run.specs.Shown.{Shows}
 use Rattle.pd_scenario.specs.Plans.{plan_of}
 use Rattle.pd_scenario.specs.Scenarios.{ScenarioData}
+use Rattle.pd_scenario.specs.declared.event.ScenarioEvent.{ScenarioEvent}
 use Rattle.pd_sweep.specs.Choices.{chosen}
 use Rattle.pd_sweep.specs.Trials.{is_hit}
 use Rattle.pd_sweep.specs.Variants.{variant}
@@ -29,18 +30,18 @@ nth_of (suc before) targets = slice_get targets before
 abbrev pub lost_packet : Lost → List (ℕ × Entry) → Option Target
 lost_packet lost moves = nth_of lost.nth (chosen (choice_of lost) moves)
 
--- the scenario in which it is lost, where the event hits it
-abbrev pub LosesIn : Result ScenarioData Obstacle → Target → Result ScenarioData LoseFault → Type 0
-LosesIn (Err obstacle) target outcome = outcome ≡ Err (fault.Barred obstacle)
-LosesIn (Ok after) target outcome =
+-- the scenario in which it is lost, where an event that none of these is hits it
+abbrev pub LosesIn : List ScenarioEvent → Result ScenarioData Obstacle → Target → Result ScenarioData LoseFault → Type 0
+LosesIn events (Err obstacle) target outcome = outcome ≡ Err (fault.Barred obstacle)
+LosesIn events (Ok after) target outcome =
     (moves : List (ℕ × Entry)) × Shows (plan_of after) moves
-    × (outcome ≡ (if is_hit target moves then Ok after else Err fault.Missed))
+    × (outcome ≡ (if is_hit events target moves then Ok after else Err fault.Missed))
 
 -- there are so many packets of the kind on the port
 abbrev pub LosesPacket : ℕ → ScenarioData → ℕ → Option Target → Result ScenarioData LoseFault → Type 0
 LosesPacket n c count None outcome = outcome ≡ Err (fault.NoPacket count)
 LosesPacket n c count (Some target) outcome =
-    MatchBool target.disturbed (outcome ≡ Err fault.Disturbed) (LosesIn (variant n c harm.Lost target) target outcome)
+    MatchBool target.disturbed (outcome ≡ Err fault.Disturbed) (LosesIn c.events (variant n c harm.Lost target) target outcome)
 
 -- The scenario with the event that loses the packet that is named in its run, or why there is none.
 abbrev pub IsLoss : ℕ → ScenarioData → Lost → Result ScenarioData LoseFault → Type 0

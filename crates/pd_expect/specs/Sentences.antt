@@ -1,5 +1,5 @@
 -- What an expectation says of a run, and when it is met.
-use Rattle.std.specs.Prelude.{◌≡◌, ℕ, ◌==◌, ◌&&◌, nat_le, Bool, true, false, List, [], if◌then◌else◌, bytes_eq, Option, Some, None}
+use Rattle.std.specs.Prelude.{◌≡◌, ℕ, ◌==◌, ◌&&◌, nat_le, nat_lt, Bool, true, false, List, [], if◌then◌else◌, bytes_eq, Option, Some, None}
 use Rattle.std.specs.List.{filter_map, last_or, list_any}
 use Rattle.pd_header.specs.declared.kind.Kind.{Kind}
 use Rattle.pd_header.specs.declared.side.Side.{Side}
@@ -96,6 +96,23 @@ port_of expect.NoFaults = None
 port_of (expect.Fault port) = Some port
 port_of (expect.Packet port side kind from to) = Some port
 
+-- one that isn't there
 abbrev pub unknown_port : ℕ → Option ℕ → Option ℕ
 unknown_port n None = None
 unknown_port n (Some port) = if is_port n port then None else Some port
+
+-- ---- times
+
+-- the last time that an expectation names
+abbrev pub last_time : Expectation → Option ℕ
+last_time (expect.Contract port at voltage current) = Some at
+last_time (expect.NoContract port at) = Some at
+last_time (expect.Margin least) = None
+last_time expect.NoFaults = None
+last_time (expect.Fault port) = None
+last_time (expect.Packet port side kind from to) = Some to
+
+-- one after the end
+abbrev pub late_time : ℕ → Option ℕ → Option ℕ
+late_time end None = None
+late_time end (Some time) = if nat_lt end time then Some time else None

@@ -10,8 +10,8 @@ use Rattle.pd_script.specs.Script.{after_line, at_line, line_text, reason_line}
 use Rattle.pd_expect.specs.Details.{details}
 use Rattle.pd_test_lines.specs.Lines.{test_line}
 use Rattle.pd_expect.specs.Losses.{IsLoss}
-use Rattle.pd_expect.specs.Sentences.{IsFound, is_met, port_of, unknown_port}
-use Rattle.pd_expect.specs.Words.{empty_range_line, failure_line, loss_line, no_test_line}
+use Rattle.pd_expect.specs.Sentences.{IsFound, is_met, last_time, late_time, port_of, unknown_port}
+use Rattle.pd_expect.specs.Words.{empty_range_line, failure_line, late_line, loss_line, no_test_line, time_word}
 use Rattle.pd_expect.specs.declared.found.Found.{Found}
 use Rattle.pd_test_lines.specs.declared.lines.Expectation.{Expectation}
 use Rattle.pd_test_lines.specs.declared.lines.Lost.{Lost}
@@ -61,9 +61,20 @@ Judges c at line tally expectation answer =
     (moves : List (ℕ × Entry)) × Shows (plan_of c) moves × (what : Found) × IsFound (plan_of c) moves line expectation what
     × (answer ≡ judged c at line tally expectation what moves)
 
--- one of a port that isn't there is refused
+-- one of a time after the end is refused: nothing is known of then
+abbrev pub ExpectsInTime : ScenarioData → List ℕ → List ℕ → TestTally → Expectation → Option ℕ → Answer → Type 0
+ExpectsInTime c at line tally expectation None answer = Judges c at line tally expectation answer
+ExpectsInTime c at line tally expectation (Some time) answer =
+    answer ≡ record {
+      said = late_line at (time_word expectation) time (plan_of c).end;
+      tally = one_refused tally;
+      after = c;
+    }
+
+-- so is one of a port that isn't there
 abbrev pub Expects : ℕ → ScenarioData → List ℕ → List ℕ → TestTally → Expectation → Option ℕ → Answer → Type 0
-Expects n c at line tally expectation None answer = Judges c at line tally expectation answer
+Expects n c at line tally expectation None answer =
+    ExpectsInTime c at line tally expectation (late_time (plan_of c).end (last_time expectation)) answer
 Expects n c at line tally expectation (Some port) answer =
     answer ≡ record { said = reason_line at 23 (sentence n c (place.Port port)); tally = one_refused tally; after = c }
 

@@ -8,6 +8,8 @@ use Rattle.pd_expect.specs.declared.found.Found.{Found}
 use Rattle.pd_expect.specs.declared.found.Found.TheVariants as found
 use Rattle.pd_expect.specs.declared.loss.LoseFault.{LoseFault}
 use Rattle.pd_expect.specs.declared.loss.LoseFault.TheVariants as fault
+use Rattle.pd_test_lines.specs.declared.lines.Expectation.{Expectation}
+use Rattle.pd_test_lines.specs.declared.lines.Expectation.TheVariants as expect
 use Rattle.pd_test_lines.specs.declared.span.Span.{Span}
 use Rattle.pd_expect.specs.declared.tally.TestTally.{TestTally}
 
@@ -69,6 +71,17 @@ unfoldable pub empty_range_line : List ℕ → Span → List ℕ
 empty_range_line at span =
     at ++ (codes "refused 20: no number is from " ++ (decimal span.from ++ (codes " to " ++ (decimal span.to
     ++ codes "; hint: the lesser one comes first\n"))))
+
+-- the word for the last time in the form of an expectation
+abbrev pub time_word : Expectation → List ℕ
+time_word (expect.Packet port side kind from to) = codes "TO"
+time_word _ = codes "TIME"
+
+-- a time after the end
+unfoldable pub late_line : List ℕ → List ℕ → ℕ → ℕ → List ℕ
+late_line at word time end =
+    at ++ (codes "refused 26: `" ++ (word ++ (codes "` is " ++ (decimal time ++ (codes ", above " ++ (decimal end
+    ++ codes ", the end\n"))))))
 
 -- the numbers that packets of the kind have, where there are any
 unfoldable pub numbers_words : ℕ → List ℕ

@@ -3,7 +3,8 @@
 ghost use Rattle.std.specs.Prelude.{◌≡◌};
 ghost use Rattle.pd_scenario.specs.Plans.{plan_of};
 ghost use Rattle.pd_test_lines.specs.Lines.{quoted};
-ghost use Rattle.pd_expect.specs.Sentences.{IsFound, is_met, is_none, is_such, port_of, words_of};
+ghost use Rattle.pd_expect.specs.Sentences.{IsFound, is_met, is_none, is_such, last_time, port_of, words_of};
+ghost use Rattle.pd_expect.specs.Words.{time_word};
 
 use crate::contract::contract_at;
 use crate::seek::{Sought, has_fault};
@@ -106,6 +107,27 @@ pub(crate) fn port_of(expectation: &Expectation) -> Option<u64>
         | Expectation::Fault { port }
         | Expectation::Packet { port, .. } => Some(port),
         Expectation::Margin { .. } | Expectation::NoFaults => None,
+    }
+}
+
+/// The last time that is named.
+pub(crate) fn last_time(expectation: &Expectation) -> Option<u64>
+    ensures { result ≡ last_time expectation.now }
+{
+    match *expectation {
+        Expectation::Contract { at, .. } | Expectation::NoContract { at, .. } => Some(at),
+        Expectation::Packet { to, .. } => Some(to),
+        Expectation::Margin { .. } | Expectation::NoFaults | Expectation::Fault { .. } => None,
+    }
+}
+
+/// The word that stands for it in the line's form.
+pub(crate) fn time_word(expectation: &Expectation) -> &'static [u8]
+    ensures { result.now ≡ time_word expectation.now }
+{
+    match *expectation {
+        Expectation::Packet { .. } => b"TO",
+        _ => b"TIME",
     }
 }
 

@@ -58,7 +58,7 @@ fn lose_packet<const N: usize, T: Runner<N>>(
     target: &Target,
     meter: &mut Meter,
 ) -> Result<Result<Scenario<N>, LoseFault>, BenchFault>
-    ensures value { IfOk result (λ outcome. LosesIn (variant N scenario.now harm_lost target.now) target.now outcome) }
+    ensures value { IfOk result (λ outcome. LosesIn scenario.now.events (variant N scenario.now harm_lost target.now) target.now outcome) }
     ensures memory { IfErr result (λ fault. fault ≡ no_memory) }
 {
     let after = match variant_of(alloc, scenario, Loss::Lost, target) {
@@ -69,10 +69,10 @@ fn lose_packet<const N: usize, T: Runner<N>>(
     let Ok(()) = run.replace(alloc, &after, meter) else {
         return Err(BenchFault::Memory);
     };
-    if is_hit(target, run) {
-        Ok(Ok(after))
-    } else {
-        Ok(Err(LoseFault::Missed))
+    match is_hit(alloc, scenario, target, run, &after) {
+        Ok(true) => Ok(Ok(after)),
+        Ok(false) => Ok(Err(LoseFault::Missed)),
+        Err(_) => Err(BenchFault::Memory),
     }
 }
 

@@ -2,22 +2,23 @@
 
 ghost use Rattle.std.specs.Prelude.{◌≡◌, ◌+◌, ◌-◌, ◌<◌, ◌≤◌, ◌^◌, ◌++◌, IfOk, OnOk};
 ghost use Rattle.std.specs.Str.Lines.{lines};
+ghost use Rattle.pd_scenario.specs.Plans.{plan_of};
 ghost use Rattle.pd_explain.specs.Sentences.{sentence};
 ghost use Rattle.pd_explain.specs.declared.place.Place.TheVariants.{Port as port_place};
 ghost use Rattle.pd_script.specs.Script.{reason_line};
 ghost use Rattle.pd_expect.specs.Details.{details};
 ghost use Rattle.pd_expect.specs.Named.{script_lines};
-ghost use Rattle.pd_expect.specs.Sentences.{port_of, unknown_port};
-ghost use Rattle.pd_expect.specs.Tests.{AnswersAs, Expects, IsAnswer, Judges, Loses, Tests, answered, no_test, one_refused};
-ghost use Rattle.pd_expect.specs.Words.{empty_range_line, failure_line, no_test_line};
+ghost use Rattle.pd_expect.specs.Sentences.{last_time, late_time, port_of, unknown_port};
+ghost use Rattle.pd_expect.specs.Tests.{AnswersAs, Expects, ExpectsInTime, IsAnswer, Judges, Loses, Tests, answered, no_test, one_refused};
+ghost use Rattle.pd_expect.specs.Words.{empty_range_line, failure_line, late_line, no_test_line, time_word};
 ghost use Rattle.pd_test_lines.specs.declared.lines.TestLine.TheVariants.{Edit as line_is_edit};
 
 use crate::details::details;
-use crate::found::{Found, found_in, is_met, port_of};
+use crate::found::{Found, found_in, is_met, last_time, port_of, time_word};
 use crate::loss::lose;
 use crate::named::without_mark;
 use crate::tally::TestTally;
-use crate::words::{push_empty_range, push_failure, push_loss, push_no_test};
+use crate::words::{push_empty_range, push_failure, push_late, push_loss, push_no_test};
 use pd_explain::{Place, is_port, push_sentence};
 use pd_port::Meter;
 use pd_run::Runner;
@@ -127,6 +128,45 @@ fn judge<const N: usize, T: Runner<N>>(
     Ok(TestReport { text, tally })
 }
 
+/// The last time that an expectation names, if it is after the end.
+fn late_time(end: u64, time: Option<u64>) -> Option<u64>
+    ensures { result ≡ late_time end time }
+{
+    match time {
+        Some(time) if end < time => Some(time),
+        _ => None,
+    }
+}
+
+/// Holds an expectation against the run of a scenario, where it names no time after the end.
+fn expect_in_time<const N: usize, T: Runner<N>>(
+    alloc: Global,
+    run: &mut T,
+    scenario: &Scenario<N>,
+    at: &[u8],
+    line: &[u8],
+    expectation: &Expectation,
+    tally: TestTally,
+    meter: &mut Meter,
+) -> Result<TestReport, AllocError>
+    requires room { answered tally < 2 ^ 64 - 1 }
+    ensures value { IfOk result (λ report. ExpectsInTime scenario.now at.now line.now tally expectation.now
+        (late_time (plan_of scenario.now).end (last_time expectation.now))
+        (record { said = report.text.items; tally = report.tally; after = scenario.now })) }
+    ensures room { IfOk result (λ report. answered report.tally ≤ answered tally + 1) }
+{
+    let end = scenario.end_time();
+    match late_time(end, last_time(expectation)) {
+        None => judge(alloc, run, scenario, at, line, expectation, tally, meter),
+        Some(time) => {
+            let mut text = Vec::new(alloc);
+            push_late(&mut text, at, time_word(expectation), time, end)?;
+            let tally = tally.one_refused();
+            Ok(TestReport { text, tally })
+        }
+    }
+}
+
 /// Holds an expectation against the run of a scenario, where the port that it names is there.
 fn expect<const N: usize, T: Runner<N>>(
     alloc: Global,
@@ -145,7 +185,7 @@ fn expect<const N: usize, T: Runner<N>>(
     ensures room { IfOk result (λ report. answered report.tally ≤ answered tally + 1) }
 {
     match unknown_port(N, port_of(expectation)) {
-        None => judge(alloc, run, scenario, at, line, expectation, tally, meter),
+        None => expect_in_time(alloc, run, scenario, at, line, expectation, tally, meter),
         Some(port) => {
             let mut text = Vec::new(alloc);
             push_no_port(&mut text, at, scenario, port)?;
@@ -254,26 +294,18 @@ pub fn test_lines<const N: usize, T: Runner<N>>(
     scenario: Scenario<N>,
     name: &[u8],
     script: &[u8],
+    meter: &mut Meter,
 ) -> Result<TestReport, AllocError>
     ensures { IfOk result (λ report. Tests N scenario.entry name.now 1 no_test (lines script.now) report.text.items report.tally) }
 {
     let mut scenario = scenario;
     let mut text = Vec::new(alloc);
     let mut tally = TestTally::none();
-    let mut meter = Meter::new();
     let mut rest = script;
     let mut number = 1;
     while let Some((line, others)) = first_line(rest) {
         let at = at_line(alloc, name, number)?;
-        let answer = answer_line(
-            alloc,
-            run,
-            &mut scenario,
-            at.as_slice(),
-            line,
-            tally,
-            &mut meter,
-        )?;
+        let answer = answer_line(alloc, run, &mut scenario, at.as_slice(), line, tally, meter)?;
         text.extend_from_slice(answer.text.as_slice())?;
         tally = answer.tally;
         rest = others;
@@ -289,8 +321,9 @@ pub(crate) fn test_script<const N: usize, T: Runner<N>>(
     scenario: Scenario<N>,
     name: &[u8],
     script: &[u8],
+    meter: &mut Meter,
 ) -> Result<TestReport, AllocError>
     ensures { IfOk result (λ report. Tests N scenario.entry name.now 1 no_test (script_lines script.now) report.text.items report.tally) }
 {
-    test_lines(alloc, run, scenario, name, without_mark(script))
+    test_lines(alloc, run, scenario, name, without_mark(script), meter)
 }

@@ -8,6 +8,7 @@ ghost use Rattle.pd_expect.specs.Texts.{TestsText};
 
 use crate::script::{TestReport, test_script};
 use pd_keep::Kept;
+use pd_port::Meter;
 use pd_run::Runner;
 use pd_scenario_text::{ScenarioFault, ScenarioFile};
 use std::alloc::Global;
@@ -23,9 +24,9 @@ pub enum TestFault {
 
 // Tests the scenario of as many ports as the file has.
 macro_rules! test_by {
-    ($alloc:ident, $file:ident, $name:ident, $script:ident; $($n:literal)*) => {
+    ($alloc:ident, $file:ident, $name:ident, $script:ident, $meter:ident; $($n:literal)*) => {
         match $file.port_count().map_err(TestFault::Scenario)? {
-            $($n => test_file::<$n>($alloc, $file, $name, $script),)*
+            $($n => test_file::<$n>($alloc, $file, $name, $script, $meter),)*
             _ => Err(TestFault::Scenario(ScenarioFault::Limit)),
         }
     };
@@ -41,11 +42,12 @@ pub fn test_text(
     text: &[u8],
     name: &[u8],
     script: &[u8],
+    meter: &mut Meter,
 ) -> Result<TestReport, TestFault>
     ensures { TestsText result text.now name.now script.now }
 {
     let file = ScenarioFile::parse(alloc, text).map_err(TestFault::Scenario)?;
-    test_by!(alloc, file, name, script; 1 2 3 4 5 6 7 8)
+    test_by!(alloc, file, name, script, meter; 1 2 3 4 5 6 7 8)
 }
 
 // Tests the scenario of a file of N ports.
@@ -54,6 +56,7 @@ fn test_file<const N: usize>(
     file: ScenarioFile,
     name: &[u8],
     script: &[u8],
+    meter: &mut Meter,
 ) -> Result<TestReport, TestFault>
     requires from_one { 1 ≤ N }
     requires to_eight { N ≤ 8 }
@@ -65,7 +68,7 @@ fn test_file<const N: usize>(
         Err(fault) => return Err(TestFault::Scenario(fault)),
     };
     let mut run = Kept::<N>::empty(alloc);
-    match test_script(alloc, &mut run, scenario, name, script) {
+    match test_script(alloc, &mut run, scenario, name, script, meter) {
         Ok(report) => Ok(report),
         Err(_) => Err(TestFault::Memory),
     }

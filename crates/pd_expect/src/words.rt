@@ -4,7 +4,7 @@ ghost use Rattle.std.specs.Prelude.{◌≡◌, ◌++◌, OnOk, decimal};
 ghost use Rattle.pd_edit_lines.specs.Words.{next, words};
 ghost use Rattle.pd_sweep.specs.Words.{obstacle_words};
 ghost use Rattle.pd_expect.specs.Words.{contract_words, failure_line, found_words, faults_word, known_words};
-ghost use Rattle.pd_expect.specs.Words.{empty_range_line, form_behind, form_named, form_of, loss_line, loss_words, there_words};
+ghost use Rattle.pd_expect.specs.Words.{empty_range_line, form_behind, form_named, form_of, late_line, loss_line, loss_words, there_words};
 ghost use Rattle.pd_expect.specs.Words.{no_packet_words, no_test_line, numbered_words, numbers_words};
 
 use crate::found::Found;
@@ -181,6 +181,28 @@ pub(crate) fn push_empty_range(text: &mut Vec<u8>, at: &[u8], span: Span) -> Res
     text.extend_from_slice(b" to ")?;
     push_number(text, span.to)?;
     text.extend_from_slice(b"; hint: the lesser one comes first\n")?;
+    Ok(())
+}
+
+/// Writes that a time is after the end.
+#[tactic(auto, unfolding(crate::specs::Words::late_line))]
+pub(crate) fn push_late(
+    text: &mut Vec<u8>,
+    at: &[u8],
+    word: &[u8],
+    time: u64,
+    end: u64,
+) -> Result<(), AllocError>
+    ensures { OnOk result (text.new.items ≡ text.old.items ++ late_line at.now word.now time end) }
+{
+    text.extend_from_slice(at)?;
+    text.extend_from_slice(b"refused 26: `")?;
+    text.extend_from_slice(word)?;
+    text.extend_from_slice(b"` is ")?;
+    push_number(text, time)?;
+    text.extend_from_slice(b", above ")?;
+    push_number(text, end)?;
+    text.extend_from_slice(b", the end\n")?;
     Ok(())
 }
 

@@ -5,4 +5,6 @@ pub mod JoinLemmas
 mod PlaceLemmas
 mod QuietLemmas
 mod RowLemmas
+mod TruthLemmas
 pub mod WalkLemmas
+mod WatchLemmas

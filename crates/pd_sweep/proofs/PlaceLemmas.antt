@@ -10,10 +10,8 @@ use Rattle.pd_report.proofs.MarginLemmas.{InOrder, Moves, all-append, none-befor
 use Rattle.pd_report.proofs.NotedLemmas.{along, at_index}
 use Rattle.pd_sweep.specs.Along.{makers_after, nobody}
 use Rattle.pd_sweep.specs.Summaries.{is_made}
-use Rattle.pd_sweep.specs.Trials.{AreBefore, hits, starts_disturbed}
+use Rattle.pd_sweep.specs.Trials.{AreBefore}
 use Rattle.pd_sweep.specs.declared.makers.Makers.{Makers}
-use Rattle.pd_sweep.specs.declared.packets.Target.{Target}
-use Rattle.pd_sweep.proofs.HitLemmas.{and_false, or_hits}
 use Rattle.pd_sweep.proofs.QuietLemmas.{makers_if}
 
 same_some : (x m : ℕ × Entry) → Some x ≡ Some m → x ≡ m
@@ -56,18 +54,7 @@ before_more t moves i b order h so = by_case (slice_get moves i) refl h
     by_case None e k = absurd k
     by_case (Some m) e k = all_before t moves i m order e (ltb-true m.1.at t (sym k ∙ so))
 
--- an entry before a packet is not that of the packet
-not_hit : (t : Target) (m : ℕ × Entry) → m.1.at < t.at → hits t m ≡ false
-not_hit t m lt =
-    let other : m.1.at ≢ t.at = λ e. absurd (omega (arith, lt, e)) in
-    ap (λ b. (m.0 == t.port && b) && starts_disturbed m.1.start) (ne_eqb m.1.at t.at other)
-    ∙ ap (λ b. b && starts_disturbed m.1.start) (and_false (m.0 == t.port))
-
-pub none_hit : (t : Target) (moves : Moves) → AreBefore t.at moves → fold (or_hits t) false moves ≡ false
-none_hit t [] h = refl
-none_hit t (m ∷ ms) h = ap (λ b. fold (or_hits t) b ms) (not_hit t m h.0) ∙ none_hit t ms h.1
-
--- nor does it make a contract then
+-- an entry before an instant makes no contract then
 not_made_yet : (at : ℕ) (s : Makers) (m : ℕ × Entry) → m.1.at < at → makers_after at s m ≡ s
 not_made_yet at s m lt =
     let other : m.1.at ≢ at = λ e. absurd (omega (arith, lt, e)) in

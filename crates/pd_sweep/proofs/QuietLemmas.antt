@@ -12,7 +12,10 @@ use Rattle.pd_sweep.specs.Summaries.{is_hard_reset, is_made}
 use Rattle.pd_sweep.specs.declared.makers.Makers.{Makers}
 use Rattle.pd_sweep.specs.declared.summary.Mishaps.{Mishaps}
 use Rattle.pd_sweep.specs.declared.summary.Standing.{Standing}
-use Rattle.pd_sweep.proofs.HitLemmas.{and_false}
+
+pub and_false : (b : Bool) → (b && false) ≡ false
+and_false true = refl
+and_false false = refl
 
 -- an entry that makes a contract at the instant marks its port
 abbrev pub makers_if : ℕ → Makers → ℕ × Entry → Bool → Makers

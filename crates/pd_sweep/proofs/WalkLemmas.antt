@@ -20,7 +20,7 @@ use Rattle.pd_sweep.specs.Summaries.{makes, makes_on, mishaps_of, standing_of}
 use Rattle.pd_sweep.specs.declared.makers.Makers.{Makers}
 use Rattle.pd_sweep.specs.declared.summary.Mishaps.{Mishaps}
 use Rattle.pd_sweep.specs.declared.summary.Standing.{Standing}
-use Rattle.pd_sweep.proofs.HitLemmas.{and_false}
+use Rattle.pd_sweep.proofs.QuietLemmas.{and_false}
 
 -- ---- the last of some
 

@@ -1,7 +1,13 @@
 -- Going along a run: what is known after one more entry.
-use Rattle.std.specs.Prelude.{ℕ, ◌+◌, ◌-◌, true, false, length, count_by, replicate, slice_set, Option, Some, None, if◌then◌else◌}
+use Rattle.std.specs.Prelude.{ℕ, ◌+◌, ◌-◌, ◌==◌, ◌&&◌, min, Bool, true, false, List, fold, length, count_by, replicate, slice_set}
+use Rattle.std.specs.Prelude.{Option, Some, None, if◌then◌else◌}
 use Rattle.pd_port.specs.declared.entry.ContractChange.{ContractChange}
 use Rattle.pd_port.specs.declared.entry.Entry.{Entry}
+use Rattle.pd_setup.specs.declared.event.EventKind.TheVariants.{Lose, Damage}
+use Rattle.pd_scenario.specs.Events.{ScenarioEventKind}
+use Rattle.pd_scenario.specs.declared.event.ScenarioEvent.{ScenarioEvent}
+use Rattle.pd_scenario.specs.declared.event.ScenarioHappening.{ScenarioHappening}
+use Rattle.pd_scenario.specs.declared.event.ScenarioHappening.TheVariants.{OnPort, Budget}
 use Rattle.pd_sweep.specs.Summaries.{contract_left, is_hard_reset, makes}
 use Rattle.pd_sweep.specs.declared.makers.Makers.{Makers}
 use Rattle.pd_sweep.specs.declared.summary.Mishaps.{Mishaps}
@@ -36,3 +42,24 @@ nobody = record { ports = replicate 8 false }
 -- an entry of the instant that makes a contract marks its port, the ports being numbered from 1
 abbrev pub makers_after : ℕ → Makers → ℕ × Entry → Makers
 makers_after at m move = if makes at move.1 then record { ports = slice_set m.ports (move.0 - 1) true } else m
+
+-- a kind of event loses or damages a packet
+abbrev pub disturbs : ScenarioEventKind → Bool
+disturbs Lose = true
+disturbs (Damage damage) = true
+disturbs _ = false
+
+-- an event does so to a packet of the port
+abbrev pub disturbs_on : ℕ → ScenarioHappening → Bool
+disturbs_on port (OnPort other kind) = other == port && disturbs kind
+disturbs_on port (Budget mw) = false
+
+abbrev pub is_disturbance : ℕ → ScenarioEvent → Bool
+is_disturbance port e = disturbs_on port e.happening
+
+-- the time of the first of the events that do, or this time where none is before it
+abbrev pub earlier_disturbance : ℕ → ℕ → ScenarioEvent → ℕ
+earlier_disturbance port first e = if is_disturbance port e then min first e.at else first
+
+abbrev pub first_disturbance : List ScenarioEvent → ℕ → ℕ → ℕ
+first_disturbance events port at = fold (earlier_disturbance port) at events

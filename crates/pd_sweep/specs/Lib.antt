@@ -1,5 +1,6 @@
 pub mod Along
 pub mod Choices
+pub mod Laws
 pub mod Summaries
 pub mod Tallies
 pub mod Trials

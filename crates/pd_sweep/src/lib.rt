@@ -3,6 +3,8 @@
 
 mod choice;
 mod findings;
+mod hit;
+mod laws;
 mod makers;
 mod packets;
 mod summary;
@@ -13,11 +15,13 @@ mod words;
 
 pub use choice::{Campaign, Choice, Loss};
 pub use findings::Findings;
+pub use hit::is_hit;
+pub use laws::hits_are_true;
 pub use makers::{Makers, makers_of};
 pub use packets::{Target, chosen};
 pub use summary::{Mishaps, Standing, Summary, summary_of};
 pub use tally::{Lowest, Tally, Worst, push_tally};
-pub use trial::{Outcome, Trial, is_hit, try_packet};
+pub use trial::{Outcome, Trial, try_packet};
 pub use variant::{Obstacle, row_variant_of, variant_of};
 pub use words::{
     are_same, is_same, push_contracts, push_listed, push_makers, push_obstacle, push_trial,

@@ -2,17 +2,16 @@
 
 ghost use Rattle.std.specs.Prelude.{◌≡◌, ◌<◌, ◌≤◌, IfErr, IfOk, MatchOption, length, nat_lt, slice_get, take};
 ghost use Rattle.pd_device.specs.declared.fault.BenchFault.TheVariants.{Memory as no_memory};
-ghost use Rattle.pd_sweep.specs.Trials.{AreBefore, IsOfVariant, IsTrial, hits, is_hit, starts_disturbed};
+ghost use Rattle.pd_sweep.specs.Trials.{AreBefore, IsOfVariant, IsTrial};
 ghost use Rattle.pd_sweep.specs.Variants.{row_variant};
 
 use crate::findings::Findings;
-use crate::packets::is_disturbed;
+use crate::hit::is_hit;
 use crate::variant::{Obstacle, row_variant_of};
 use crate::{Campaign, Target};
 use pd_device::BenchFault;
-use pd_line::Start;
-use pd_port::{Entry, Meter};
-use pd_run::{Note, Runner};
+use pd_port::Meter;
+use pd_run::Runner;
 use pd_scenario::Scenario;
 use std::alloc::Global;
 
@@ -34,34 +33,6 @@ pub enum Outcome {
 pub struct Trial {
     pub target: Target,
     pub outcome: Outcome,
-}
-
-/// Whether what starts is a packet that doesn't arrive as it was sent.
-fn starts_disturbed(start: &Option<Start>) -> bool
-    ensures { result ≡ starts_disturbed start.now }
-{
-    match start {
-        Some(Start::Packet { fate, .. }) => is_disturbed(fate),
-        _ => false,
-    }
-}
-
-/// Whether an entry of a port is that of a packet that is hit.
-fn hits(target: &Target, port: usize, entry: &Entry) -> bool
-    ensures { result ≡ hits target.now (port, entry.now) }
-{
-    port == target.port && entry.at == target.at && starts_disturbed(&entry.start)
-}
-
-/// Whether the entry at an index is that of a packet that is hit.
-fn hits_at<const N: usize, T: Runner<N>>(target: &Target, run: &T, index: usize) -> bool
-    requires { index < length (T.entries run.now) }
-    ensures { MatchOption (slice_get (T.entries run.now) index) ⊥ (λ move. result ≡ hits target.now move) }
-{
-    match run.entry(index) {
-        Some((port, entry)) => hits(target, port, entry),
-        None => false,
-    }
 }
 
 /// Whether the entry at an index is before a time.
@@ -102,21 +73,6 @@ pub(crate) fn place_at<const N: usize, T: Runner<N>>(run: &T, at: u64) -> usize
     low
 }
 
-/// Whether a packet is hit in a run: one that starts then on its port doesn't arrive as it was sent.
-pub fn is_hit<const N: usize, T: Runner<N>>(target: &Target, run: &T) -> bool
-    ensures { result ≡ is_hit target.now (T.entries run.now) }
-{
-    let note = Note::Packet { port: target.port };
-    let place = place_at(run, target.at);
-    let mut index = run.next_with(note, place);
-    let mut hit = false;
-    while index < run.len() && !hit {
-        hit = hits_at(target, run, index);
-        index = run.next_with(note, index + 1);
-    }
-    hit
-}
-
 /// What comes of losing a packet that the scenario doesn't disturb.
 fn outcome_of<const N: usize, T: Runner<N>>(
     alloc: Global,
@@ -126,7 +82,7 @@ fn outcome_of<const N: usize, T: Runner<N>>(
     target: &Target,
     meter: &mut Meter,
 ) -> Result<Outcome, BenchFault>
-    ensures value { IfOk result (λ outcome. IsOfVariant
+    ensures value { IfOk result (λ outcome. IsOfVariant scenario.now.events
         (row_variant campaign.now.behind N scenario.now campaign.now.loss target.now) target.now outcome) }
     ensures memory { IfErr result (λ fault. fault ≡ no_memory) }
 {
@@ -138,10 +94,10 @@ fn outcome_of<const N: usize, T: Runner<N>>(
     let Ok(()) = run.replace(alloc, &variant, meter) else {
         return Err(BenchFault::Memory);
     };
-    if is_hit(target, run) {
-        Ok(Outcome::Ran(Findings::of(run, &variant)))
-    } else {
-        Ok(Outcome::Missed)
+    match is_hit(alloc, scenario, target, run, &variant) {
+        Ok(true) => Ok(Outcome::Ran(Findings::of(run, &variant))),
+        Ok(false) => Ok(Outcome::Missed),
+        Err(_) => Err(BenchFault::Memory),
     }
 }
 

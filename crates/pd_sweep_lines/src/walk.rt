@@ -64,12 +64,12 @@ pub fn sweep<const N: usize, T: Runner<N>, W: TextOut>(
     campaign: &Campaign,
     form: Form,
     writer: &mut W,
+    meter: &mut Meter,
 ) -> Result<Tally, BenchFault>
     ensures text { Sweeps N scenario.now campaign.now form result (W.taken writer.old) (W.taken writer.new) }
     ensures counts { CountsSweep result (W.failures writer.old) (W.failures writer.new) }
 {
-    let mut meter = Meter::new();
-    let Ok(()) = run.replace(alloc, scenario, &mut meter) else {
+    let Ok(()) = run.replace(alloc, scenario, meter) else {
         return Err(BenchFault::Memory);
     };
     let Ok(targets) = chosen(alloc, run, &campaign.choice) else {
@@ -79,7 +79,7 @@ pub fn sweep<const N: usize, T: Runner<N>, W: TextOut>(
     write_head(writer, form)?;
     let mut tally = Tally::none();
     for target in &targets {
-        let Ok(trial) = try_packet(alloc, run, scenario, campaign, *target, &mut meter) else {
+        let Ok(trial) = try_packet(alloc, run, scenario, campaign, *target, meter) else {
             return Err(BenchFault::Memory);
         };
         let Ok(line) = trial_text(alloc, form, &base, &trial) else {

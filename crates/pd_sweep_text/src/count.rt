@@ -21,9 +21,9 @@ use std::alloc::Global;
 
 // Counts the packets of the scenario of as many ports as the file has.
 macro_rules! count_by {
-    ($alloc:ident, $file:ident, $script:ident, $choice:ident; $($n:literal)*) => {
+    ($alloc:ident, $file:ident, $script:ident, $choice:ident, $meter:ident; $($n:literal)*) => {
         match $file.port_count().map_err(SweepFault::Scenario)? {
-            $($n => count_file::<$n>($alloc, $file, $script, $choice),)*
+            $($n => count_file::<$n>($alloc, $file, $script, $choice, $meter),)*
             _ => Err(SweepFault::Scenario(ScenarioFault::Limit)),
         }
     };
@@ -40,11 +40,12 @@ pub fn packet_count(
     text: &[u8],
     script: &[u8],
     choice: &Choice,
+    meter: &mut Meter,
 ) -> Result<usize, SweepFault>
     ensures { CountsPackets result text.now script.now choice.now }
 {
     let file = ScenarioFile::parse(alloc, text).map_err(SweepFault::Scenario)?;
-    count_by!(alloc, file, script, choice; 1 2 3 4 5 6 7 8)
+    count_by!(alloc, file, script, choice, meter; 1 2 3 4 5 6 7 8)
 }
 
 // Counts the packets of a file of N ports, as a script leaves it.
@@ -53,6 +54,7 @@ fn count_file<const N: usize>(
     file: ScenarioFile,
     script: &[u8],
     choice: &Choice,
+    meter: &mut Meter,
 ) -> Result<usize, SweepFault>
     requires from_one { 1 ≤ N }
     requires to_eight { N ≤ 8 }
@@ -66,7 +68,7 @@ fn count_file<const N: usize>(
     if !has_port(N, choice.port) {
         return Err(SweepFault::NoSuchPort);
     }
-    match count_scenario(alloc, scenario, script, choice) {
+    match count_scenario(alloc, scenario, script, choice, meter) {
         Some(count) => Ok(count),
         None => Err(SweepFault::Run(BenchFault::Memory)),
     }
@@ -78,13 +80,14 @@ fn count_scenario<const N: usize>(
     scenario: Scenario<N>,
     script: &[u8],
     choice: &Choice,
+    meter: &mut Meter,
 ) -> Option<usize>
     ensures { IfSome result (λ count. HasPackets N (followed N scenario.entry (lines script.now)) choice.now count) }
 {
     let mut scenario = scenario;
     follow(alloc, &mut scenario, script).ok()?;
     let mut run: Kept<N> = Kept::empty(alloc);
-    run.replace(alloc, &scenario, &mut Meter::new()).ok()?;
+    run.replace(alloc, &scenario, meter).ok()?;
     let packets = chosen(alloc, &run, choice).ok()?;
     Some(packets.len())
 }

@@ -11,6 +11,7 @@ ghost use Rattle.pd_sweep_text.specs.Texts.{CountsSwept, SweepsText, has_port};
 
 use pd_device::{BenchFault, TextOut};
 use pd_keep::Kept;
+use pd_port::Meter;
 use pd_run::Runner;
 use pd_scenario::Scenario;
 use pd_scenario_text::{ScenarioFault, ScenarioFile};
@@ -32,9 +33,9 @@ pub enum SweepFault {
 
 // Sweeps the scenario of as many ports as the file has.
 macro_rules! sweep_by {
-    ($alloc:ident, $file:ident, $script:ident, $campaign:ident, $form:ident, $writer:ident; $($n:literal)*) => {
+    ($alloc:ident, $file:ident, $script:ident, $campaign:ident, $form:ident, $writer:ident, $meter:ident; $($n:literal)*) => {
         match $file.port_count().map_err(SweepFault::Scenario)? {
-            $($n => sweep_file::<$n, W>($alloc, $file, $script, $campaign, $form, $writer),)*
+            $($n => sweep_file::<$n, W>($alloc, $file, $script, $campaign, $form, $writer, $meter),)*
             _ => Err(SweepFault::Scenario(ScenarioFault::Limit)),
         }
     };
@@ -53,12 +54,13 @@ pub fn sweep_text<W: TextOut>(
     campaign: &Campaign,
     form: Form,
     writer: &mut W,
+    meter: &mut Meter,
 ) -> Result<Tally, SweepFault>
     ensures text { SweepsText result text.now script.now campaign.now form (W.taken writer.old) (W.taken writer.new) }
     ensures counts { CountsSwept result (W.failures writer.old) (W.failures writer.new) }
 {
     let file = ScenarioFile::parse(alloc, text).map_err(SweepFault::Scenario)?;
-    sweep_by!(alloc, file, script, campaign, form, writer; 1 2 3 4 5 6 7 8)
+    sweep_by!(alloc, file, script, campaign, form, writer, meter; 1 2 3 4 5 6 7 8)
 }
 
 // Whether the port that is chosen is among so many.
@@ -79,6 +81,7 @@ fn sweep_file<const N: usize, W: TextOut>(
     campaign: &Campaign,
     form: Form,
     writer: &mut W,
+    meter: &mut Meter,
 ) -> Result<Tally, SweepFault>
     requires from_one { 1 ≤ N }
     requires to_eight { N ≤ 8 }
@@ -93,7 +96,7 @@ fn sweep_file<const N: usize, W: TextOut>(
     if !has_port(N, campaign.choice.port) {
         return Err(SweepFault::NoSuchPort);
     }
-    sweep_scenario(alloc, scenario, script, campaign, form, writer).map_err(SweepFault::Run)
+    sweep_scenario(alloc, scenario, script, campaign, form, writer, meter).map_err(SweepFault::Run)
 }
 
 // Sweeps a scenario, as a script leaves it.
@@ -104,6 +107,7 @@ fn sweep_scenario<const N: usize, W: TextOut>(
     campaign: &Campaign,
     form: Form,
     writer: &mut W,
+    meter: &mut Meter,
 ) -> Result<Tally, BenchFault>
     ensures text { Sweeps N (followed N scenario.entry (lines script.now)) campaign.now form result
         (W.taken writer.old) (W.taken writer.new) }
@@ -114,5 +118,5 @@ fn sweep_scenario<const N: usize, W: TextOut>(
         return Err(BenchFault::Memory);
     }
     let mut run: Kept<N> = Kept::empty(alloc);
-    sweep(alloc, &mut run, &scenario, campaign, form, writer)
+    sweep(alloc, &mut run, &scenario, campaign, form, writer, meter)
 }
