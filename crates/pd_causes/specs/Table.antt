@@ -1,5 +1,5 @@
 -- How a line of an edit script goes on, a row for each beginning: the table of lines in docs/FORMATS.md, "Edit script".
-use Rattle.std.specs.Prelude.{List, [], ◌∷◌}
+use Rattle.std.specs.Prelude.{Bool, true, false, List, [], ◌∷◌}
 use Rattle.pd_causes.specs.declared.slot.Slot.{Slot}
 use Rattle.pd_causes.specs.declared.slot.Slot.TheVariants as slot
 use Rattle.pd_causes.specs.declared.rows.Front.{Front}
@@ -53,3 +53,15 @@ rows front.LastAt = (slot.At ⇒ front.Whole) ∷ []
 rows front.LastMw = (slot.Mw ⇒ front.Whole) ∷ []
 rows front.LastPort = (slot.Port ⇒ front.Whole) ∷ []
 rows front.Whole = []
+
+-- a line may end behind such a beginning
+abbrev pub may_end : Front → Bool
+may_end front.Whole = true
+may_end front.SinkRevision = true
+may_end front.SecondMv = true
+may_end front.ThirdMv = true
+may_end front.FourthMv = true
+may_end front.FifthMv = true
+may_end front.SixthMv = true
+may_end front.SeventhMv = true
+may_end _ = false

@@ -1,7 +1,7 @@
 //! How a line goes on: what may stand behind its first words, and how it goes on behind that.
 
 ghost use Rattle.std.specs.Prelude.{◌≡◌, ◌≤◌, length};
-ghost use Rattle.pd_causes.specs.Table.{rows};
+ghost use Rattle.pd_causes.specs.Table.{may_end, rows};
 
 use crate::Slot;
 
@@ -50,6 +50,25 @@ pub enum Front {
     LastMw,
     LastPort,
     Whole,
+}
+
+impl Front {
+    /// Whether a line may end behind such a beginning.
+    pub fn may_end(self) -> bool
+        ensures { result ≡ may_end self }
+    {
+        matches!(
+            self,
+            Front::Whole
+                | Front::SinkRevision
+                | Front::SecondMv
+                | Front::ThirdMv
+                | Front::FourthMv
+                | Front::FifthMv
+                | Front::SixthMv
+                | Front::SeventhMv
+        )
+    }
 }
 
 /// What may follow, and what stands at the beginning then.

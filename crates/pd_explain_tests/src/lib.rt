@@ -1,10 +1,8 @@
-//! Tests of what is said of refused lines and files, and of warnings.
+//! Tests of what is said of refused lines and files.
 #![tactic(auto)]
 
 #[cfg(test)]
 mod causes;
-#[cfg(test)]
-mod explain_text;
 #[cfg(test)]
 mod misfits;
 #[cfg(test)]
@@ -19,5 +17,3 @@ mod script;
 mod sentences;
 #[cfg(test)]
 mod tests;
-#[cfg(test)]
-mod warnings;

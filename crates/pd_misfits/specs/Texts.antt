@@ -1,10 +1,10 @@
 -- What is told of the text of a scenario file that is refused.
-use Rattle.std.specs.Prelude.{◌≡◌, ◌≤◌, ◌⊎◌, ℕ, ◌+◌, ◌==◌, Bool, List, ◌∷◌, ◌++◌, length, take, filter, codes, decimal}
+use Rattle.std.specs.Prelude.{◌≡◌, ℕ, ◌+◌, ◌==◌, Bool, List, ◌∷◌, ◌++◌, length, take, filter, codes, decimal}
 use Rattle.toml.specs.Data.{Members}
-use Rattle.pd_scenario_tables.specs.declared.fault.ScenarioFault.{ScenarioFault}
-use Rattle.pd_scenario_text.specs.FileTables.{tables_of}
+use Rattle.toml.specs.Errors.{IsMemory, IsWithin, span_start}
+use Rattle.toml.specs.declared.de.error.Error.{Error}
 use Rattle.pd_scenario_text.specs.Reading.{IsTextOf}
-use Rattle.pd_misfits.specs.Lines.{line, file_text}
+use Rattle.pd_misfits.specs.Lines.{line}
 
 abbrev pub ends_line : ℕ → Bool
 ends_line byte = byte == 10
@@ -19,13 +19,11 @@ line_place name number = name ++ 58 ∷ decimal number
 unfoldable pub syntax_line : List ℕ → ℕ → List ℕ → List ℕ
 syntax_line name number message = line_place name number ++ line (codes ": refused 1: ") message
 
--- a text that is no TOML is told by a place in it, and by words for what is wrong there
+-- what is said of an error of the TOML library in a text: the line in which it begins, and words
+abbrev pub TellsError : List ℕ → List ℕ → Error → List ℕ → Type 0
+TellsError name text e said = (message : List ℕ) × (said ≡ syntax_line name (line_at text (span_start e)) message)
+
+-- a text that is no TOML is told by an error of the library, of a place in it
 abbrev pub TellsSyntax : List ℕ → List ℕ → List ℕ → Type 0
 TellsSyntax name text said =
-    ((t : Members) → IsTextOf text t → ⊥) × (at : ℕ) × (message : List ℕ) × (at ≤ length text)
-    × (said ≡ syntax_line name (line_at text at) message)
-
--- the places of its tables are told, where it has them
-abbrev pub Tells : List ℕ → List ℕ → ScenarioFault → List ℕ → Type 0
-Tells name text refusal said =
-    ((t : Members) × IsTextOf text t × (said ≡ file_text name refusal (tables_of t))) ⊎ TellsSyntax name text said
+    ((t : Members) → IsTextOf text t → ⊥) × (e : Error) × (¬ IsMemory e) × IsWithin text e × TellsError name text e said

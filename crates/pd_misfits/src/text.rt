@@ -2,12 +2,12 @@
 
 ghost use Rattle.std.specs.Prelude.{◌≡◌, ◌≤◌, ◌++◌, OnOk, IfOk, length};
 ghost use Rattle.pd_misfits.specs.Lines.{line};
-ghost use Rattle.pd_misfits.specs.Texts.{line_at, line_place, syntax_line, Tells};
+ghost use Rattle.pd_misfits.specs.Texts.{line_at, line_place, syntax_line, TellsError};
+ghost use Rattle.toml.specs.Errors.{IsMemory, IsWithin};
 
-use crate::file::explain_tables;
 use crate::values::push_number;
-use pd_scenario_tables::ScenarioFault;
 use std::alloc::{AllocError, Global};
+use toml::de::Error;
 
 /// The number of the line in which a place of a text is, from 1.
 fn line_at(text: &[u8], at: usize) -> u64
@@ -56,23 +56,19 @@ fn push_syntax(text: &mut Vec<u8>, name: &[u8], line: u64, message: &str) -> Res
     push_line(text, b": refused 1: ", message.as_bytes())
 }
 
-/// Where a scenario file is refused: a line for each place at which its tables break the rule of the refusal, as
-/// `explain_tables` has them; and where the text is no TOML, the line from which on it is none, and why.
+/// What is wrong in a text that is no TOML, by the error of the library that read it: the line in which that begins, and its words.
 ///
 /// # Errors
-/// There is no memory.
-pub fn explain_file(
+/// There is no memory, or there was none as the text was read.
+pub fn explain_error(
     alloc: Global,
     name: &[u8],
     text: &[u8],
-    fault: ScenarioFault,
+    error: &Error,
 ) -> Result<Vec<u8>, AllocError>
-    ensures { IfOk result (λ v. Tells name.now text.now fault v.items) }
+    requires within { IsWithin text.now error.now }
+    ensures { IfOk result (λ v. (¬ IsMemory error.now) × TellsError name.now text.now error.now v.items) }
 {
-    let error = match toml::table_from_slice(alloc, text) {
-        Ok(table) => return explain_tables(alloc, name, fault, &table),
-        Err(error) => error,
-    };
     let Some(span) = error.span() else {
         return Err(AllocError);
     };

@@ -1,6 +1,6 @@
 -- What is told of a text begins with the number that it is answered by.
 use Rattle.std.proofs.Common.{◌≡◌, ◌⊎◌, ℕ, ◌+◌, ◌-◌, ◌<◌, ◌≤◌, ◌^◌, ◌%◌, false, ◌==◌, List, [], ◌∷◌, ◌++◌, codes, decimal, length}
-use Rattle.std.proofs.Common.{take, drop, refl, sym, ap, ◌∙◌, subst, arith, inl, inr, Ok, Err, append_assoc}
+use Rattle.std.proofs.Common.{nat_lt, take, drop, refl, sym, ap, ◌∙◌, subst, arith, inl, inr, Ok, Err, append_assoc}
 use Rattle.std.specs.Prelude.{Result, filter}
 use Rattle.std.proofs.lemmas.Bool.{cases_Bool, cases_lt}
 use Rattle.std.proofs.lemmas.Bool.Decides.{nat_tests}
@@ -9,6 +9,7 @@ use Rattle.std.proofs.lemmas.List.Elements.{filter-append}
 use Rattle.std.proofs.lemmas.Fmt.{decimal_by_steps}
 use Rattle.std.proofs.Math.Seq.{take-append-add}
 use Rattle.toml.specs.Data.{Members}
+use Rattle.toml.specs.Errors.{span_start}
 use Rattle.pd_scenario_tables.specs.declared.fault.ScenarioFault.{ScenarioFault}
 use Rattle.pd_scenario_tables.specs.declared.fault.ScenarioFault.TheVariants.{Toml, UnknownKey, WrongType, MissingKey, Range, Name}
 use Rattle.pd_scenario_tables.specs.declared.fault.ScenarioFault.TheVariants.{Duplicate, Supplies, Floors, UnknownName, Limit, Memory}
@@ -17,7 +18,8 @@ use Rattle.pd_scenario_tables.specs.Ports.{counted}
 use Rattle.pd_scenario_text.specs.Reading.{reading, IsTextOf}
 use Rattle.pd_misfits.specs.Lines.{line, file_front}
 use Rattle.pd_misfits.specs.Texts.{ends_line, line_at, line_place, syntax_line, TellsSyntax}
-use Rattle.pd_places.specs.Places.{line_count, IsCut, IsShort, more_text, most_places, one_line_byte, one_line, places_text, TellsPlaces}
+use Rattle.pd_places.specs.FirstLines.{line_count, most_places}
+use Rattle.pd_places.specs.Places.{IsCut, IsShort, more_text, one_line_byte, one_line, places_text, TellsPlaces}
 use Rattle.pd_places.specs.First.{Begins, IsRefusedFor, IsAnswered, TellsFirst}
 use Rattle.pd_places.proofs.LeastFirst.{least_first}
 
@@ -101,7 +103,7 @@ short_begins : (front name text said : List ℕ) → filter ends_line front ≡ 
 short_begins front name text said none (rest, is) (cut, is_cut, says) =
     let past = cut_past front rest cut none (subst (λ v. IsCut most_places v cut) is is_cut) in
     let (some, part) = cut_begins front rest cut past in
-    let more = more_text name (line_count (drop cut text)) in (
+    let more = more_text name (nat_lt cut (length text)) in (
       some ++ more,
       says ∙ ap (λ v. take cut v ++ more) is ∙ ap (λ v. v ++ more) part ∙ append_assoc front some more,
     )
@@ -150,10 +152,9 @@ no_table text (inr (ports, counts, none)) t is = none t is
 
 syntax_begins : (name text said : List ℕ) → TellsSyntax name text said → TellsFirst name Toml said
 unfolding syntax_line line
-syntax_begins name text said (none, at, message, within, says) = (
-  line_at text at,
-  (message ++ 10 ∷ [], says ∙ sym (append_assoc (line_place name (line_at text at)) (codes ": refused 1: ") (message ++ 10 ∷ []))),
-)
+syntax_begins name text said (none, e, some, within, (message, says)) =
+    let number = line_at text (span_start e) in
+    (number, (message ++ 10 ∷ [], says ∙ sym (append_assoc (line_place name number) (codes ": refused 1: ") (message ++ 10 ∷ []))))
 
 syntax_first : (name text said : List ℕ) → IsAnswered Toml text → TellsPlaces (one_line name) text said
     → TellsFirst (one_line name) Toml said

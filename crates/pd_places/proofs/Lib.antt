@@ -1,6 +1,6 @@
 mod NumberedTexts
+mod FirstLines
 mod Found
-mod NoToml
 mod Told
 mod TablesTold
 mod LimitsTold

@@ -1,5 +1,5 @@
 -- Refusal 10: an attach by a name that no cable, or no sink, has.
-use Rattle.std.specs.Prelude.{ℕ, ◌&&◌, not, nat_lt, List, [], ◌∷◌, ◌++◌, length, codes, bytes_eq, if◌then◌else◌}
+use Rattle.std.specs.Prelude.{ℕ, ◌-◌, ◌&&◌, ◌==◌, not, nat_lt, List, [], ◌∷◌, ◌++◌, length, take, codes, decimal, bytes_eq, if◌then◌else◌}
 use Rattle.std.specs.List.{list_any, flat_map}
 use Rattle.toml.specs.Data.{Members}
 use Rattle.pd_near.specs.Slips.{nearest, meant_text}
@@ -18,12 +18,20 @@ use Rattle.pd_misfits.specs.Lines.{line, event_front}
 use Rattle.pd_places.specs.Numbered.{numbered}
 use Rattle.pd_places.specs.Same.{names_of}
 
--- the names that there are, each behind a space
+-- the names that there are, each behind a space: eight at most, and how many more
 unfoldable pub name_word : List ℕ → List ℕ
 name_word name = 32 ∷ quoted name
 
-abbrev pub names_text : List (List ℕ) → List ℕ
-names_text names = if nat_lt 0 (length names) then flat_map name_word names else codes " none"
+abbrev pub most_names : ℕ
+most_names = 8
+
+unfoldable pub more_names : ℕ → List ℕ
+more_names count = if count == 0 then [] else (codes " and " ++ (decimal count ++ codes " more"))
+
+unfoldable pub names_text : List (List ℕ) → List ℕ
+names_text names =
+    if nat_lt 0 (length names) then flat_map name_word (take most_names names) ++ more_names (length names - most_names)
+    else codes " none"
 
 unfoldable pub stranger_words : Key → List (List ℕ) → List ℕ
 stranger_words k names = codes ", the name of no " ++ (text_of k ++ (codes "; there are" ++ names_text names))

@@ -1,5 +1,6 @@
 pub mod Counts
 pub mod First
+pub mod FirstLines
 pub mod Funds
 pub mod Known
 pub mod Numbered

@@ -1,6 +1,6 @@
 -- Each place at which a scenario file breaks a rule: this product's own form, docs/FORMATS.md, "Reasons".
-use Rattle.std.specs.Prelude.{◌≡◌, ◌⊎◌, ℕ, ◌+◌, ◌-◌, ◌≤◌, ◌<◌, ◌==◌, List, [], ◌∷◌, ◌++◌, length, take, drop, map, filter, slice_index}
-use Rattle.std.specs.Prelude.{codes, decimal, Result, Ok, Err, if◌then◌else◌}
+use Rattle.std.specs.Prelude.{◌≡◌, ◌⊎◌, ℕ, ◌-◌, ◌≤◌, ◌<◌, ◌==◌, nat_lt, Bool, List, [], ◌∷◌, ◌++◌, length, take, map, slice_index}
+use Rattle.std.specs.Prelude.{codes, Result, Ok, Err, if◌then◌else◌}
 use Rattle.std.specs.List.{flat_map}
 use Rattle.toml.specs.Data.{Members}
 use Rattle.pd_scenario_tables.specs.declared.fault.ScenarioFault.{ScenarioFault}
@@ -11,7 +11,8 @@ use Rattle.pd_scenario_text.specs.FileTables.{Tables, tables_of}
 use Rattle.pd_scenario_text.specs.Reading.{IsTextOf}
 use Rattle.pd_scenario_text.specs.Refusals.{refusals}
 use Rattle.pd_misfits.specs.Lines.{file_front, file_text, top_text}
-use Rattle.pd_misfits.specs.Texts.{ends_line, TellsSyntax}
+use Rattle.pd_misfits.specs.Texts.{TellsSyntax}
+use Rattle.pd_places.specs.FirstLines.{line_count, most_places}
 use Rattle.pd_places.specs.Same.{same_text}
 use Rattle.pd_places.specs.Funds.{funds_text}
 use Rattle.pd_places.specs.Known.{known_text}
@@ -46,31 +47,22 @@ places_text name t = counted_text name (tables_of t) (counted t)
 
 -- ---- twenty of them
 
-abbrev pub line_count : List ℕ → ℕ
-line_count text = length (filter ends_line text)
-
 -- so many bytes of a text are its first lines, at most so many, or all of them
 pub record IsCut (most : ℕ) (text : List ℕ) (cut : ℕ) : Type 0 where
   pub within : cut ≤ length text
   pub few : line_count (take cut text) ≤ most
   pub full : cut < length text → (line_count (take cut text) ≡ most) × (slice_index text (cut - 1) ≡ 10)
 
-unfoldable pub more_words : ℕ → List ℕ
-more_words count = if count == 1 then codes " more place\n" else codes " more places\n"
+unfoldable pub more_line : List ℕ → List ℕ
+more_line name = name ++ codes ": more places\n"
 
-unfoldable pub more_line : List ℕ → ℕ → List ℕ
-more_line name count = name ++ (codes ": " ++ (decimal count ++ more_words count))
+-- that there are more lines, where there are
+abbrev pub more_text : List ℕ → Bool → List ℕ
+more_text name more = if more then more_line name else []
 
--- how many more lines there are, where there are any
-abbrev pub more_text : List ℕ → ℕ → List ℕ
-more_text name count = if count == 0 then [] else more_line name count
-
--- the first lines of a text, and how many more there are
+-- the first lines of a text, and that there are more
 abbrev pub IsShort : ℕ → List ℕ → List ℕ → List ℕ → Type 0
-IsShort most name text said = (cut : ℕ) × IsCut most text cut × (said ≡ take cut text ++ more_text name (line_count (drop cut text)))
-
-abbrev pub most_places : ℕ
-most_places = 20
+IsShort most name text said = (cut : ℕ) × IsCut most text cut × (said ≡ take cut text ++ more_text name (nat_lt cut (length text)))
 
 -- ---- a text
 

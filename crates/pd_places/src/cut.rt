@@ -1,10 +1,9 @@
-//! The first lines of a text, and how many more there are.
+//! The first lines of a text, and that there are more.
 
 ghost use Rattle.std.specs.Prelude.{◌≡◌, ◌<◌, ◌++◌, OnOk, IfOk};
 ghost use Rattle.pd_misfits.specs.Texts.{ends_line};
-ghost use Rattle.pd_places.specs.Places.{line_count, IsCut, IsShort, more_words, more_line, more_text};
+ghost use Rattle.pd_places.specs.Places.{IsCut, IsShort, more_line};
 
-use pd_misfits::push_number;
 use std::alloc::{AllocError, Global};
 
 /// How many bytes the first lines of a text have, at most so many.
@@ -24,52 +23,16 @@ fn cut_len(text: &[u8], most: u64) -> usize
     text.len()
 }
 
-/// How many lines end in a text.
-fn line_count(text: &[u8]) -> u64
-    ensures { result ≡ line_count text.now }
-{
-    let mut count = 0;
-    for byte in text {
-        if *byte == b'\n' {
-            count += 1;
-        }
-    }
-    count
-}
-
-#[tactic(auto, unfolding(crate::specs::Places::more_words))]
-fn more_words(count: u64) -> &'static [u8]
-    ensures { result.now ≡ more_words count }
-{
-    if count == 1 {
-        b" more place\n"
-    } else {
-        b" more places\n"
-    }
-}
-
+/// Writes that there are more places.
 #[tactic(auto, unfolding(crate::specs::Places::more_line))]
-fn push_more_line(text: &mut Vec<u8>, name: &[u8], count: u64) -> Result<(), AllocError>
-    ensures { OnOk result (text.new.items ≡ text.old.items ++ more_line name.now count) }
+fn push_more_line(text: &mut Vec<u8>, name: &[u8]) -> Result<(), AllocError>
+    ensures { OnOk result (text.new.items ≡ text.old.items ++ more_line name.now) }
 {
     text.extend_from_slice(name)?;
-    text.extend_from_slice(b": ")?;
-    push_number(text, count)?;
-    text.extend_from_slice(more_words(count))
+    text.extend_from_slice(b": more places\n")
 }
 
-/// Writes how many more lines there are, where there are any.
-fn push_more(text: &mut Vec<u8>, name: &[u8], count: u64) -> Result<(), AllocError>
-    ensures { OnOk result (text.new.items ≡ text.old.items ++ more_text name.now count) }
-{
-    if count == 0 {
-        Ok(())
-    } else {
-        push_more_line(text, name, count)
-    }
-}
-
-/// The first lines of a text, at most so many, and how many more there are, behind a name.
+/// The first lines of a text, at most so many, and a line behind a name where there are more.
 pub fn first_lines(
     alloc: Global,
     name: &[u8],
@@ -82,6 +45,8 @@ pub fn first_lines(
     let cut = cut_len(text, most);
     let mut said = Vec::new(alloc);
     said.extend_from_slice(&text[..cut])?;
-    push_more(&mut said, name, line_count(&text[cut..]))?;
+    if cut < text.len() {
+        push_more_line(&mut said, name)?;
+    }
     Ok(said)
 }

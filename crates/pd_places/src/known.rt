@@ -1,17 +1,19 @@
 //! Refusal 10: an attach by a name that no cable, or no sink, has.
 
-ghost use Rattle.std.specs.Prelude.{◌≡◌, ◌++◌, OnOk, bytes_eq};
+ghost use Rattle.std.specs.Prelude.{◌≡◌, ◌-◌, ◌++◌, OnOk, bytes_eq, take};
 ghost use Rattle.std.specs.List.{list_any, flat_map};
 ghost use Rattle.toml.specs.View.{table_view};
 ghost use Rattle.pd_scenario_tables.specs.Seen.{views};
 ghost use Rattle.pd_scenario_text.specs.Names.{texts};
 ghost use Rattle.pd_misfits.specs.Lines.{line};
 ghost use Rattle.pd_places.specs.Numbered.{numbered};
-ghost use Rattle.pd_places.specs.Known.{name_word, names_text, plain_stranger, stranger_words, stranger_sentence};
+ghost use Rattle.pd_places.specs.FirstLines.{added};
+ghost use Rattle.pd_places.specs.Known.{more_names, most_names, name_word, names_text, plain_stranger, stranger_words, stranger_sentence};
 ghost use Rattle.pd_places.specs.Known.{event_known_part, stranger_part, attach_part};
 
 use crate::collect::word_at;
-use pd_misfits::{event_front, push_line, push_quoted};
+use crate::first_lines::FirstLines;
+use pd_misfits::{event_front, push_line, push_number, push_quoted};
 use pd_near::{nearest, push_meant};
 use pd_scenario_tables::{EventName, Key, Version, event_at};
 use pd_setup::EventKind;
@@ -35,15 +37,43 @@ fn push_name_words(text: &mut Vec<u8>, names: &[&str]) -> Result<(), AllocError>
     Ok(())
 }
 
-/// Writes the names that there are.
+/// So many of the names that there are are told.
+const MOST_NAMES: usize = 8;
+
+/// The first of the names, as many as are told.
+fn first_names<'a, 'b>(names: &'a [&'b str]) -> &'a [&'b str]
+    ensures { result.now ≡ take most_names names.now }
+{
+    if names.len() <= MOST_NAMES {
+        names
+    } else {
+        &names[..MOST_NAMES]
+    }
+}
+
+/// Writes how many more names there are than are told, where there are any.
+#[tactic(auto, unfolding(crate::specs::Known::more_names))]
+fn push_more(text: &mut Vec<u8>, count: usize) -> Result<(), AllocError>
+    ensures { OnOk result (text.new.items ≡ text.old.items ++ more_names (count - most_names)) }
+{
+    if count <= MOST_NAMES {
+        return Ok(());
+    }
+    text.extend_from_slice(b" and ")?;
+    push_number(text, (count - MOST_NAMES) as u64)?;
+    text.extend_from_slice(b" more")
+}
+
+/// Writes the names that there are: eight at most, and how many more.
+#[tactic(auto, unfolding(crate::specs::Known::names_text))]
 fn push_names(text: &mut Vec<u8>, names: &[&str]) -> Result<(), AllocError>
     ensures { OnOk result (text.new.items ≡ text.old.items ++ names_text (texts names.now)) }
 {
     if names.is_empty() {
-        text.extend_from_slice(b" none")
-    } else {
-        push_name_words(text, names)
+        return text.extend_from_slice(b" none");
     }
+    push_name_words(text, first_names(names))?;
+    push_more(text, names.len())
 }
 
 /// Writes that a name is none of those that there are.
@@ -102,40 +132,43 @@ fn has_name(names: &[&str], name: &str) -> bool
 }
 
 /// Writes a line for a name that no table has.
+#[tactic(auto, unfolding(crate::specs::FirstLines::added))]
 fn push_stranger(
     alloc: Global,
-    text: &mut Vec<u8>,
+    told: &mut FirstLines,
     front: &[u8],
     key: Key,
     names: &[&str],
     name: &str,
 ) -> Result<(), AllocError>
-    ensures { OnOk result (text.new.items ≡ text.old.items ++ stranger_part front.now key (texts names.now) name.now) }
+    ensures { OnOk result (told.new ≡ added told.old (stranger_part front.now key (texts names.now) name.now)) }
 {
     if name.is_empty() || has_name(names, name) {
         return Ok(());
     }
     let mut sentence = Vec::new(alloc);
     push_stranger_sentence(&mut sentence, key, names, name)?;
-    push_line(text, front, sentence.as_slice())
+    let mut line = Vec::new(alloc);
+    push_line(&mut line, front, sentence.as_slice())?;
+    told.add(line.as_slice())
 }
 
 /// Writes a line for each name of an attach that no table has.
 #[tactic(auto, unfolding(crate::specs::Known::attach_part))]
 fn push_attach(
     alloc: Global,
-    text: &mut Vec<u8>,
+    told: &mut FirstLines,
     front: &[u8],
     cables: &[&str],
     sinks: &[&str],
     table: &Table,
 ) -> Result<(), AllocError>
-    ensures { OnOk result (text.new.items
-        ≡ text.old.items ++ attach_part front.now (texts cables.now) (texts sinks.now) (table_view table.now)) }
+    ensures { OnOk result (told.new
+        ≡ added told.old (attach_part front.now (texts cables.now) (texts sinks.now) (table_view table.now))) }
 {
     push_stranger(
         alloc,
-        text,
+        told,
         front,
         Key::Cable,
         cables,
@@ -143,7 +176,7 @@ fn push_attach(
     )?;
     push_stranger(
         alloc,
-        text,
+        told,
         front,
         Key::Sink,
         sinks,
@@ -152,42 +185,49 @@ fn push_attach(
 }
 
 /// Writes a line for each name of an event that no table has.
+#[tactic(auto, unfolding(crate::specs::FirstLines::added))]
 fn push_event_known(
     alloc: Global,
-    text: &mut Vec<u8>,
+    told: &mut FirstLines,
     front: &[u8],
     version: Version,
     names: (&[&str], &[&str]),
     number: u64,
     table: &Table,
 ) -> Result<(), AllocError>
-    ensures { OnOk result (text.new.items ≡ text.old.items
-        ++ event_known_part front.now version (texts names.entry.0.now) (texts names.entry.1.now) number (table_view table.now)) }
+    ensures { OnOk result (told.new
+        ≡ added told.old
+        (event_known_part front.now version (texts names.entry.0.now) (texts names.entry.1.now) number (table_view table.now))) }
 {
     match event_at(version, table) {
         EventName::OnPort(EventKind::Attach { .. }) => {
             let own = event_front(alloc, front, version, number, table)?;
-            push_attach(alloc, text, own.as_slice(), names.0, names.1, table)
+            push_attach(alloc, told, own.as_slice(), names.0, names.1, table)
         }
         _ => Ok(()),
     }
 }
 
-/// Writes a line for each name of the events that no table has: the names of the cables, and of the sinks.
+/// Writes a line for each name of the events that no table has, up to as many as are told: the names of the cables, and of the
+/// sinks.
 pub fn push_events_known(
     alloc: Global,
-    text: &mut Vec<u8>,
+    told: &mut FirstLines,
     front: &[u8],
     version: Version,
     names: (&[&str], &[&str]),
     tables: &[&Table],
 ) -> Result<(), AllocError>
-    ensures { OnOk result (text.new.items ≡ text.old.items
-        ++ numbered (event_known_part front.now version (texts names.entry.0.now) (texts names.entry.1.now)) 1 (views tables.now)) }
+    ensures { OnOk result (told.new
+        ≡ added told.old
+        (numbered (event_known_part front.now version (texts names.entry.0.now) (texts names.entry.1.now)) 1 (views tables.now))) }
 {
     let mut number = 1;
     for table in tables {
-        push_event_known(alloc, text, front, version, names, number, table)?;
+        if told.is_full() {
+            return Ok(());
+        }
+        push_event_known(alloc, told, front, version, names, number, table)?;
         number += 1;
     }
     Ok(())

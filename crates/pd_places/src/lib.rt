@@ -4,6 +4,7 @@
 mod collect;
 mod counts;
 mod cut;
+mod first_lines;
 mod funds;
 mod known;
 pub mod laws;
@@ -11,5 +12,4 @@ mod places;
 mod same;
 mod text;
 
-pub use places::push_places;
-pub use text::{MOST_PLACES, explain_places};
+pub use text::explain_places;

@@ -8,6 +8,7 @@ ghost use Rattle.pd_scenario_tables.specs.Ports.{counted};
 ghost use Rattle.pd_scenario_text.specs.FileTables.{tables_of};
 ghost use Rattle.pd_scenario_text.specs.Refusals.{refusals};
 ghost use Rattle.pd_misfits.specs.Lines.{file_front, file_text};
+ghost use Rattle.pd_places.specs.FirstLines.{added};
 ghost use Rattle.pd_places.specs.Same.{same_text};
 ghost use Rattle.pd_places.specs.Funds.{budgets_text, funds_text};
 ghost use Rattle.pd_places.specs.Known.{known_text};
@@ -16,6 +17,7 @@ ghost use Rattle.pd_places.specs.Places.{other_text, refusal_text, places_text};
 
 use crate::collect::{floors_of, ids_of, names_of};
 use crate::counts::push_count;
+use crate::first_lines::FirstLines;
 use crate::funds::{push_events_low, push_low};
 use crate::known::push_events_known;
 use crate::same::{push_same_ids, push_same_names};
@@ -103,14 +105,14 @@ fn push_funds(
     push_budgets(alloc, text, front, &ports, top)
 }
 
-/// Writes which names of events no table has.
+/// Writes which names of events no table has, up to as many as are told.
 fn push_known(
     alloc: Global,
-    text: &mut Vec<u8>,
+    told: &mut FirstLines,
     front: &[u8],
     top: &Table,
 ) -> Result<(), AllocError>
-    ensures { OnOk result (text.new.items ≡ text.old.items ++ known_text front.now (tables_of (table_view top.now))) }
+    ensures { OnOk result (told.new ≡ added told.old (known_text front.now (tables_of (table_view top.now)))) }
 {
     let cables = tables_at(alloc, top, Key::Cable)?;
     let cable_names = names_of(alloc, &cables)?;
@@ -118,7 +120,7 @@ fn push_known(
     let sink_names = names_of(alloc, &sinks)?;
     let events = tables_at(alloc, top, Key::Event)?;
     let names = (cable_names.as_slice(), sink_names.as_slice());
-    push_events_known(alloc, text, front, version_at(top), names, &events)
+    push_events_known(alloc, told, front, version_at(top), names, &events)
 }
 
 /// Writes of which tables there are too many, or too few.
@@ -155,99 +157,105 @@ fn push_misfits(
     text.extend_from_slice(said.as_slice())
 }
 
-/// Writes where a refusal applies.
+/// Writes where a refusal applies, up to as many lines as are told.
 fn push_refusal(
     alloc: Global,
-    text: &mut Vec<u8>,
+    told: &mut FirstLines,
     name: &[u8],
     fault: ScenarioFault,
     top: &Table,
 ) -> Result<(), AllocError>
-    ensures { OnOk result (text.new.items ≡ text.old.items ++ refusal_text name.now fault (tables_of (table_view top.now))) }
+    ensures { OnOk result (told.new ≡ added told.old (refusal_text name.now fault (tables_of (table_view top.now)))) }
 {
     let front = file_front(alloc, name, fault)?;
     let front = front.as_slice();
+    let mut text = Vec::new(alloc);
     match fault {
-        ScenarioFault::Duplicate => push_duplicates(alloc, text, front, top),
-        ScenarioFault::Floors => push_funds(alloc, text, front, top),
-        ScenarioFault::UnknownName => push_known(alloc, text, front, top),
-        ScenarioFault::Limit => push_counts(alloc, text, front, top),
-        _ => push_misfits(alloc, text, name, fault, top),
+        ScenarioFault::UnknownName => return push_known(alloc, told, front, top),
+        ScenarioFault::Duplicate => push_duplicates(alloc, &mut text, front, top)?,
+        ScenarioFault::Floors => push_funds(alloc, &mut text, front, top)?,
+        ScenarioFault::Limit => push_counts(alloc, &mut text, front, top)?,
+        _ => push_misfits(alloc, &mut text, name, fault, top)?,
     }
+    told.add(text.as_slice())
 }
 
-/// Writes where each of some refusals applies.
+/// Writes where each of some refusals applies, up to as many lines as are told.
 fn push_refusals(
     alloc: Global,
-    text: &mut Vec<u8>,
+    told: &mut FirstLines,
     name: &[u8],
     faults: &[ScenarioFault],
     top: &Table,
 ) -> Result<(), AllocError>
-    ensures { OnOk result (text.new.items
-        ≡ text.old.items ++ flat_map (λ refusal. refusal_text name.now refusal (tables_of (table_view top.now))) faults.now) }
+    ensures { OnOk result (told.new
+        ≡ added told.old (flat_map (λ refusal. refusal_text name.now refusal (tables_of (table_view top.now))) faults.now)) }
 {
     for fault in faults {
-        push_refusal(alloc, text, name, *fault, top)?;
+        if told.is_full() {
+            return Ok(());
+        }
+        push_refusal(alloc, told, name, *fault, top)?;
     }
     Ok(())
 }
 
 /// Writes where another refusal than one that is told already applies in the top table.
+#[tactic(auto, unfolding(crate::specs::FirstLines::added))]
 fn push_other(
     alloc: Global,
-    text: &mut Vec<u8>,
+    told: &mut FirstLines,
     name: &[u8],
     fault: ScenarioFault,
     top: &Table,
     other: ScenarioFault,
 ) -> Result<(), AllocError>
-    ensures { OnOk result (text.new.items ≡ text.old.items ++ other_text name.now fault (tables_of (table_view top.now)) other) }
+    ensures { OnOk result (told.new ≡ added told.old (other_text name.now fault (tables_of (table_view top.now)) other)) }
 {
     if other.number() == fault.number() {
         return Ok(());
     }
     let said = explain_top(alloc, name, other, top)?;
-    text.extend_from_slice(said.as_slice())
+    told.add(said.as_slice())
 }
 
 /// Writes where each of some refusals other than one that is told already applies in the top table.
 fn push_others(
     alloc: Global,
-    text: &mut Vec<u8>,
+    told: &mut FirstLines,
     name: &[u8],
     fault: ScenarioFault,
     top: &Table,
     others: &[ScenarioFault],
 ) -> Result<(), AllocError>
-    ensures { OnOk result (text.new.items
-        ≡ text.old.items ++ flat_map (other_text name.now fault (tables_of (table_view top.now))) others.now) }
+    ensures { OnOk result (told.new
+        ≡ added told.old (flat_map (other_text name.now fault (tables_of (table_view top.now))) others.now)) }
 {
     for other in others {
-        push_other(alloc, text, name, fault, top, *other)?;
+        push_other(alloc, told, name, fault, top, *other)?;
     }
     Ok(())
 }
 
 /// Writes a line for each place at which the tables of a scenario file break a rule, with what stands there and what is
-/// wanted: those of the least refusal first, then in the order of the file. Each table is told by its place among those of
-/// its kind, from 1. Where the ports can't be counted, that is told first, and of the others what is in the top table.
+/// wanted, up to as many as are told: those of the least refusal first, then in the order of the file. Each table is told by its place
+/// among those of its kind, from 1. Where the ports can't be counted, that is told first, and of the others what is in the top table.
 ///
 /// # Errors
 /// There is no memory; some of the lines may stand there.
-pub fn push_places(
+pub(crate) fn push_places(
     alloc: Global,
-    text: &mut Vec<u8>,
+    told: &mut FirstLines,
     name: &[u8],
     top: &Table,
 ) -> Result<(), AllocError>
-    ensures { OnOk result (text.new.items ≡ text.old.items ++ places_text name.now (table_view top.now)) }
+    ensures { OnOk result (told.new ≡ added told.old (places_text name.now (table_view top.now))) }
 {
     match counted(top) {
-        Ok(_) => push_refusals(alloc, text, name, &REFUSALS, top),
+        Ok(_) => push_refusals(alloc, told, name, &REFUSALS, top),
         Err(fault) => {
-            push_refusal(alloc, text, name, fault, top)?;
-            push_others(alloc, text, name, fault, top, &TOP_REFUSALS)
+            push_refusal(alloc, told, name, fault, top)?;
+            push_others(alloc, told, name, fault, top, &TOP_REFUSALS)
         }
     }
 }

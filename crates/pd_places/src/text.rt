@@ -2,17 +2,15 @@
 
 ghost use Rattle.std.specs.Prelude.{◌≡◌, ◌++◌, map, IfOk, OnOk};
 ghost use Rattle.toml.specs.View.{table_view};
-ghost use Rattle.pd_places.specs.Places.{one_line_byte, one_line, places_text, most_places, IsShort, TellsPlaces};
+ghost use Rattle.pd_places.specs.FirstLines.{most_places};
+ghost use Rattle.pd_places.specs.Places.{one_line_byte, one_line, places_text, IsShort, TellsPlaces};
 
 use crate::cut::first_lines;
+use crate::first_lines::{FirstLines, MOST_PLACES};
 use crate::places::push_places;
-use pd_misfits::explain_file;
-use pd_scenario_tables::ScenarioFault;
+use pd_misfits::explain_error;
 use std::alloc::{AllocError, Global};
 use toml::Table;
-
-/// So many places of a file are told at most.
-pub const MOST_PLACES: u64 = 20;
 
 /// A byte of a file's name, which is told on one line.
 fn one_line_byte(byte: u8) -> u8
@@ -32,17 +30,17 @@ fn one_line(alloc: Global, name: &[u8]) -> Result<Vec<u8>, AllocError>
     Ok(line)
 }
 
-/// Twenty of the places of a file's tables, and how many more there are.
+/// Twenty of the places of a file's tables, and that there are more.
 fn explain_table(alloc: Global, name: &[u8], top: &Table) -> Result<Vec<u8>, AllocError>
     ensures { IfOk result (λ v. IsShort most_places name.now (places_text name.now (table_view top.now)) v.items) }
 {
-    let mut text = Vec::new(alloc);
-    push_places(alloc, &mut text, name, top)?;
-    first_lines(alloc, name, text.as_slice(), MOST_PLACES)
+    let mut told = FirstLines::new(alloc);
+    push_places(alloc, &mut told, name, top)?;
+    first_lines(alloc, name, told.as_slice(), MOST_PLACES)
 }
 
-/// Where a scenario file breaks rules: a line for each place of its tables, as `push_places` has them, of twenty at most, and
-/// how many more there are; and where the text is no TOML, the line from which on it is none, and why.
+/// Where a scenario file breaks rules: a line for each place of its tables, of twenty at most, and a line where there are more; and
+/// where the text is no TOML, the line from which on it is none, and why. Places behind the twenty aren't looked for.
 ///
 /// # Errors
 /// There is no memory.
@@ -50,13 +48,9 @@ pub fn explain_places(alloc: Global, name: &[u8], text: &[u8]) -> Result<Vec<u8>
     ensures { IfOk result (λ v. TellsPlaces (one_line name.now) text.now v.items) }
 {
     let name = one_line(alloc, name)?;
-    let error = match toml::table_from_slice(alloc, text) {
-        Ok(table) => return explain_table(alloc, name.as_slice(), &table),
-        Err(error) => error,
-    };
-    // An error of no place is want of memory.
-    if error.span().is_none() {
-        return Err(AllocError);
+    let name = name.as_slice();
+    match toml::table_from_slice(alloc, text) {
+        Ok(table) => explain_table(alloc, name, &table),
+        Err(error) => explain_error(alloc, name, text, &error),
     }
-    explain_file(alloc, name.as_slice(), text, ScenarioFault::Toml)
 }

@@ -42,7 +42,7 @@ fn push_left(out: &mut Vec<Warning>, watches: &[Watch]) -> Result<(), AllocError
     Ok(())
 }
 
-/// Warns of what comes of the run of a plan.
+/// Warns of what comes of the run of a plan, whose steps the meter counts.
 ///
 /// # Errors
 /// There is no memory; some warnings may stand there.
@@ -50,15 +50,15 @@ pub(crate) fn push_run<const N: usize>(
     alloc: Global,
     out: &mut Vec<Warning>,
     plan: &Plan<N>,
+    meter: &mut Meter,
 ) -> Result<(), AllocError>
     ensures { OnOk result (Warned N plan.now out.old.items out.new.items) }
 {
     let mut live = Live::new(alloc, plan)?;
     let mut watches = at_rest(alloc, N)?;
-    let mut meter = Meter::new();
     while let Some((port, due)) = live.next(plan) {
         let answer = live.reply(plan, port, &due);
-        let entry = live.step(alloc, plan, port, &due, answer, &mut meter)?;
+        let entry = live.step(alloc, plan, port, &due, answer, meter)?;
         push_step(out, &mut watches, port, &entry)?;
     }
     push_left(out, watches.as_slice())

@@ -8,6 +8,7 @@ use crate::Warning;
 use crate::names::{push_cables, push_late_events, push_sinks};
 use crate::run::push_run;
 use crate::shares::push_shares;
+use pd_port::Meter;
 use pd_run::Plan;
 use pd_scenario::Scenario;
 use std::alloc::{AllocError, Global};
@@ -35,12 +36,13 @@ fn push_stated<const N: usize>(
 pub fn warnings<const N: usize>(
     alloc: Global,
     scenario: &Scenario<N>,
+    meter: &mut Meter,
 ) -> Result<Vec<Warning>, AllocError>
     ensures { IfOk result (λ ws. AreWarnings N scenario.now ws.items) }
 {
     let plan = Plan::of_scenario(alloc, scenario)?;
     let mut out = Vec::new(alloc);
     push_stated(&mut out, scenario)?;
-    push_run(alloc, &mut out, &plan)?;
+    push_run(alloc, &mut out, &plan, meter)?;
     Ok(out)
 }

@@ -11,6 +11,7 @@ ghost use Rattle.pd_warn_text.specs.Texts.{TellsWarnings, WarnsText};
 
 use crate::lines::last_line;
 use crate::sentences::{push_place, push_warning};
+use pd_port::Meter;
 use pd_scenario::Scenario;
 use pd_scenario_text::{ScenarioFault, ScenarioFile};
 use pd_script::{MadeEdit, make_edits};
@@ -28,9 +29,9 @@ pub enum WarnFault {
 
 // Warns the scenario of as many ports as the file has.
 macro_rules! warn_by {
-    ($alloc:ident, $file:ident, $name:ident, $edits:ident, $script:ident, $said:ident; $($n:literal)*) => {
+    ($alloc:ident, $file:ident, $name:ident, $edits:ident, $script:ident, $meter:ident, $said:ident; $($n:literal)*) => {
         match $file.port_count().map_err(WarnFault::Scenario)? {
-            $($n => warn_file::<$n>($alloc, $file, $name, $edits, $script, $said),)*
+            $($n => warn_file::<$n>($alloc, $file, $name, $edits, $script, $meter, $said),)*
             _ => Err(WarnFault::Scenario(ScenarioFault::Limit)),
         }
     };
@@ -38,7 +39,7 @@ macro_rules! warn_by {
 
 /// What the scenario of a text is warned of, as an edit script leaves it: a line for each warning, behind the script's name and
 /// the number of the line that made what is warned of, or changed it last; where none did, behind the name of the scenario's file.
-/// A line of the script that is refused changes nothing.
+/// A line of the script that is refused changes nothing. The meter counts the steps of that scenario's run.
 ///
 /// # Errors
 /// `Scenario` where the text is refused, and nothing is written; `Memory` where there was no memory, and some lines may be.
@@ -48,12 +49,13 @@ pub fn warn_text(
     name: &[u8],
     edits: &[u8],
     script: &[u8],
+    meter: &mut Meter,
     said: &mut Vec<u8>,
 ) -> Result<(), WarnFault>
     ensures { WarnsText result text.now name.now edits.now script.now said.old.items said.new.items }
 {
     let file = ScenarioFile::parse(alloc, text).map_err(WarnFault::Scenario)?;
-    warn_by!(alloc, file, name, edits, script, said; 1 2 3 4 5 6 7 8)
+    warn_by!(alloc, file, name, edits, script, meter, said; 1 2 3 4 5 6 7 8)
 }
 
 // What the scenario of a file of N ports is warned of.
@@ -63,6 +65,7 @@ fn warn_file<const N: usize>(
     name: &[u8],
     edits: &[u8],
     script: &[u8],
+    meter: &mut Meter,
     said: &mut Vec<u8>,
 ) -> Result<(), WarnFault>
     requires from_one { 1 ≤ N }
@@ -74,7 +77,7 @@ fn warn_file<const N: usize>(
         Ok(scenario) => scenario,
         Err(fault) => return Err(WarnFault::Scenario(fault)),
     };
-    match warn_scenario(alloc, scenario, name, edits, script, said) {
+    match warn_scenario(alloc, scenario, name, edits, script, meter, said) {
         Ok(()) => Ok(()),
         Err(_) => Err(WarnFault::Memory),
     }
@@ -87,13 +90,14 @@ fn warn_scenario<const N: usize>(
     name: &[u8],
     edits: &[u8],
     script: &[u8],
+    meter: &mut Meter,
     said: &mut Vec<u8>,
 ) -> Result<(), AllocError>
     ensures { OnOk result (TellsWarnings name.now edits.now N scenario.entry (lines script.now) said.old.items said.new.items) }
 {
     let mut scenario = scenario;
     let made = make_edits(alloc, &mut scenario, script)?;
-    let found = warnings(alloc, &scenario)?;
+    let found = warnings(alloc, &scenario, meter)?;
     push_lines(alloc, said, name, edits, made.as_slice(), found.as_slice())
 }
 
