@@ -1,1 +1,2 @@
+mod FoundLines
 mod OwnLines

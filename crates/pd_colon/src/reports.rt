@@ -17,12 +17,15 @@ use std::alloc::{AllocError, Global};
 
 /// The contracts, faults and margins of a scenario's run.
 #[tactic(auto, unfolding(crate::specs::Reports::report_text))]
-fn report<const N: usize>(alloc: Global, scenario: &Scenario<N>) -> Result<Vec<u8>, AllocError>
+fn report<const N: usize>(
+    alloc: Global,
+    scenario: &Scenario<N>,
+    meter: &mut Meter,
+) -> Result<Vec<u8>, AllocError>
     ensures { IfOk result (λ text. Reports scenario.now text.items) }
 {
     let mut runner = Kept::<N>::empty(alloc);
-    let mut meter = Meter::new();
-    runner.replace(alloc, scenario, &mut meter)?;
+    runner.replace(alloc, scenario, meter)?;
     let mut output = Output {
         writer: Vec::new(alloc),
         failures: 0,
@@ -48,13 +51,14 @@ pub fn run_diff<const N: usize>(
     alloc: Global,
     before: &Scenario<N>,
     now: &Scenario<N>,
+    meter: &mut Meter,
 ) -> Result<Vec<u8>, AllocError>
     ensures { IfOk result (λ text. TellsDiff before.now now.now text.items) }
 {
-    let earlier = report(alloc, before)?;
-    let later = report(alloc, now)?;
+    let earlier = report(alloc, before, meter)?;
+    let later = report(alloc, now, meter)?;
     let mut said = Vec::new(alloc);
-    push_diff(&mut said, earlier.as_slice(), later.as_slice())?;
+    push_diff(alloc, &mut said, earlier.as_slice(), later.as_slice())?;
     Ok(said)
 }
 
@@ -66,11 +70,12 @@ pub fn why_port<const N: usize>(
     alloc: Global,
     scenario: &Scenario<N>,
     question: &Question,
+    meter: &mut Meter,
 ) -> Result<Vec<u8>, AllocError>
     ensures { IfOk result (λ text. TellsWhy (plan_of scenario.now) question.now [] text.items) }
 {
     let plan = Plan::of_scenario(alloc, scenario)?;
     let mut said = Vec::new(alloc);
-    why(alloc, &plan, question, &mut said)?;
+    why(alloc, &plan, question, meter, &mut said)?;
     Ok(said)
 }

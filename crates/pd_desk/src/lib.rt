@@ -19,6 +19,3 @@ pub use outlets::Outlets;
 pub use own::OwnFault;
 pub use reasons::tell_reason;
 pub use shelf::Shelf;
-
-#[cfg(test)]
-mod tests;

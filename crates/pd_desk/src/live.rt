@@ -20,9 +20,9 @@ use std::alloc::Global;
 
 // Runs the desk with a runner of as many ports as the file has.
 macro_rules! live_by {
-    ($ports:ident, $alloc:ident, $file:ident, $reader:ident, $outlets:ident; $($n:literal)*) => {
+    ($ports:ident, $alloc:ident, $file:ident, $reader:ident, $outlets:ident, $meter:ident; $($n:literal)*) => {
         match $ports {
-            $($n => live_file::<$n, R, W, E, S>($alloc, $file, $reader, $outlets),)*
+            $($n => live_file::<$n, R, W, E, S>($alloc, $file, $reader, $outlets, $meter),)*
             _ => Err(RunFault::Scenario(ScenarioFault::Limit)),
         }
     };
@@ -41,6 +41,7 @@ pub fn run_live<R: TextIn, W: TextOut, E: TextOut, S: Shelf>(
     text: &[u8],
     reader: &mut R,
     outlets: &mut Outlets<W, E, S>,
+    meter: &mut Meter,
 ) -> Result<Tally, RunFault>
     ensures text { LiveEnds result text.now (R.left reader.old) (R.left reader.new)
         (W.taken outlets.old.answers) (W.taken outlets.new.answers)
@@ -54,7 +55,7 @@ pub fn run_live<R: TextIn, W: TextOut, E: TextOut, S: Shelf>(
         Ok(ports) => ports,
         Err(fault) => return Err(RunFault::Scenario(fault)),
     };
-    live_by!(ports, alloc, file, reader, outlets; 1 2 3 4 5 6 7 8)
+    live_by!(ports, alloc, file, reader, outlets, meter; 1 2 3 4 5 6 7 8)
 }
 
 // Runs the desk for the scenario of a file of N ports.
@@ -63,6 +64,7 @@ fn live_file<const N: usize, R: TextIn, W: TextOut, E: TextOut, S: Shelf>(
     file: ScenarioFile,
     reader: &mut R,
     outlets: &mut Outlets<W, E, S>,
+    meter: &mut Meter,
 ) -> Result<Tally, RunFault>
     requires from_one { 1 ≤ N }
     requires to_eight { N ≤ 8 }
@@ -79,8 +81,5 @@ fn live_file<const N: usize, R: TextIn, W: TextOut, E: TextOut, S: Shelf>(
         Err(fault) => return Err(RunFault::Scenario(fault)),
     };
     let mut runner = Kept::<N>::empty(alloc);
-    let mut meter = Meter::new();
-    desk_session(alloc, scenario, &mut runner, reader, outlets, &mut meter).map_err(
-        RunFault::Session,
-    )
+    desk_session(alloc, scenario, &mut runner, reader, outlets, meter).map_err(RunFault::Session)
 }

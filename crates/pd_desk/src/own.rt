@@ -98,7 +98,7 @@ fn step_back<const N: usize, T: Runner<N>>(
     let listed_back = list_scenario(alloc, back)?;
     let mut text = Vec::new(alloc);
     text.extend_from_slice(b"= undo\n")?;
-    push_diff(&mut text, listed.as_slice(), listed_back.as_slice())?;
+    push_diff(alloc, &mut text, listed.as_slice(), listed_back.as_slice())?;
     runner.replace(alloc, back, meter)?;
     Ok(text)
 }
@@ -130,7 +130,11 @@ fn undo<const N: usize, T: Runner<N>>(
 }
 
 /// What the last accepted edit changed.
-fn diff<const N: usize>(alloc: Global, desk: &Desk<N>) -> Result<Vec<u8>, OwnFault>
+fn diff<const N: usize>(
+    alloc: Global,
+    desk: &Desk<N>,
+    meter: &mut Meter,
+) -> Result<Vec<u8>, OwnFault>
     ensures { MatchResult result
         (λ text. TellsChanges (standing desk.now.state.scenario desk.now.earlier.items desk.now.state.tally) text.items)
         (λ fault. FailsEdit desk.now.earlier.items fault) }
@@ -138,7 +142,7 @@ fn diff<const N: usize>(alloc: Global, desk: &Desk<N>) -> Result<Vec<u8>, OwnFau
     let Some(before) = desk.earlier.as_slice().last() else {
         return Err(OwnFault::NoEdit);
     };
-    let changes = run_diff(alloc, before, &desk.state.scenario)?;
+    let changes = run_diff(alloc, before, &desk.state.scenario, meter)?;
     let mut text = Vec::new(alloc);
     text.extend_from_slice(b"= diff\n")?;
     text.extend_from_slice(changes.as_slice())?;
@@ -181,6 +185,7 @@ fn bounds<const N: usize>(
     scenario: &Scenario<N>,
     port: u64,
     to: Option<u64>,
+    meter: &mut Meter,
 ) -> Result<Vec<u8>, OwnFault>
     ensures text { IfOk result (λ text. TellsWhy (plan_of scenario.now) (record { port = port; to = to }) [] text.items) }
     ensures fault { IfErr result (FailsWhy N port) }
@@ -192,7 +197,7 @@ fn bounds<const N: usize>(
         port: port as usize,
         to,
     };
-    Ok(why_port(alloc, scenario, &question)?)
+    Ok(why_port(alloc, scenario, &question, meter)?)
 }
 
 /// What is told for a line of the desk's own.
@@ -223,8 +228,8 @@ pub(crate) fn own_text<const N: usize, T: Runner<N>, S: Shelf>(
         Some(Colon::Help) => Ok(Vec::from_slice(alloc, HELP)?),
         Some(Colon::Listing) => Ok(list_scenario(alloc, &desk.state.scenario)?),
         Some(Colon::Undo) => undo(alloc, desk, runner, meter),
-        Some(Colon::Diff) => diff(alloc, desk),
+        Some(Colon::Diff) => diff(alloc, desk, meter),
         Some(Colon::Save) => save(alloc, line, &desk.state.scenario, shelf),
-        Some(Colon::Why { port, to }) => bounds(alloc, &desk.state.scenario, port, to),
+        Some(Colon::Why { port, to }) => bounds(alloc, &desk.state.scenario, port, to, meter),
     }
 }
