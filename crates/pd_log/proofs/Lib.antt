@@ -2,3 +2,4 @@ pub mod Digits
 pub mod FirstPart
 pub mod ObjectByObject
 pub mod PartByPart
+pub mod Joined

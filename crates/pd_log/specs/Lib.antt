@@ -4,3 +4,5 @@ pub mod Forms
 pub mod Places
 pub mod Answers
 pub mod Words
+pub mod Lines
+pub mod Objects

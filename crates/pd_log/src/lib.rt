@@ -1,10 +1,13 @@
-//! What a line of a log says: a packet, by its codes, or by its header and its objects.
+//! What a line of a log says: a packet, by its codes, or by its header and its objects; and what is told of it, as a line of text and as a
+//! JSON object.
 #![tactic(auto)]
 
 mod answer;
 mod codes;
 mod given;
 mod heads;
+mod json;
+mod line;
 mod mark;
 mod numbers;
 mod parts;
@@ -14,5 +17,7 @@ mod replies;
 mod words;
 
 pub use answer::Answer;
+pub use json::push_json;
+pub use line::push_line;
 pub use mark::Mark;
 pub use reading::read;

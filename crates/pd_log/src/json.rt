@@ -1,13 +1,13 @@
 //! What a line of a log says, as a JSON object.
 
 ghost use Rattle.std.specs.Prelude.{◌≡◌, ◌++◌, OnOk};
-ghost use Rattle.pd_log_text.specs.Objects.{counts_members, fault_members, json_text, mark_member, mark_name, members};
-ghost use Rattle.pd_log_text.specs.Objects.{reason_member, reset_members, told_member};
+ghost use Rattle.pd_log.specs.Objects.{counts_members, fault_members, json_text, mark_member, mark_name, members};
+ghost use Rattle.pd_log.specs.Objects.{reason_member, reset_members, told_member};
 
 use crate::line::fault_words;
+use crate::{Answer, Mark};
 use pd_content::{push_header_members, push_number, push_packet_members};
 use pd_header::header_count;
-use pd_log::{Answer, Mark};
 use pd_packet::PacketFault;
 use pd_symbols::Channel;
 use std::alloc::AllocError;

@@ -1,11 +1,11 @@
 //! What a line of a log says, as a line of text.
 
 ghost use Rattle.std.specs.Prelude.{◌≡◌, ◌++◌, OnOk};
-ghost use Rattle.pd_log_text.specs.Lines.{counts_text, fault_text, fault_words, line_text, mark_text, said, told_text};
+ghost use Rattle.pd_log.specs.Lines.{counts_text, fault_text, fault_words, line_text, mark_text, said, told_text};
 
+use crate::{Answer, Mark};
 use pd_content::{push_header, push_number, push_packet};
 use pd_header::header_count;
-use pd_log::{Answer, Mark};
 use pd_packet::PacketFault;
 use pd_symbols::Channel;
 use std::alloc::AllocError;

@@ -1,6 +1,6 @@
-use Rattle.pd_log_text.specs.Objects.{counts_members}
-use Rattle.pd_log_text.proofs.Joined.{five}
-use Rattle.pd_log_text.proofs.json.push_counts.Goals as goal
+use Rattle.pd_log.specs.Objects.{counts_members}
+use Rattle.pd_log.proofs.Joined.{five}
+use Rattle.pd_log.proofs.json.push_counts.Goals as goal
 
 pub returns : goal.returns
 unfolding counts_members

@@ -9,7 +9,7 @@ use Rattle.pd_log.specs.declared.mark.Mark.TheVariants.{Whole, Lost, Damaged}
 use Rattle.pd_log.specs.declared.answer.Answer.{Answer}
 use Rattle.pd_log.specs.declared.answer.Answer.TheVariants.{Nothing, Packet, Fault, HardReset, Header, Miscounted, Unknown}
 use Rattle.pd_content.specs.Members.{header_members, packet_members}
-use Rattle.pd_log_text.specs.Lines.{fault_words}
+use Rattle.pd_log.specs.Lines.{fault_words}
 
 abbrev pub mark_name : Mark → List ℕ
 mark_name Whole = codes "whole"

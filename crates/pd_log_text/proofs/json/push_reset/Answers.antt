@@ -1,7 +1,0 @@
-use Rattle.pd_log_text.specs.Objects.{reset_members}
-use Rattle.pd_log_text.proofs.Joined.{two}
-use Rattle.pd_log_text.proofs.json.push_reset.Goals as goal
-
-pub returns : goal.returns
-unfolding reset_members
-returns c = two _ _ _ _ _ c.in_ok-extend_from_slice.ensures.items c.in_ok-push_mark.ensures
