@@ -13,6 +13,44 @@ pub struct Case {
     pub output: Vec<u8>,
 }
 
+/// How many steps a case takes: where the moves of each run are kept for the next, and where each edit runs from the start.
+#[derive(Clone, Copy)]
+pub struct Steps {
+    pub kept: u64,
+    pub plain: u64,
+}
+
+/// A line of the list of cases: `SCENARIO/NAME`, and behind it the steps that the case takes, where they are known:
+/// `KEPT PLAIN`.
+#[derive(Drop)]
+pub struct CaseLine<'a> {
+    pub scenario: &'a str,
+    pub name: &'a str,
+    pub steps: Option<Steps>,
+}
+
+/// Reads a line of the list of cases; nothing where it is none.
+pub fn case_line(line: &str) -> Option<CaseLine<'_>> {
+    let (case, steps) = match line.split_once(' ') {
+        Some((case, counts)) => (case, Some(steps_from(counts)?)),
+        None => (line, None),
+    };
+    let (scenario, name) = case.split_once('/')?;
+    Some(CaseLine {
+        scenario,
+        name,
+        steps,
+    })
+}
+
+fn steps_from(counts: &str) -> Option<Steps> {
+    let (kept, plain) = counts.split_once(' ')?;
+    Some(Steps {
+        kept: kept.parse().ok()?,
+        plain: plain.parse().ok()?,
+    })
+}
+
 /// Reads a list of a folder, a line each.
 ///
 /// # Errors

@@ -1,8 +1,9 @@
 //! The worked cases: `pd_cases FOLDER` runs a session over each case that the list `FOLDER/cases.txt` names, and compares
 //! what it writes with the text that is expected. The case `SCENARIO/NAME` has its scenario in the folder
 //! `FOLDER/cases/SCENARIO` as `scenario.toml`, its edits there as `NAME.edits`, and its text as `NAME.txt`, so that cases
-//! share a scenario. The list `FOLDER/refused.txt` names files of `FOLDER/refused`, each after the number by which it is
-//! refused.
+//! share a scenario. Behind its name may stand how many steps the session takes, where the moves of each run are kept for the
+//! next and where they aren't: `SCENARIO/NAME KEPT PLAIN`. The list `FOLDER/refused.txt` names files of `FOLDER/refused`, each
+//! after the number by which it is refused.
 //!
 //! `pd_cases plain SCENARIO EDITS` does what `pdbench run` does, but runs each edit from the start.
 #![tactic(auto)]
@@ -11,8 +12,8 @@ mod answers;
 mod cases;
 mod plain;
 
-use answers::{is_refused, kept_answers, plain_answers};
-use cases::{Case, read_case, read_list, read_refused};
+use answers::{is_refused, kept_steps, plain_steps};
+use cases::{Case, Steps, case_line, read_case, read_list, read_refused};
 use std::alloc::{AllocError, Global};
 use std::process::ExitCode;
 use std::rt::{Env, Files};
@@ -34,11 +35,35 @@ fn tell<R: Print>(rt: &R, name: &str, how: &str, is_expected: bool) -> io::Resul
     Ok(is_expected)
 }
 
-/// Runs a case with each runner, and answers whether all write what is expected.
-fn run_case<R: Print + Alloc<A = Global>>(rt: &R, name: &str, case: &Case) -> io::Result<bool> {
-    let plain = tell(rt, name, "plain", plain_answers(rt.alloc(), case))?;
-    let kept = tell(rt, name, "kept", kept_answers(rt.alloc(), case))?;
-    Ok(plain && kept)
+/// Tells that a session differs, and answers whether it is as expected: it wrote what it should, in so many steps where they
+/// are known.
+fn tell_steps<R: Print>(
+    rt: &R,
+    name: &str,
+    how: &str,
+    found: Option<u64>,
+    wanted: Option<u64>,
+) -> io::Result<bool> {
+    match (found, wanted) {
+        (Some(found), Some(wanted)) if found != wanted => {
+            println!(rt; "{name} differs ({how}: {found} steps, not {wanted})")?;
+            Ok(false)
+        }
+        (found, _) => tell(rt, name, how, found.is_some()),
+    }
+}
+
+/// Runs a case with each runner, and answers whether all write what is expected, in so many steps.
+fn run_case<R: Print + Alloc<A = Global>>(
+    rt: &R,
+    name: &str,
+    case: &Case,
+    steps: Option<Steps>,
+) -> io::Result<bool> {
+    let (kept, plain) = (kept_steps(rt.alloc(), case), plain_steps(rt.alloc(), case));
+    let is_plain = tell_steps(rt, name, "plain", plain, steps.map(|steps| steps.plain))?;
+    let is_kept = tell_steps(rt, name, "kept", kept, steps.map(|steps| steps.kept))?;
+    Ok(is_plain && is_kept)
 }
 
 /// Runs the cases of a folder.
@@ -50,12 +75,12 @@ fn run_cases<R: Files + Print + Alloc<A = Global>>(
     let list = read_list(rt, folder, "cases.txt")?;
     let place = format!(in rt.alloc(); "{folder}/cases")?;
     for line in list.as_str().lines() {
-        let Some((scenario, name)) = line.split_once('/') else {
+        let Some(listed) = case_line(line) else {
             return Err(io::Error::from(io::ErrorKind::InvalidData));
         };
-        let case = read_case(rt, place.as_str(), scenario, name)?;
+        let case = read_case(rt, place.as_str(), listed.scenario, listed.name)?;
         counts.cases = counts.cases.saturating_add(1);
-        if !run_case(rt, line, &case)? {
+        if !run_case(rt, line, &case, listed.steps)? {
             counts.differ = counts.differ.saturating_add(1);
         }
     }

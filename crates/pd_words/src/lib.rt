@@ -5,6 +5,3 @@ mod program;
 mod task;
 
 pub use task::{Task, WordsFault, read_task};
-
-#[cfg(test)]
-mod tests;

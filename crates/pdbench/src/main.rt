@@ -84,6 +84,3 @@ fn bench<R: Files + Print + Eprint + Env + Alloc<A = Global>>(rt: &R) -> Ending 
 fn main(rt: HostRuntime) -> ExitCode {
     ExitCode::from(bench(&rt).status())
 }
-
-#[cfg(test)]
-mod tests;

@@ -4,11 +4,13 @@ use crate::Ending;
 use crate::fault::{output, tell, tell_refused, tell_unread};
 use pd_desk::{ByteIn, Outlets, Shelf, run_live};
 use pd_device::DeviceFault;
+use pd_port::Meter;
 use pd_run_text::{RunFault, read_whole};
 use std::alloc::Global;
-use std::fs;
+use std::fs::Permissions;
 use std::io::IsTerminal;
 use std::rt::Files;
+use std::{fs, io};
 
 /// Files, where scenarios are saved.
 #[derive(Drop)]
@@ -16,15 +18,58 @@ struct Folder<'a, R> {
     files: &'a R,
 }
 
-impl<'a, R: Files> Shelf for Folder<'a, R> {
+impl<'a, R: Files + Alloc<A = Global>> Shelf for Folder<'a, R> {
     fn put(&mut self, name: &[u8], text: &[u8]) -> Result<(), DeviceFault> {
-        let Ok(name) = std::str::from_utf8(name) else {
-            return Err(DeviceFault);
+        let saved = match std::str::from_utf8(name) {
+            Ok(name) => save(self.files, name, text).is_ok(),
+            Err(_) => false,
         };
-        match fs::write(self.files, name, text) {
-            Ok(()) => Ok(()),
-            Err(_) => Err(DeviceFault),
+        if saved { Ok(()) } else { Err(DeviceFault) }
+    }
+}
+
+/// Writes a file whole, or leaves what stood there. A link stays, and what is no file, as a pipe, is written to.
+fn save<R: Files + Alloc<A = Global>>(files: &R, name: &str, text: &[u8]) -> io::Result<()> {
+    match fs::metadata(files, name) {
+        Ok(found) if found.is_file() => {
+            let place = fs::canonicalize(files, name)?;
+            replace(files, place.as_str(), text, Some(found.permissions()))
         }
+        Ok(_) => fs::write(files, name, text),
+        Err(_) => replace(files, name, text, None),
+    }
+}
+
+/// Writes a file beside the one of this name, with the same permissions where it is there, and puts it in its place.
+fn replace<R: Files + Alloc<A = Global>>(
+    files: &R,
+    place: &str,
+    text: &[u8],
+    permissions: Option<Permissions>,
+) -> io::Result<()> {
+    let beside = format!(in files.alloc(); "{place}.part")?;
+    let moved = write_beside(files, beside.as_str(), text, permissions).and_then(|_| fs::rename(
+        files,
+        beside.as_str(),
+        place,
+    ));
+    if moved.is_err() {
+        let _ = fs::remove_file(files, beside.as_str());
+    }
+    moved
+}
+
+/// Writes a file, with these permissions, where there are any.
+fn write_beside<R: Files>(
+    files: &R,
+    beside: &str,
+    text: &[u8],
+    permissions: Option<Permissions>,
+) -> io::Result<()> {
+    fs::write(files, beside, text)?;
+    match permissions {
+        Some(permissions) => fs::set_permissions(files, beside, permissions),
+        None => Ok(()),
     }
 }
 
@@ -41,11 +86,7 @@ where
         return tell_unread(errors, scenario);
     };
     let input = rt.reader();
-    let prompts = if input.is_terminal() {
-        Some(output(errors))
-    } else {
-        None
-    };
+    let prompts = input.is_terminal().then(|| output(errors));
     let mut reader = ByteIn {
         reader: input,
         failures: 0,
@@ -57,9 +98,24 @@ where
         reasons: output(errors),
         shelf: Folder { files: rt },
     };
-    match run_live(rt.alloc(), text.as_slice(), &mut reader, &mut outlets) {
+    let mut meter = Meter::new();
+    let ended = run_live(
+        rt.alloc(),
+        text.as_slice(),
+        &mut reader,
+        &mut outlets,
+        &mut meter,
+    );
+    match ended {
         Ok(_) => Ending::Done,
-        Err(RunFault::Scenario(fault)) => tell_refused(errors, scenario, fault),
-        Err(RunFault::Session(fault)) => tell(errors, fault),
+        Err(fault) => tell_fault(errors, scenario, fault),
+    }
+}
+
+/// Tells why the desk could not go on.
+fn tell_fault<E: Print>(errors: &E, scenario: &str, fault: RunFault) -> Ending {
+    match fault {
+        RunFault::Scenario(fault) => tell_refused(errors, scenario, fault),
+        RunFault::Session(fault) => tell(errors, fault),
     }
 }

@@ -7,6 +7,7 @@ use crate::script_file::{read_input, read_script};
 use crate::shown::tell_lines;
 use clap::ArgMatches;
 use pd_device::{BenchFault, write_all};
+use pd_port::Meter;
 use pd_why_text::{Form, Question, WhyFault, why_text};
 use std::alloc::Global;
 use std::rt::Files;
@@ -52,7 +53,16 @@ pub fn bounds<R: Files + Input + Print + Alloc<A = Global>, E: Print>(
         return tell(errors, fault);
     }
     let mut said = Vec::new(rt.alloc());
-    match why_text(rt.alloc(), text, script, question, form, &mut said) {
+    let mut meter = Meter::new();
+    match why_text(
+        rt.alloc(),
+        text,
+        script,
+        question,
+        form,
+        &mut meter,
+        &mut said,
+    ) {
         Ok(()) => match write_all(&mut output(rt), said.as_slice()) {
             Ok(()) => Ending::Done,
             Err(fault) => tell(errors, fault),

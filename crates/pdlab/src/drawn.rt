@@ -8,6 +8,7 @@ use crate::{Ending, numbers};
 use clap::ArgMatches;
 use pd_device::{BenchFault, write_all};
 use pd_draw_text::{DrawFault, Look, draw_text};
+use pd_port::Meter;
 use std::alloc::Global;
 use std::rt::Files;
 
@@ -48,7 +49,7 @@ pub fn drawn<R: Files + Input + Print + Alloc<A = Global>, E: Print>(
     if let Err(fault) = tell_lines(rt, errors, text, name, script) {
         return tell(errors, fault);
     }
-    match draw_text(rt.alloc(), text, script, look) {
+    match draw_text(rt.alloc(), text, script, look, &mut Meter::new()) {
         Ok(picture) => match write_all(&mut output(rt), picture.as_slice()) {
             Ok(()) => Ending::Done,
             Err(fault) => tell(errors, fault),

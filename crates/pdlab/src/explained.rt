@@ -7,6 +7,7 @@ use pd_desk::tell_reason;
 use pd_device::{BenchFault, write_all};
 use pd_explain_text::{ExplainFault, explain_text, push_objects};
 use pd_places::explain_places;
+use pd_port::Meter;
 use pd_scenario_text::ScenarioFault;
 use pd_warn_text::{WarnFault, warn_text};
 use std::alloc::Global;
@@ -101,7 +102,16 @@ fn tell_warnings<R: Print + Alloc<A = Global>, E: Print>(
 ) -> Ending {
     let mut said = Vec::new(rt.alloc());
     let (file, edits) = (case.named(case.file), case.named(case.edits));
-    match warn_text(rt.alloc(), case.text, file, edits, case.script, &mut said) {
+    let mut meter = Meter::new();
+    match warn_text(
+        rt.alloc(),
+        case.text,
+        file,
+        edits,
+        case.script,
+        &mut meter,
+        &mut said,
+    ) {
         Ok(()) => write_told(rt, errors, case, said.as_slice(), ending),
         // `explain_text` answers this as well.
         Err(WarnFault::Scenario(_)) => ending,

@@ -3,8 +3,7 @@
 use crate::Ending;
 use crate::fault::{output, tell, tell_no_file};
 use pd_device::{BenchFault, Output, write_all};
-use pd_log::{Answer, read};
-use pd_log_text::{push_json, push_line};
+use pd_log::{Answer, push_json, push_line, read};
 use std::alloc::{AllocError, Global};
 use std::fs::File;
 use std::io::{BufRead, BufReader, Printer};

@@ -7,6 +7,7 @@ use crate::script_file::{read_input, read_script};
 use clap::ArgMatches;
 use pd_device::{BenchFault, write_all};
 use pd_explain_text::{ExplainFault, explain_text};
+use pd_port::Meter;
 use pd_show_text::{Choice, Form, ShowFault, show_text};
 use std::alloc::Global;
 use std::rt::Files;
@@ -79,7 +80,15 @@ pub fn shown<R: Files + Input + Print + Alloc<A = Global>, E: Print>(
     if let Err(fault) = tell_lines(rt, errors, text, name, script) {
         return tell(errors, fault);
     }
-    match show_text(rt.alloc(), text, script, choice, &mut output(rt)) {
+    let mut meter = Meter::new();
+    match show_text(
+        rt.alloc(),
+        text,
+        script,
+        choice,
+        &mut output(rt),
+        &mut meter,
+    ) {
         Ok(()) => Ending::Done,
         Err(ShowFault::Scenario(fault)) => tell_refused(errors, scenario, fault),
         Err(ShowFault::NoSuchPort) => tell_no_port(rt, errors, scenario, text, choice.port),

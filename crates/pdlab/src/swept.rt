@@ -6,8 +6,10 @@ use crate::numbers::{FROM, IN_A_ROW, PORT, RESERVE, TO, WrongNumber, number_of};
 use crate::progress::{Packets, Watched};
 use crate::script_file::{read_input, read_script};
 use crate::shown::tell_lines;
+use crate::words::USAGE;
 use clap::ArgMatches;
 use pd_header::{Kind, kind_of};
+use pd_port::Meter;
 use pd_sweep_text::{Campaign, Choice, Form, Loss, SweepFault, Tally, packet_count, sweep_text};
 use std::alloc::Global;
 use std::io::IsTerminal;
@@ -104,6 +106,7 @@ pub fn tell_no_kind<E: Print>(errors: &E) -> Ending {
         "--kind: no message has that name; there are GoodCRC, Accept, Reject, PS_RDY, Get_Source_Cap, Get_Sink_Cap, Wait, \
          Soft_Reset, Source_Capabilities, Request, Sink_Capabilities, Vendor_Defined",
     );
+    let _ = errors.println(USAGE);
     Ending::Usage
 }
 
@@ -125,10 +128,12 @@ fn tally_of<R: Print + Clock + Alloc<A = Global>, E: Print + IsTerminal>(
     campaign: &Campaign,
     form: Form,
 ) -> Result<Tally, SweepFault> {
+    let (alloc, mut meter) = (rt.alloc(), Meter::new());
     if !errors.is_terminal() {
-        return sweep_text(rt.alloc(), text, script, campaign, form, &mut output(rt));
+        let mut out = output(rt);
+        return sweep_text(alloc, text, script, campaign, form, &mut out, &mut meter);
     }
-    let total = packet_count(rt.alloc(), text, script, &campaign.choice)?;
+    let total = packet_count(alloc, text, script, &campaign.choice, &mut meter)?;
     match Instant::now(rt) {
         Ok(began) => {
             let packets = Packets {
@@ -136,9 +141,12 @@ fn tally_of<R: Print + Clock + Alloc<A = Global>, E: Print + IsTerminal>(
                 heads: heads(form),
             };
             let mut lines = Watched::of(output(rt), rt, errors, packets, began);
-            sweep_text(rt.alloc(), text, script, campaign, form, &mut lines)
+            sweep_text(alloc, text, script, campaign, form, &mut lines, &mut meter)
         }
-        Err(_) => sweep_text(rt.alloc(), text, script, campaign, form, &mut output(rt)),
+        Err(_) => {
+            let mut out = output(rt);
+            sweep_text(alloc, text, script, campaign, form, &mut out, &mut meter)
+        }
     }
 }
 

@@ -7,6 +7,7 @@ use clap::ArgMatches;
 use pd_device::{BenchFault, write_all};
 use pd_expect::{TestFault, TestReport, TestTally, scenario_name, test_text};
 use pd_explain_text::push_objects;
+use pd_port::Meter;
 use pd_run_text::read_whole;
 use std::alloc::{AllocError, Global};
 use std::rt::Files;
@@ -58,6 +59,7 @@ fn report_of<R: Files + Input + Print + Alloc<A = Global>, E: Print>(
         text.as_slice(),
         named(script, json),
         lines.as_slice(),
+        &mut Meter::new(),
     ) {
         Ok(report) if json => written_objects(rt, errors, script.as_bytes(), &report),
         Ok(report) => written(rt, errors, report.text.as_slice(), report.tally),
