@@ -1,3 +1,4 @@
+pub mod Greatest
 pub mod Numbered
 pub mod Steps
 pub mod Whys

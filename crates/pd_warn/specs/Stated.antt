@@ -1,11 +1,12 @@
 -- What a scenario says that is surely not meant, its run apart.
-use Rattle.std.specs.Prelude.{ℕ, ◌+◌, ◌-◌, ◌*◌, nat_lt, Bool, false, List, [], ◌∷◌, ◌++◌, bytes_eq, if◌then◌else◌}
-use Rattle.std.specs.List.{flat_map, list_all, list_any}
+use Rattle.std.specs.Prelude.{ℕ, ◌+◌, ◌-◌, ◌*◌, max, nat_le, nat_lt, Bool, false, List, [], ◌∷◌, ◌++◌, fold, Option, None, bytes_eq}
+use Rattle.std.specs.Prelude.{if◌then◌else◌}
+use Rattle.std.specs.List.{filter_map, flat_map, list_all, list_any}
 use Rattle.pd_objects.specs.Supply.{SupplyData}
 use Rattle.pd_setup.specs.Settings.{SettingsData}
 use Rattle.pd_setup.specs.declared.event.EventKind.TheVariants.{Attach}
 use Rattle.pd_scenario.specs.Events.{ScenarioEventKind}
-use Rattle.pd_scenario.specs.Scenarios.{ScenarioData, floors_mw}
+use Rattle.pd_scenario.specs.Scenarios.{ScenarioData, budget_of, floors_mw}
 use Rattle.pd_scenario.specs.declared.event.ScenarioEvent.{ScenarioEvent}
 use Rattle.pd_scenario.specs.declared.event.ScenarioHappening.{ScenarioHappening}
 use Rattle.pd_scenario.specs.declared.event.ScenarioHappening.TheVariants.{OnPort, Budget}
@@ -47,6 +48,14 @@ sink_part events s =
 
 -- ---- what is left for a port
 
+-- the budget that an event changes to in the run, which is up to the end, in mW
+abbrev pub budget_by : ℕ → ScenarioEvent → Option ℕ
+budget_by end e = if nat_le e.at end then budget_of e else None
+
+-- the greatest of the budget at the start and of those that events change to in the run, in mW
+abbrev pub greatest_budget : ℕ → ℕ → List ScenarioEvent → ℕ
+greatest_budget mw end events = fold max mw (filter_map (budget_by end) events)
+
 -- the share that the floors of the other ports leave, in microwatts; all floors are so many mW
 abbrev pub share_of : ℕ → ℕ → SettingsData → ℕ
 share_of budget_mw floors s = (budget_mw - (floors - s.floor_mw)) * 1000
@@ -71,4 +80,5 @@ unfoldable pub stated : ScenarioData → List Warning
 stated c =
     flat_map (late_part c.end_us) c.events
     ++ (flat_map (cable_part c.events) c.cables
-    ++ (flat_map (sink_part c.events) c.sinks ++ shares_part c.budget_mw (floors_mw c.settings) 1 c.settings))
+    ++ (flat_map (sink_part c.events) c.sinks
+    ++ shares_part (greatest_budget c.budget_mw c.end_us c.events) (floors_mw c.settings) 1 c.settings))

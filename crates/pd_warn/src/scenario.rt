@@ -7,7 +7,7 @@ ghost use Rattle.pd_warn.specs.Warnings.{AreWarnings};
 use crate::Warning;
 use crate::names::{push_cables, push_late_events, push_sinks};
 use crate::run::push_run;
-use crate::shares::push_shares;
+use crate::shares::{greatest_budget, push_shares};
 use pd_port::Meter;
 use pd_run::Plan;
 use pd_scenario::Scenario;
@@ -24,7 +24,8 @@ fn push_stated<const N: usize>(
     push_late_events(out, scenario.end_us(), scenario.events())?;
     push_cables(out, scenario.events(), scenario.cables())?;
     push_sinks(out, scenario.events(), scenario.sinks())?;
-    push_shares(out, scenario.budget_mw(), scenario.ports())
+    let greatest = greatest_budget(scenario.budget_mw(), scenario.end_us(), scenario.events());
+    push_shares(out, greatest, scenario.ports())
 }
 
 /// What a scenario has that is accepted and surely not meant. First what it says: events after the end in the order of their

@@ -1,15 +1,39 @@
-//! What the floors of the other ports leave for a port.
+//! What the floors of the other ports leave for a port of the greatest budget.
 
 ghost use Rattle.std.specs.Prelude.{◌≡◌, ◌++◌, ◌≤◌, ◌<◌, ◌^◌, ◌*◌, OnOk, length, nat_lt};
 ghost use Rattle.std.specs.List.{list_all};
 ghost use Rattle.pd_objects.specs.Supply.{SupplyData};
 ghost use Rattle.pd_scenario.specs.Scenarios.{floors_mw};
-ghost use Rattle.pd_warn.specs.Stated.{each_wants_more, share_of, share_part, shares_part};
+ghost use Rattle.pd_warn.specs.Stated.{budget_by, each_wants_more, greatest_budget, share_of, share_part, shares_part};
 
 use crate::Warning;
 use pd_objects::Supply;
+use pd_scenario::{ScenarioEvent, ScenarioHappening};
 use pd_setup::Settings;
 use std::alloc::AllocError;
+
+/// The budget that an event changes to in the run, in mW.
+fn budget_by(end: u32, event: &ScenarioEvent) -> Option<u32>
+    ensures { result ≡ budget_by end event.now }
+{
+    match &event.happening {
+        ScenarioHappening::Budget { mw } if event.at <= end => Some(*mw),
+        _ => None,
+    }
+}
+
+/// The greatest of the budget at the start and of those that events change to in the run, in mW.
+pub(crate) fn greatest_budget(budget_mw: u32, end: u32, events: &[ScenarioEvent]) -> u32
+    ensures { result ≡ greatest_budget budget_mw end events.now }
+{
+    let mut greatest = budget_mw;
+    for event in events {
+        if let Some(mw) = budget_by(end, event) {
+            greatest = greatest.max(mw);
+        }
+    }
+    greatest
+}
 
 /// All floors, in mW, of at most eight ports.
 fn floors_mw(ports: &[Settings]) -> u64

@@ -34,8 +34,8 @@ pub enum Warning {
     UnusedSink {
         name: Name,
     },
-    /// Beside the floors of the other ports this port gets at most this share of the budget, in microwatts, and each of its
-    /// supplies wants more.
+    /// Beside the floors of the other ports this port gets at most this share of the greatest budget, in microwatts, and each of
+    /// its supplies wants more.
     SmallShare {
         port: usize,
         share: u64,
