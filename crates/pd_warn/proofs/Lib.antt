@@ -1,4 +1,10 @@
 pub mod Greatest
+pub mod Ignored
+pub mod Late
 pub mod Numbered
+pub mod Settled
 pub mod Steps
+pub mod Told
+pub mod Unused
 pub mod Whys
+pub mod WithinShares

@@ -26,20 +26,20 @@ use Rattle.pd_warn.specs.Watch.{why_of}
 use Rattle.pd_warn.specs.Truth.{Tells, WhysAreTrue}
 use Rattle.pd_watch.proofs.Keeps.{View, view, Took, attach_view, sink_same, source_same, starts_took}
 
-abbrev first : SettingsData → PortRecord → Option Answer → PortStep
+abbrev pub first : SettingsData → PortRecord → Option Answer → PortStep
 first s r given = begun (whole s r) given
 
 -- an event is ignored by the end of a step that has come to this
-abbrev EndsIgnored : ℕ → PortStep → Type 0
+abbrev pub EndsIgnored : ℕ → PortStep → Type 0
 EndsIgnored t w = (view (line_starts t w)).ignored ≡ true
 
 -- what isn't ignored by then isn't ignored in the end
-not_ignored : (t : ℕ) (w : PortStep) (v : View) (A : Type 0) → view w ≡ v → v.start ≡ None → v.ignored ≡ false → EndsIgnored t w → A
+pub not_ignored : (t : ℕ) (w : PortStep) (v : View) (A : Type 0) → view w ≡ v → v.start ≡ None → v.ignored ≡ false → EndsIgnored t w → A
 not_ignored t w v A e bare un said =
     let took : Took (view w) (view (line_starts t w)) = starts_took t w (ap (λ (x : View). x.start) e ∙ bare) in
     let never : false ≡ true = sym un ∙ sym (ap (λ (x : View). x.ignored) e) ∙ sym took.ignored_is ∙ said in cc
 
-abbrev view_of : PortRecord → View
+abbrev pub view_of : PortRecord → View
 view_of r = record { cable = r.cable; row = r.disturbances; ignored = false; start = None }
 
 full : (n : ℕ) → nat_lt n 8 ≡ false → 8 ≤ n

@@ -52,7 +52,8 @@ sink_part events s =
 abbrev pub budget_by : ℕ → ScenarioEvent → Option ℕ
 budget_by end e = if nat_le e.at end then budget_of e else None
 
--- the greatest of the budget at the start and of those that events change to in the run, in mW
+-- The greatest of the budget at the start and of those that events change to in the run, in mW. The law `budgets_are_greatest` says
+-- which one that is.
 abbrev pub greatest_budget : ℕ → ℕ → List ScenarioEvent → ℕ
 greatest_budget mw end events = fold max mw (filter_map (budget_by end) events)
 

@@ -1,0 +1,5 @@
+use Rattle.pd_warn.proofs.Ignored.{ignored_events_do_nothing}
+use Rattle.pd_warn.proofs.laws.ignored_events_do_nothing.Goals as goal
+
+pub returns : goal.returns
+returns c = ignored_events_do_nothing
