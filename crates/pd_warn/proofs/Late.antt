@@ -14,7 +14,6 @@ use Rattle.pd_scenario.specs.Script.{seen_by}
 use Rattle.pd_run.specs.Order.{EachAfter}
 use Rattle.pd_run.specs.Run.{GoesOn, Move, standing}
 use Rattle.pd_warn.specs.declared.warning.Warning.TheVariants.{AfterEnd}
-use Rattle.pd_warn.specs.Stated.{stated}
 use Rattle.pd_warn.specs.Truth.{IsOfEvent, LateEventsNeverHappen}
 use Rattle.pd_warn.proofs.Told.{Holds, all_hold}
 
@@ -49,6 +48,7 @@ none_of plan c e past (m ∷ ms) late goes timely =
     (none_of plan c e (past ++ m ∷ []) ms late goes.1 timely.1)
 
 pub late_events_never_happen : LateEventsNeverHappen
-late_events_never_happen c moves safe e told =
-    let late : c.end_us < e.at = All-contains (Holds c) (stated c) (AfterEnd e.id e.at c.end_us) (all_hold c) told in
-    none_of (plan_of c) c e [] moves (omega (arith, end_is c)) safe.run.chained safe.run.timely
+late_events_never_happen n c ws told e warned =
+    let late : c.end_us < e.at = All-contains (Holds c) ws (AfterEnd e.id e.at c.end_us) (all_hold n c ws told) warned in
+    let run = told.safe.run in
+    none_of (plan_of c) c e [] told.moves (omega (arith, end_is c)) run.chained run.timely

@@ -19,9 +19,11 @@ use Rattle.pd_scenario.specs.Plan.{Plan}
 use Rattle.pd_scenario.specs.Plans.{changes_of, plan_of}
 use Rattle.pd_scenario.specs.Scenarios.{ScenarioData, cable_named, sink_named}
 use Rattle.pd_scenario.specs.Script.{event_for, events_for, no_cable, no_sink, put, resolved, script, seen_by}
+use Rattle.pd_warn.specs.declared.warning.Warning.{Warning}
 use Rattle.pd_warn.specs.declared.warning.Warning.TheVariants.{UnusedCable, UnusedSink}
-use Rattle.pd_warn.specs.Stated.{has_cable, has_sink, kind_has_cable, kind_has_sink, stated}
+use Rattle.pd_warn.specs.Stated.{has_cable, has_sink, kind_has_cable, kind_has_sink}
 use Rattle.pd_warn.specs.Truth.{UnusedNamesChangeNothing, without_cable, without_sink}
+use Rattle.pd_warn.specs.Warnings.{AreWarnings}
 use Rattle.pd_warn.proofs.Told.{Holds, all_hold}
 
 -- ---- looking up another name
@@ -159,15 +161,17 @@ plan_alike c others more same =
     } in
     ap with_scripts (scripts_alike others more c.cables c.sinks c.events same (range_with_len 1 (length c.settings)))
 
-unused_cable : (c : ScenarioData) (name : List ℕ) → Contains (stated c) (UnusedCable name) → plan_of (without_cable name c) ≡ plan_of c
-unused_cable c name told =
-    let unused = All-contains (Holds c) (stated c) (UnusedCable name) (all_hold c) told in
+unused_cable : (n : ℕ) (c : ScenarioData) (ws : List Warning) → AreWarnings n c ws → (name : List ℕ) → Contains ws (UnusedCable name)
+    → plan_of (without_cable name c) ≡ plan_of c
+unused_cable n c ws told name warned =
+    let unused = All-contains (Holds c) ws (UnusedCable name) (all_hold n c ws told) warned in
     plan_alike c (without_cable name c).cables c.sinks
     (λ port. events_alike _ c.sinks c.cables c.sinks port (has_cable name) (cable_seen c.cables c.sinks name port) c.events unused)
 
-unused_sink : (c : ScenarioData) (name : List ℕ) → Contains (stated c) (UnusedSink name) → plan_of (without_sink name c) ≡ plan_of c
-unused_sink c name told =
-    let unused = All-contains (Holds c) (stated c) (UnusedSink name) (all_hold c) told in
+unused_sink : (n : ℕ) (c : ScenarioData) (ws : List Warning) → AreWarnings n c ws → (name : List ℕ) → Contains ws (UnusedSink name)
+    → plan_of (without_sink name c) ≡ plan_of c
+unused_sink n c ws told name warned =
+    let unused = All-contains (Holds c) ws (UnusedSink name) (all_hold n c ws told) warned in
     plan_alike c c.cables (without_sink name c).sinks
     (λ port. events_alike c.cables _ c.cables c.sinks port (has_sink name) (sink_seen c.cables c.sinks name port) c.events unused)
 

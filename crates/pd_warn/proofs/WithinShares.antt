@@ -28,7 +28,7 @@ use Rattle.pd_run.proofs.Awaited.{floor_at, length-floors, sum-below}
 use Rattle.pd_run.proofs.Moves.{standing-other, standing-same}
 use Rattle.pd_run.proofs.Steps.{hold_known, length-holds_after}
 use Rattle.pd_warn.specs.declared.warning.Warning.TheVariants.{SmallShare}
-use Rattle.pd_warn.specs.Stated.{budget_by, greatest_budget, share_of, stated}
+use Rattle.pd_warn.specs.Stated.{budget_by, greatest_budget, share_of}
 use Rattle.pd_warn.specs.Truth.{IsOfferWithin, KeepsWithin, SharesAreNeverPassed}
 use Rattle.pd_warn.proofs.Greatest.{each_within, first_within, force_within}
 use Rattle.pd_warn.proofs.Told.{Holds, IsShare, all_hold}
@@ -216,10 +216,11 @@ all_moves n c p share past (m ∷ ms) rest is told goes answers timely h =
     (one_move n c p share past m is told goes.0 answers.0 (omega (arith, timely.0, end_is c)) h))
 
 pub shares_are_never_passed : SharesAreNeverPassed
-shares_are_never_passed n c moves is safe p share warned done rest e =
+shares_are_never_passed n c ws is warnings p share warned done rest e =
     let plan = plan_of c in
-    let run = safe.run in
-    let told : Told c p share = told_of c p share (All-contains (Holds c) (stated c) (SmallShare (p + 1) share) (all_hold c) warned) in
+    let run = warnings.safe.run in
+    let told : Told c p share =
+    told_of c p share (All-contains (Holds c) ws (SmallShare (p + 1) share) (all_hold n c ws warnings) warned) in
     all_moves n c p share [] done rest is told (subst (EachAfter (GoesOn plan) []) e run.chained)
     (subst (EachAfter (IsAnswered plan) []) e run.answered)
     (subst (EachAfter (λ _ m. m.due.time ≤ plan.end) []) e run.timely)

@@ -20,12 +20,13 @@ use Rattle.pd_scenario.specs.Plans.{plan_of}
 use Rattle.pd_scenario.specs.Scenarios.{IsValid, ScenarioData}
 use Rattle.pd_scenario.specs.Script.{event_for}
 use Rattle.pd_run.specs.Run.{GoesOn, Move, after, standing}
-use Rattle.pd_run.specs.Shown.{SafeRun}
 use Rattle.pd_watch.specs.Watch.{is_ignored}
 use Rattle.pd_warn.specs.declared.warning.Why.{Why}
 use Rattle.pd_warn.specs.declared.warning.Why.TheVariants.{Attached, Detached, Full, SinkNotReady, SourceNotReady}
+use Rattle.pd_warn.specs.declared.warning.Warning.{Warning}
 use Rattle.pd_warn.specs.declared.warning.Warning.TheVariants.{AfterEnd, SmallShare, UnusedCable, UnusedSink}
-use Rattle.pd_warn.specs.Stated.{budget_by, greatest_budget, stated}
+use Rattle.pd_warn.specs.Stated.{budget_by, greatest_budget}
+use Rattle.pd_warn.specs.Warnings.{AreWarnings}
 use Rattle.pd_warn.specs.Watch.{why_of}
 
 -- ---- an event that is ignored
@@ -78,8 +79,8 @@ pub record IsOfEvent (c : ScenarioData) (m : Move) (e : ScenarioEvent) : Type 0 
 -- no move of the scenario's run is for an event that is told to be after the end
 abbrev pub LateEventsNeverHappen : Type 0
 LateEventsNeverHappen =
-    (c : ScenarioData) (moves : List Move) → SafeRun (plan_of c) moves → (e : ScenarioEvent)
-    → Contains (stated c) (AfterEnd e.id e.at c.end_us) → All (λ m. IsOfEvent c m e → ⊥) moves
+    (n : ℕ) (c : ScenarioData) (ws : List Warning) (told : AreWarnings n c ws) (e : ScenarioEvent)
+    → Contains ws (AfterEnd e.id e.at c.end_us) → All (λ m. IsOfEvent c m e → ⊥) told.moves
 
 -- ---- a name that nothing uses
 
@@ -91,8 +92,10 @@ without_sink name c = record c { sinks = filter (λ (sink : NamedSink). not (byt
 
 -- Without a cable or a sink that is told to be unused the scenario has the same plan, and so the same run.
 pub record UnusedNamesChangeNothing : Type 0 where
-  pub cables : (c : ScenarioData) (name : List ℕ) → Contains (stated c) (UnusedCable name) → plan_of (without_cable name c) ≡ plan_of c
-  pub sinks : (c : ScenarioData) (name : List ℕ) → Contains (stated c) (UnusedSink name) → plan_of (without_sink name c) ≡ plan_of c
+  pub cables : (n : ℕ) (c : ScenarioData) (ws : List Warning) → AreWarnings n c ws → (name : List ℕ) → Contains ws (UnusedCable name)
+      → plan_of (without_cable name c) ≡ plan_of c
+  pub sinks : (n : ℕ) (c : ScenarioData) (ws : List Warning) → AreWarnings n c ws → (name : List ℕ) → Contains ws (UnusedSink name)
+      → plan_of (without_sink name c) ≡ plan_of c
 
 -- ---- a share that is too small
 
@@ -123,6 +126,6 @@ pub record KeepsWithin (share : ℕ) (s : SettingsData) (r : PortRecord) : Type 
 -- At each place of the scenario's run a port keeps within the share that is told of it; ports are numbered from 0 here.
 abbrev pub SharesAreNeverPassed : Type 0
 SharesAreNeverPassed =
-    (n : ℕ) (c : ScenarioData) (moves : List Move) → IsValid n c → SafeRun (plan_of c) moves → (p share : ℕ)
-    → Contains (stated c) (SmallShare (p + 1) share) → (done rest : List Move) → moves ≡ done ++ rest
+    (n : ℕ) (c : ScenarioData) (ws : List Warning) → IsValid n c → (told : AreWarnings n c ws) (p share : ℕ)
+    → Contains ws (SmallShare (p + 1) share) → (done rest : List Move) → told.moves ≡ done ++ rest
     → KeepsWithin share (settings_of (plan_of c) p) (standing (plan_of c) done p).state
