@@ -1,5 +1,5 @@
--- An event that is ignored does nothing.
-use Rattle.std.proofs.Common.{◌≡◌, ℕ, nat_lt, Bool, true, false, if◌then◌else◌, [], ◌∷◌, ◌++◌, length, Option, None, Some}
+-- A move whose event is ignored does nothing.
+use Rattle.std.proofs.Common.{◌≡◌, ℕ, nat_lt, Bool, true, false, if◌then◌else◌, List, [], ◌∷◌, ◌++◌, length, Option, None, Some}
 use Rattle.std.proofs.Common.{is_some, refl, sym, ap, ◌∙◌, subst, arith}
 use Rattle.std.proofs.lemmas.Bool.Decides.{nat_tests}
 use Rattle.pd_objects.specs.declared.contract.Contract.{Contract}
@@ -30,10 +30,11 @@ use Rattle.pd_port.specs.Changes.{contract_change, is_same_draw}
 use Rattle.pd_port.specs.Happens.{detaches, disturbs, gets_source, gets_sink, happens_attached, happens_detached, port_event_happens}
 use Rattle.pd_port.specs.Port.{PortRecord, ask, asks, entry_of, portstep, record_after, whole}
 use Rattle.pd_port.specs.SourceTold.{told_attached, told_detached}
-use Rattle.pd_scenario.specs.Plan.{settings_of}
+use Rattle.pd_scenario.specs.Plan.{Plan, settings_of}
+use Rattle.pd_run.specs.Run.{GoesOn, Move}
 use Rattle.pd_watch.specs.Watch.{is_ignored}
 use Rattle.pd_watch.proofs.Keeps.{attach_view, sink_same, source_same}
-use Rattle.pd_warn.specs.Truth.{IgnoredEventsDoNothing}
+use Rattle.pd_warn.specs.Truth.{DoesNothing, IsFor}
 use Rattle.pd_warn.proofs.Settled.{IsSettledPort, before_settled, settled_stays}
 use Rattle.pd_warn.proofs.Whys.{EndsIgnored, first, not_ignored, view_of}
 
@@ -158,8 +159,10 @@ unfolding entry_of portstep
 leaves_step s r given time at id kind settled said =
     note_leaves s r given time at id kind settled (kind_note s r given time id kind (is_some r.cable) said)
 
-pub ignored_events_do_nothing : IgnoredEventsDoNothing
-ignored_events_do_nothing plan past m g at id kind is said =
+-- a move whose event is ignored does nothing
+pub does_nothing : (plan : Plan) (past : List Move) (m : Move) → GoesOn plan past m → (at id : ℕ) (kind : PortEventKind)
+    → IsFor m at id kind → is_ignored m.entry ≡ true → DoesNothing plan m id
+does_nothing plan past m g at id kind is said =
     let s = settings_of plan m.port in
     let d : Due = due_of m.due.time at id kind in
     let due_is : m.due ≡ d = ap (λ (x : What). let y : Due = record { time = m.due.time; what = x } in y) is in

@@ -15,7 +15,7 @@ use Rattle.pd_run.specs.Order.{EachAfter}
 use Rattle.pd_run.specs.Run.{GoesOn, Move, standing}
 use Rattle.pd_warn.specs.declared.warning.Warning.TheVariants.{AfterEnd}
 use Rattle.pd_warn.specs.Truth.{IsOfEvent, LateEventsNeverHappen}
-use Rattle.pd_warn.proofs.Told.{Holds, all_hold}
+use Rattle.pd_warn.proofs.OfRun.{IsSo, all_so}
 
 end_is : (c : ScenarioData) → (plan_of c).end ≡ c.end_us
 unfolding plan_of
@@ -49,6 +49,6 @@ none_of plan c e past (m ∷ ms) late goes timely =
 
 pub late_events_never_happen : LateEventsNeverHappen
 late_events_never_happen n c ws told e warned =
-    let late : c.end_us < e.at = All-contains (Holds c) ws (AfterEnd e.id e.at c.end_us) (all_hold n c ws told) warned in
+    let late : c.end_us < e.at = All-contains (IsSo c) ws (AfterEnd e.id e.at c.end_us) (all_so n c ws told) warned in
     let run = told.safe.run in
     none_of (plan_of c) c e [] told.moves (omega (arith, end_is c)) run.chained run.timely

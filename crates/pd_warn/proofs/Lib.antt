@@ -2,6 +2,7 @@ pub mod Greatest
 pub mod Ignored
 pub mod Late
 pub mod Numbered
+pub mod OfRun
 pub mod Settled
 pub mod Steps
 pub mod Told

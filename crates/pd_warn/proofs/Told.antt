@@ -1,30 +1,18 @@
 -- What stands behind each warning.
-use Rattle.std.proofs.Common.{◌≡◌, ℕ, suc, ◌+◌, ◌<◌, nat_lt, Bool, true, false, if◌then◌else◌, List, [], ◌∷◌, ◌++◌, length, map}
-use Rattle.std.proofs.Common.{Option, None, Some, refl, arith}
+use Rattle.std.proofs.Common.{◌≡◌, ℕ, suc, ◌+◌, ◌<◌, nat_lt, Bool, true, false, if◌then◌else◌, List, [], ◌∷◌, ◌++◌, length}
+use Rattle.std.proofs.Common.{refl, arith}
 use Rattle.std.specs.Prelude.{All, slice_index_or}
 use Rattle.std.specs.List.{flat_map, list_any}
 use Rattle.std.proofs.lemmas.Bool.Decides.{nat_tests}
-use Rattle.std.proofs.lemmas.List.Elements.{All-append, All-cons, All-map, All-nil, All-same, All-weaker}
+use Rattle.std.proofs.lemmas.List.Elements.{All-append, All-cons, All-nil, All-weaker}
 use Rattle.pd_setup.specs.Settings.{SettingsData}
-use Rattle.pd_setup.specs.Events.{PortEventKind}
-use Rattle.pd_setup.specs.declared.event.EventKind.TheVariants.{Attach, Detach, Demand, Lose, Damage, GetSource, GetSink}
-use Rattle.pd_setup.specs.declared.event.Happening.{Happening}
-use Rattle.pd_setup.specs.declared.event.Happening.TheVariants as happening
-use Rattle.pd_port.specs.declared.due.What.{What}
-use Rattle.pd_port.specs.declared.due.What.TheVariants as what
-use Rattle.pd_port.specs.declared.entry.Entry.{Entry}
 use Rattle.pd_scenario.specs.declared.event.ScenarioEvent.{ScenarioEvent}
 use Rattle.pd_scenario.specs.Plan.{no_settings}
 use Rattle.pd_scenario.specs.Scenarios.{ScenarioData, floors_mw}
-use Rattle.pd_run.specs.Run.{shown}
-use Rattle.pd_watch.specs.declared.watch.Disturber.{Disturber}
-use Rattle.pd_watch.specs.Watch.{WatchData, after_step, after_steps, all_at_rest, is_ignored, watch_at}
 use Rattle.pd_warn.specs.declared.warning.Warning.{Warning}
-use Rattle.pd_warn.specs.declared.warning.Warning.TheVariants.{AfterEnd, Ignored, SmallShare, UnusedCable, UnusedSink}
+use Rattle.pd_warn.specs.declared.warning.Warning.TheVariants.{AfterEnd, SmallShare, UnusedCable, UnusedSink}
 use Rattle.pd_warn.specs.Stated.{cable_part, each_wants_more, greatest_budget, has_cable, has_sink, late_part, share_of, share_part}
 use Rattle.pd_warn.specs.Stated.{shares_part, sink_part, stated}
-use Rattle.pd_warn.specs.Warnings.{AreWarnings, left_part, run_part, step_part, steps_part}
-use Rattle.pd_warn.specs.Watch.{entry_part, happening_part, kind_part, unmet, what_part, why_of}
 
 -- a share is told of one of these ports, the first of which has this number
 pub record IsShare (budget_mw floors first : ℕ) (ss : List SettingsData) (port share : ℕ) : Type 0 where
@@ -33,14 +21,14 @@ pub record IsShare (budget_mw floors first : ℕ) (ss : List SettingsData) (port
   pub number : port ≡ first + place
   pub share_is : share ≡ share_of budget_mw floors (slice_index_or ss place no_settings)
 
--- what is so where a warning is told
+-- what is so where a warning of what the scenario says is told
 abbrev pub Holds : ScenarioData → Warning → Type 0
 Holds c (AfterEnd id at end) = end < at
 Holds c (UnusedCable name) = list_any (λ (e : ScenarioEvent). has_cable name e.happening) c.events ≡ false
 Holds c (UnusedSink name) = list_any (λ (e : ScenarioEvent). has_sink name e.happening) c.events ≡ false
 Holds c (SmallShare port share) =
     IsShare (greatest_budget c.budget_mw c.end_us c.events) (floors_mw c.settings) 1 c.settings port share
-Holds c _ = Unit {0}
+Holds c _ = ⊥
 
 abbrev pub AllHold : ScenarioData → List Warning → Type 0
 AllHold c ws = All (Holds c) ws
@@ -104,7 +92,7 @@ of_scenario : (c : ScenarioData) (w : Warning)
 of_scenario c (SmallShare port share) h = h
 of_scenario c _ h = absurd h
 
-stated_hold : (c : ScenarioData) → AllHold c (stated c)
+pub stated_hold : (c : ScenarioData) → AllHold c (stated c)
 unfolding stated
 stated_hold c =
     let budget = greatest_budget c.budget_mw c.end_us c.events in
@@ -117,61 +105,3 @@ stated_hold c =
     (All-append (Holds c) sinks shares (each c (sink_part c.events) c.sinks (λ sink. sink_hold c sink.name _ refl))
     (All-weaker (OfShares budget (floors_mw c.settings) 1 c.settings) (Holds c) (of_scenario c) shares
     (shares_hold budget (floors_mw c.settings) 1 c.settings))))
-
--- ---- what comes of the run
-
-unmet_hold : (c : ScenarioData) (port : ℕ) (until : Option ℕ) (ds : List Disturber) → AllHold c (map (unmet port until) ds)
-unmet_hold c port until ds = All-map (Holds c) (unmet port until) ds (λ k d lt. tt)
-
-kind_hold : (c : ScenarioData) (port : ℕ) (w : WatchData) (at id : ℕ) (ignored : Bool) (kind : PortEventKind)
-    → AllHold c (kind_part port w at id ignored kind)
-kind_hold c port w at id true kind = one c (Ignored id at port (why_of w.attached kind)) tt
-kind_hold c port w at id false Detach = unmet_hold c port (Some at) w.waiting
-kind_hold c port w at id false (Attach cable device) = All-nil (Holds c)
-kind_hold c port w at id false (Demand mw) = All-nil (Holds c)
-kind_hold c port w at id false Lose = All-nil (Holds c)
-kind_hold c port w at id false (Damage harm) = All-nil (Holds c)
-kind_hold c port w at id false GetSource = All-nil (Holds c)
-kind_hold c port w at id false GetSink = All-nil (Holds c)
-
-happening_hold : (c : ScenarioData) (port : ℕ) (w : WatchData) (at : ℕ) (ignored : Bool) (h : Happening)
-    → AllHold c (happening_part port w at ignored h)
-happening_hold c port w at ignored (happening.Port id kind) = kind_hold c port w at id ignored kind
-happening_hold c port w at ignored happening.Budget = All-nil (Holds c)
-
-what_hold : (c : ScenarioData) (port : ℕ) (w : WatchData) (at : ℕ) (ignored : Bool) (x : What)
-    → AllHold c (what_part port w at ignored x)
-what_hold c port w at ignored (what.Event e) = happening_hold c port w at ignored e.happening
-what_hold c port w at ignored what.Line = All-nil (Holds c)
-what_hold c port w at ignored (what.Timer side timer) = All-nil (Holds c)
-
-step_hold : (c : ScenarioData) (ws : List WatchData) (s : ℕ × Entry) → AllHold c (step_part ws s)
-unfolding step_part entry_part
-step_hold c ws (port, e) = what_hold c port (watch_at ws port) e.at (is_ignored e) e.due.what
-
-steps_hold : (c : ScenarioData) (ws : List WatchData) (steps : List (ℕ × Entry)) → AllHold c (steps_part ws steps)
-steps_hold c ws [] = All-nil (Holds c)
-steps_hold c ws (s ∷ steps) =
-    All-append (Holds c) (step_part ws s) (steps_part (after_step ws s) steps) (step_hold c ws s) (steps_hold c (after_step ws s) steps)
-
-left_hold : (c : ScenarioData) (port : ℕ) (ws : List WatchData) → AllHold c (left_part port ws)
-unfolding left_part
-left_hold c port [] = All-nil (Holds c)
-left_hold c port (w ∷ ws) =
-    All-append (Holds c) (map (unmet port None) w.waiting) (left_part (port + 1) ws) (unmet_hold c port None w.waiting)
-    (left_hold c (port + 1) ws)
-
-run_hold : (c : ScenarioData) (n : ℕ) (steps : List (ℕ × Entry)) → AllHold c (run_part n steps)
-unfolding run_part
-run_hold c n steps =
-    let left = left_part 1 (after_steps (all_at_rest n) steps) in
-    All-append (Holds c) (steps_part (all_at_rest n) steps) left (steps_hold c (all_at_rest n) steps)
-    (left_hold c 1 (after_steps (all_at_rest n) steps))
-
--- ---- all of it
-
-pub all_hold : (n : ℕ) (c : ScenarioData) (ws : List Warning) → AreWarnings n c ws → AllHold c ws
-all_hold n c ws told =
-    let run = run_part n (map shown told.moves) in
-    All-same (Holds c) ws (stated c ++ run) told.warnings_are
-    (All-append (Holds c) (stated c) run (stated_hold c) (run_hold c n (map shown told.moves)))

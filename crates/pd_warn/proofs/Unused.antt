@@ -24,7 +24,7 @@ use Rattle.pd_warn.specs.declared.warning.Warning.TheVariants.{UnusedCable, Unus
 use Rattle.pd_warn.specs.Stated.{has_cable, has_sink, kind_has_cable, kind_has_sink}
 use Rattle.pd_warn.specs.Truth.{UnusedNamesChangeNothing, without_cable, without_sink}
 use Rattle.pd_warn.specs.Warnings.{AreWarnings}
-use Rattle.pd_warn.proofs.Told.{Holds, all_hold}
+use Rattle.pd_warn.proofs.OfRun.{IsSo, all_so}
 
 -- ---- looking up another name
 
@@ -164,14 +164,14 @@ plan_alike c others more same =
 unused_cable : (n : ℕ) (c : ScenarioData) (ws : List Warning) → AreWarnings n c ws → (name : List ℕ) → Contains ws (UnusedCable name)
     → plan_of (without_cable name c) ≡ plan_of c
 unused_cable n c ws told name warned =
-    let unused = All-contains (Holds c) ws (UnusedCable name) (all_hold n c ws told) warned in
+    let unused = All-contains (IsSo c) ws (UnusedCable name) (all_so n c ws told) warned in
     plan_alike c (without_cable name c).cables c.sinks
     (λ port. events_alike _ c.sinks c.cables c.sinks port (has_cable name) (cable_seen c.cables c.sinks name port) c.events unused)
 
 unused_sink : (n : ℕ) (c : ScenarioData) (ws : List Warning) → AreWarnings n c ws → (name : List ℕ) → Contains ws (UnusedSink name)
     → plan_of (without_sink name c) ≡ plan_of c
 unused_sink n c ws told name warned =
-    let unused = All-contains (Holds c) ws (UnusedSink name) (all_hold n c ws told) warned in
+    let unused = All-contains (IsSo c) ws (UnusedSink name) (all_so n c ws told) warned in
     plan_alike c c.cables (without_sink name c).sinks
     (λ port. events_alike c.cables _ c.cables c.sinks port (has_sink name) (sink_seen c.cables c.sinks name port) c.events unused)
 

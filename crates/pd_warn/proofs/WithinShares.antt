@@ -31,7 +31,8 @@ use Rattle.pd_warn.specs.declared.warning.Warning.TheVariants.{SmallShare}
 use Rattle.pd_warn.specs.Stated.{budget_by, greatest_budget, share_of}
 use Rattle.pd_warn.specs.Truth.{IsOfferWithin, KeepsWithin, SharesAreNeverPassed}
 use Rattle.pd_warn.proofs.Greatest.{each_within, first_within, force_within}
-use Rattle.pd_warn.proofs.Told.{Holds, IsShare, all_hold}
+use Rattle.pd_warn.proofs.OfRun.{IsSo, all_so}
+use Rattle.pd_warn.proofs.Told.{IsShare}
 
 -- ---- one port: all that it holds covers the offer that it makes
 
@@ -220,7 +221,7 @@ shares_are_never_passed n c ws is warnings p share warned done rest e =
     let plan = plan_of c in
     let run = warnings.safe.run in
     let told : Told c p share =
-    told_of c p share (All-contains (Holds c) ws (SmallShare (p + 1) share) (all_hold n c ws warnings) warned) in
+    told_of c p share (All-contains (IsSo c) ws (SmallShare (p + 1) share) (all_so n c ws warnings) warned) in
     all_moves n c p share [] done rest is told (subst (EachAfter (GoesOn plan) []) e run.chained)
     (subst (EachAfter (IsAnswered plan) []) e run.answered)
     (subst (EachAfter (λ _ m. m.due.time ≤ plan.end) []) e run.timely)

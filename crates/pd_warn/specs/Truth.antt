@@ -24,7 +24,7 @@ use Rattle.pd_watch.specs.Watch.{is_ignored}
 use Rattle.pd_warn.specs.declared.warning.Why.{Why}
 use Rattle.pd_warn.specs.declared.warning.Why.TheVariants.{Attached, Detached, Full, SinkNotReady, SourceNotReady}
 use Rattle.pd_warn.specs.declared.warning.Warning.{Warning}
-use Rattle.pd_warn.specs.declared.warning.Warning.TheVariants.{AfterEnd, SmallShare, UnusedCable, UnusedSink}
+use Rattle.pd_warn.specs.declared.warning.Warning.TheVariants.{AfterEnd, Ignored, SmallShare, UnusedCable, UnusedSink}
 use Rattle.pd_warn.specs.Stated.{budget_by, greatest_budget}
 use Rattle.pd_warn.specs.Warnings.{AreWarnings}
 use Rattle.pd_warn.specs.Watch.{why_of}
@@ -62,11 +62,25 @@ pub record DoesNothing (plan : Plan) (m : Move) (id : ℕ) : Type 0 where
     start = None;
   }
 
--- a move whose event is ignored does nothing
+-- One of these moves is for the event of this id, at this time and on this port, which is numbered from 1 here; it does nothing, for
+-- this reason.
+pub record IsIgnored (plan : Plan) (moves : List Move) (id at port : ℕ) (why : Why) : Type 0 where
+  pub past : List Move
+  pub move : Move
+  pub rest : List Move
+  pub among : moves ≡ past ++ move ∷ rest
+  pub on_port : port ≡ move.port + 1
+  pub time : at ≡ move.due.time
+  pub kind : PortEventKind
+  pub is_for : IsFor move at id kind
+  pub nothing : DoesNothing plan move id
+  pub tells : Tells why move.before
+
+-- an event that is told to be ignored is so, and does nothing
 abbrev pub IgnoredEventsDoNothing : Type 0
 IgnoredEventsDoNothing =
-    (plan : Plan) (past : List Move) (m : Move) → GoesOn plan past m → (at id : ℕ) (kind : PortEventKind) → IsFor m at id kind
-    → is_ignored m.entry ≡ true → DoesNothing plan m id
+    (n : ℕ) (c : ScenarioData) (ws : List Warning) → IsValid n c → (told : AreWarnings n c ws) (id at port : ℕ) (why : Why)
+    → Contains ws (Ignored id at port why) → IsIgnored (plan_of c) told.moves id at port why
 
 -- ---- an event after the end
 

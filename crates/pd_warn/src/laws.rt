@@ -9,7 +9,8 @@ pub fn whys_are_true()
     ensures { WhysAreTrue }
 {}
 
-/// An event that is ignored leaves its port as it was, and nothing comes of it but the note that it is ignored.
+/// An event that is told to be ignored is one of the run's: its move leaves its port as it was, and nothing comes of it but the note
+/// that it is ignored.
 pub fn ignored_events_do_nothing()
     ensures { IgnoredEventsDoNothing }
 {}

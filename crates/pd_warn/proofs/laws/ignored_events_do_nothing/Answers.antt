@@ -1,4 +1,4 @@
-use Rattle.pd_warn.proofs.Ignored.{ignored_events_do_nothing}
+use Rattle.pd_warn.proofs.OfRun.{ignored_events_do_nothing}
 use Rattle.pd_warn.proofs.laws.ignored_events_do_nothing.Goals as goal
 
 pub returns : goal.returns
