@@ -24,6 +24,7 @@ use Rattle.pd_colon.specs.Diff.{diff_text}
 use Rattle.pd_colon.specs.Reports.{TellsDiff}
 use Rattle.pd_colon.specs.Reasons.{reasons_text}
 use Rattle.pd_reasons.specs.Reasons.{reason_of}
+use Rattle.pd_desk.specs.Help.{help_text}
 use Rattle.pd_desk.specs.Reasons.{as_line}
 use Rattle.pd_desk.specs.OwnFaults.{own_sentence}
 use Rattle.pd_desk.specs.declared.own.OwnFault.{OwnFault}
@@ -116,7 +117,7 @@ Saves n d (Some file) text = Reads n (file_text d.scenario) (Ok d.scenario) × (
 -- what is told for such a line, where nothing fails
 abbrev pub Tells : ℕ → Standing → Option Colon → Option (List ℕ) → List ℕ → Standing → Type 0
 Tells n d None file text d' = ⊥
-Tells n d (Some colon.Help) file text d' = d' ≡ d
+Tells n d (Some colon.Help) file text d' = (text ≡ help_text) × (d' ≡ d)
 Tells n d (Some colon.Listing) file text d' = Lists d.scenario text × (d' ≡ d)
 Tells n d (Some colon.Undo) file text d' = Undoes d text d'
 Tells n d (Some colon.Diff) file text d' = TellsChanges d text × (d' ≡ d)

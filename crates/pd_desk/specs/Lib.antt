@@ -1,6 +1,7 @@
 pub mod Bytes
 pub mod Desk
 pub mod Ends
+pub mod Help
 pub mod Laws
 pub mod Live
 pub mod OwnFaults

@@ -4,6 +4,7 @@
 mod answers;
 mod byte_in;
 mod desk;
+mod help;
 pub mod laws;
 mod line_in;
 mod lines;

@@ -17,6 +17,7 @@ ghost use Rattle.pd_desk.specs.declared.own.OwnFault.TheVariants.{Memory as memo
 
 use crate::Shelf;
 use crate::desk::Desk;
+use crate::help::help_text;
 use pd_colon::{Colon, file_of, push_diff, run_diff, why_port};
 use pd_list::list_scenario;
 use pd_port::Meter;
@@ -66,19 +67,6 @@ impl OwnFault {
         }
     }
 }
-
-/// What there is.
-const HELP: &[u8] = b"= help
-:list            the scenario as edit lines: settings, cables, sinks, and events by their time
-:undo            takes back the last accepted edit, and says which of these lines that changes;
-                 again and again, for the last 100 edits
-:diff            lines of contracts, faults and margins that the last accepted edit took away (-)
-                 and brought (+)
-:why PORT [AT]   what bounds a port: its last offer, or each one up to a time in microseconds
-:save FILE       writes the scenario to a file, which reads back as the same
-:help            this
-insert, remove, move, change, cable, sink, caps, floor, budget, end and show are lines of edit scripts
-";
 
 /// What changes where an earlier scenario stands again, which it does from now on in the runner.
 fn step_back<const N: usize, T: Runner<N>>(
@@ -225,7 +213,7 @@ pub(crate) fn own_text<const N: usize, T: Runner<N>, S: Shelf>(
 {
     match Colon::read(line) {
         None => Err(OwnFault::Unknown),
-        Some(Colon::Help) => Ok(Vec::from_slice(alloc, HELP)?),
+        Some(Colon::Help) => Ok(help_text(alloc)?),
         Some(Colon::Listing) => Ok(list_scenario(alloc, &desk.state.scenario)?),
         Some(Colon::Undo) => undo(alloc, desk, runner, meter),
         Some(Colon::Diff) => diff(alloc, desk, meter),
