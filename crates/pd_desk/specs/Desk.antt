@@ -49,9 +49,9 @@ at_first s = standing s [] no_lines
 abbrev pub with_last : List ScenarioData → ScenarioData → List ScenarioData
 with_last earlier s = (if nat_lt (length earlier) 100 then earlier else drop 1 earlier) ++ s ∷ []
 
--- An accepted edit can be taken back; without memory for that, none can.
+-- An accepted edit is remembered, so that it can be taken back, and no other line is.
 abbrev pub Remembers : Outcome → ScenarioData → List ScenarioData → List ScenarioData → Type 0
-Remembers Accepted s earlier earlier' = (earlier' ≡ with_last earlier s) ⊎ (earlier' ≡ [])
+Remembers Accepted s earlier earlier' = earlier' ≡ with_last earlier s
 Remembers Skipped s earlier earlier' = earlier' ≡ earlier
 Remembers Refused s earlier earlier' = earlier' ≡ earlier
 Remembers Shown s earlier earlier' = earlier' ≡ earlier

@@ -1,6 +1,6 @@
 //! What a desk has come to, and its answers to the lines of sessions.
 
-ghost use Rattle.std.specs.Prelude.{◌≡◌, ◌⊎◌, ◌+◌, ◌<◌, ◌≤◌, ◌^◌, List, [], ℕ, Ok, Some, IfOk};
+ghost use Rattle.std.specs.Prelude.{◌≡◌, ◌+◌, ◌<◌, ◌≤◌, ◌^◌, List, ℕ, Ok, Some, IfOk, vec_len, vec_capacity};
 ghost use Rattle.pd_edit_lines.specs.Grammar.{line_of};
 ghost use Rattle.pd_edit_lines.specs.declared.line.Line.TheVariants as lines_read;
 ghost use Rattle.pd_edit.specs.Refusals.{edited};
@@ -34,16 +34,15 @@ pub(crate) struct Desk<const N: usize> {
     pub earlier: Vec<Scenario<N>>,
 }
 
-/// Keeps a scenario, so that it can stand again; without memory, none is kept any more.
+/// Keeps a scenario, for which there is room, so that it can stand again. Of those before it the last 99 are left.
 fn remember<const N: usize>(earlier: &mut Vec<Scenario<N>>, before: Scenario<N>)
-    ensures { (earlier.new.items ≡ with_last earlier.old.items before.entry) ⊎ (earlier.new.items ≡ []) }
+    requires { vec_len earlier.old < vec_capacity earlier.old }
+    ensures { earlier.new.items ≡ with_last earlier.old.items before.entry }
 {
     if earlier.len() >= MOST_EARLIER {
         let _ = earlier.remove(0);
     }
-    if earlier.push(before).is_err() {
-        earlier.clear();
-    }
+    earlier.push_reserved(before);
 }
 
 /// Refuses a line.
@@ -65,7 +64,8 @@ fn refuse_line<const N: usize, W: TextOut>(
     Ok(Some(fault))
 }
 
-/// Answers an edit, and keeps the scenario before it. Answers why it is refused, where it is.
+/// Answers an edit, and keeps the scenario before it; without room for that it isn't made. Answers why it is refused, where
+/// it is.
 fn change<const N: usize, T: Runner<N>, W: TextOut>(
     alloc: Global,
     edit: &Edit,
@@ -88,6 +88,9 @@ fn change<const N: usize, T: Runner<N>, W: TextOut>(
         Ok(edited) => edited,
         Err(fault) => return refuse_line(fault, desk, writer),
     };
+    if desk.earlier.reserve(1).is_err() {
+        return refuse_line(EditFault::Memory, desk, writer);
+    }
     if runner.replace(alloc, &edited, meter).is_err() {
         return refuse_line(EditFault::Memory, desk, writer);
     }
