@@ -16,7 +16,8 @@ use Rattle.pd_bench.specs.Traces.{HasNoLineFeed, ended}
 use Rattle.pd_bench.proofs.SessionLemmas.{some_answers, Replies-from_answers}
 use Rattle.pd_bench.proofs.TakenOut.{lines_can_be_taken_out}
 use Rattle.pd_colon.specs.Commands.{is_colon}
-use Rattle.pd_desk.specs.Desk.{DeskReply, DeskReplies, Becomes, Standing, at_first}
+use Rattle.pd_desk.specs.Desk.{DeskReply, DeskReplies, Becomes, WithShelf, at_first}
+use Rattle.pd_desk.specs.Shelf.{Shelved}
 use Rattle.pd_desk.specs.Ends.{Beside, DeskText, DeskDone, DeskStopped, DeskCut}
 use Rattle.pd_desk.specs.Laws.{NoneIsOwn, DeskIsSession}
 use Rattle.pd_desk.proofs.Joins.{lines-open}
@@ -24,18 +25,18 @@ use Rattle.pd_desk.proofs.Joins.{lines-open}
 no_costs : Costs
 no_costs = λ old plan n. Unit {0}
 
-becomes : (n : ℕ) (d : Standing) (line reply told : List ℕ) (d' : Standing) → is_colon line ≡ false → DeskReply n d line reply told d' →
-    (outcome : Outcome) × Becomes n d (line_of line) outcome reply d'
-becomes n d line reply told d' other is = let own = rw other at is in (own.0, own.1)
+becomes : (n : ℕ) (d : WithShelf) (line reply told : List ℕ) (d' : WithShelf) → is_colon line ≡ false → DeskReply n d line reply told d' →
+    (outcome : Outcome) × Becomes n d.desk (line_of line) outcome reply d'.desk
+becomes n d line reply told d' other is = let own = rw other at is in (own.0.0, own.0.1)
 
 -- such lines, and then others of the session
-as_replies : (n : ℕ) (d : Standing) (ls : List (List ℕ)) (text : List ℕ) (tolds : List (List ℕ)) (d' : Standing)
+as_replies : (n : ℕ) (d : WithShelf) (ls : List (List ℕ)) (text : List ℕ) (tolds : List (List ℕ)) (d' : WithShelf)
     (ls' : List (List ℕ)) (text' : List ℕ) (outcomes' : List Outcome)
-    → All (λ line. is_colon line ≡ false) ls → DeskReplies n d ls text tolds d' → Replies n d'.scenario ls' text' outcomes'
-    → (outcomes : List Outcome) × Replies n d.scenario (ls ++ ls') (text ++ text') outcomes
-    × (fold counted d.tally outcomes ≡ fold counted d'.tally outcomes')
+    → All (λ line. is_colon line ≡ false) ls → DeskReplies n d ls text tolds d' → Replies n d'.desk.scenario ls' text' outcomes'
+    → (outcomes : List Outcome) × Replies n d.desk.scenario (ls ++ ls') (text ++ text') outcomes
+    × (fold counted d.desk.tally outcomes ≡ fold counted d'.desk.tally outcomes')
 as_replies n d [] text tolds d' ls' text' outcomes' others (text_is, tolds_are, same) replies =
-    (outcomes', rw text_is (rw same at replies), ap (λ (u : Standing). fold counted u.tally outcomes') (sym same))
+    (outcomes', rw text_is (rw same at replies), ap (λ (u : WithShelf). fold counted u.desk.tally outcomes') (sym same))
 as_replies n d (line ∷ more) text tolds d' ls' text' outcomes' others
     (reply, told, rest, later, next, is, text_is, tolds_are, desk_replies) replies =
     let one = becomes n d line reply told next (All-head (λ line. is_colon line ≡ false) line more others) is in
@@ -45,7 +46,7 @@ as_replies n d (line ∷ more) text tolds d' ls' text' outcomes' others
       (
         reply,
         rest ++ text',
-        next.scenario,
+        next.desk.scenario,
         one.0,
         after.0,
         one.1.0,
@@ -56,10 +57,10 @@ as_replies n d (line ∷ more) text tolds d' ls' text' outcomes' others
       ap (λ (u : Tally). fold counted u after.0) (sym one.1.1) ∙ after.2,
     )
 
-as_session : (n : ℕ) (s : ScenarioData) (bytes text : List ℕ) (tolds : List (List ℕ)) (tally : Tally) → NoneIsOwn bytes →
-    DeskText n s bytes text tolds tally → Session n s bytes text tally
-as_session n s bytes text tolds tally others desk =
-    let all = as_replies n (at_first s) (lines bytes) desk.replies tolds desk.after [] [] [] others desk.are_replies (refl, refl) in
+as_session : (n : ℕ) (s : ScenarioData) (shelf : Shelved) (bytes text : List ℕ) (tolds : List (List ℕ)) (shelf' : Shelved) (tally : Tally) →
+    NoneIsOwn bytes → DeskText n s shelf bytes text tolds shelf' tally → Session n s bytes text tally
+as_session n s shelf bytes text tolds shelf' tally others desk =
+    let all = as_replies n (at_first s shelf) (lines bytes) desk.replies tolds desk.after [] [] [] others desk.are_replies (refl, refl) in
     record {
       replies = desk.replies;
       outcomes = all.0;
@@ -75,18 +76,19 @@ All-front (x ∷ xs) ys h =
     (All-front xs ys (All-tail (λ line. is_colon line ≡ false) x (xs ++ ys) h))
 
 -- whatever comes after
-begins_session : {n : ℕ} {left left' taken taken' : Option (List ℕ)} {w w' : Beside} {s : ScenarioData} {count : ℕ}
-    (stopped : DeskStopped n left left' taken taken' w w' s count) → NoneIsOwn (ended stopped.whole ++ stopped.open_yet) →
+begins_session : {n : ℕ} {left left' taken taken' : Option (List ℕ)} {w w' : Beside} {shelf shelf' : Shelved} {s : ScenarioData}
+    {count : ℕ}
+    (stopped : DeskStopped n left left' taken taken' w w' shelf shelf' s count) → NoneIsOwn (ended stopped.whole ++ stopped.open_yet) →
     (more : List ℕ) → BeginsSession n s ((ended stopped.whole ++ stopped.open_yet) ++ more) stopped.out
-begins_session {n} {s = s} stopped others more =
+begins_session {n} {shelf = shelf} {s = s} stopped others more =
     let front = All-front (map strip_carriage_return stopped.whole) (lines stopped.open_yet)
     (rw (lines-open stopped.whole stopped.open_yet stopped.are_whole) at others) in
     let d = stopped.after in
-    let rest = some_answers no_costs n d.scenario stopped.run (so_far d.tally 0) (lines (stopped.open_yet ++ more)) in
+    let rest = some_answers no_costs n d.desk.scenario stopped.run (so_far d.desk.tally 0) (lines (stopped.open_yet ++ more)) in
     let replies =
-    Replies-from_answers no_costs n d.scenario (so_far d.tally 0) (lines (stopped.open_yet ++ more)) rest.0 rest.1 rest.2 in
+    Replies-from_answers no_costs n d.desk.scenario (so_far d.desk.tally 0) (lines (stopped.open_yet ++ more)) rest.0 rest.1 rest.2 in
     let all =
-    as_replies n (at_first s) (map strip_carriage_return stopped.whole) stopped.out stopped.tolds stopped.after
+    as_replies n (at_first s shelf) (map strip_carriage_return stopped.whole) stopped.out stopped.tolds stopped.after
     (lines (stopped.open_yet ++ more)) replies.0 replies.1 front stopped.are_replies replies.2 in
     record {
       text = (stopped.out ++ replies.0) ++ done_text rest.1.tally;
@@ -105,10 +107,11 @@ begins_session {n} {s = s} stopped others more =
       begins = (replies.0 ++ done_text rest.1.tally, append_assoc stopped.out replies.0 (done_text rest.1.tally));
     }
 
-session_stopped : (n : ℕ) (left left' taken taken' : Option (List ℕ)) (w w' : Beside) (s : ScenarioData) (count : ℕ)
-    (stopped : DeskStopped n left left' taken taken' w w' s count) → NoneIsOwn (ended stopped.whole ++ stopped.open_yet) →
+session_stopped : (n : ℕ) (left left' taken taken' : Option (List ℕ)) (w w' : Beside) (shelf shelf' : Shelved)
+    (s : ScenarioData) (count : ℕ)
+    (stopped : DeskStopped n left left' taken taken' w w' shelf shelf' s count) → NoneIsOwn (ended stopped.whole ++ stopped.open_yet) →
     SessionStopped n left left' taken taken' s count
-session_stopped n left left' taken taken' w w' s count stopped others = record {
+session_stopped n left left' taken taken' w w' shelf shelf' s count stopped others = record {
   bytes = ended stopped.whole ++ stopped.open_yet;
   consumes = stopped.consumes;
   counts = stopped.counts;
@@ -118,18 +121,18 @@ session_stopped n left left' taken taken' w w' s count stopped others = record {
 }
 
 pub desk_is_session : DeskIsSession
-desk_is_session n (Ok tally) left left' taken taken' w w' s ends others = record {
+desk_is_session n (Ok tally) left left' taken taken' w w' shelf shelf' s ends others = record {
   bytes = ends.bytes;
   consumes = ends.consumes;
   at_end = ends.at_end;
   few = ends.few;
   out = ends.out;
   appends = ends.appends;
-  session = as_session n s ends.bytes ends.out ends.tolds tally others ends.text;
+  session = as_session n s shelf ends.bytes ends.out ends.tolds shelf' tally others ends.text;
 }
-desk_is_session n (Err ReadFailed) left left' taken taken' w w' s (count, few, stopped) others =
-    (count, few, session_stopped n left left' taken taken' w w' s count stopped others)
-desk_is_session n (Err WriteFailed) left left' taken taken' w w' s ends others = record {
+desk_is_session n (Err ReadFailed) left left' taken taken' w w' shelf shelf' s (count, few, stopped) others =
+    (count, few, session_stopped n left left' taken taken' w w' shelf shelf' s count stopped others)
+desk_is_session n (Err WriteFailed) left left' taken taken' w w' shelf shelf' s ends others = record {
   bytes = ends.bytes;
   consumes = ends.consumes;
   few = ends.few;
@@ -138,10 +141,10 @@ desk_is_session n (Err WriteFailed) left left' taken taken' w w' s ends others =
   begins = record {
     text = ends.whole;
     tally = ends.tally;
-    session = as_session n s ends.bytes ends.whole (ends.tolds ++ ends.later) ends.tally others ends.text;
+    session = as_session n s shelf ends.bytes ends.whole (ends.tolds ++ ends.later) shelf' ends.tally others ends.text;
     begins = ends.begins;
   };
 }
-desk_is_session n (Err Memory) left left' taken taken' w w' s ends others = (ends.0, ends.1)
-desk_is_session n (Err ReaderTooLong) left left' taken taken' w w' s ends others =
-    session_stopped n left left' taken taken' w w' s 16777217 ends others
+desk_is_session n (Err Memory) left left' taken taken' w w' shelf shelf' s ends others = (ends.0, ends.1)
+desk_is_session n (Err ReaderTooLong) left left' taken taken' w w' shelf shelf' s ends others =
+    session_stopped n left left' taken taken' w w' shelf shelf' s 16777217 ends others

@@ -22,20 +22,21 @@ use Rattle.pd_bench.specs.Stream.{IsRunning}
 use Rattle.pd_bench.specs.Traces.{HasNoLineFeed, ended}
 use Rattle.pd_bench.proofs.PendingLemmas.{empty-kept, lines-last}
 use Rattle.pd_bench.proofs.TakenOut.{lines_can_be_taken_out}
-use Rattle.pd_desk.specs.Desk.{DeskReply, DeskReplies, Standing, at_first}
+use Rattle.pd_desk.specs.Desk.{DeskReply, DeskReplies, WithShelf, at_first}
 use Rattle.pd_desk.specs.Ends.{Beside, GoesOut, GoOut, ToldAfter, DeskText, DeskDone, DeskStopped, DeskCut, DeskEnds}
+use Rattle.pd_desk.specs.Shelf.{Shelved}
 use Rattle.pd_desk.specs.Taking.{TakingLine, TookLine, TookLast, StopsAt, Answering, AnsweredEnded, last_line, FinishedAll, FinishedSome}
 use Rattle.pd_desk.proofs.DeskLemmas.{writes_after}
 use Rattle.pd_desk.proofs.Kept.{DeskReply-kept, DeskReply-cut}
 
 -- 1. Replies, and what is told beside them
 
-DeskReplies-one : (n : ℕ) (d : Standing) (line reply told : List ℕ) (d' : Standing) → DeskReply n d line reply told d' →
+DeskReplies-one : (n : ℕ) (d : WithShelf) (line reply told : List ℕ) (d' : WithShelf) → DeskReply n d line reply told d' →
     DeskReplies n d (line ∷ []) reply (told ∷ []) d'
 DeskReplies-one n d line reply told d' h = (reply, told, [], [], d', h, sym (append-nil reply), refl, (refl, refl, refl))
 
-DeskReplies-append : (n : ℕ) (d : Standing) (ls : List (List ℕ)) (text : List ℕ) (tolds : List (List ℕ)) (d' : Standing)
-    (ls' : List (List ℕ)) (text' : List ℕ) (tolds' : List (List ℕ)) (d'' : Standing)
+DeskReplies-append : (n : ℕ) (d : WithShelf) (ls : List (List ℕ)) (text : List ℕ) (tolds : List (List ℕ)) (d' : WithShelf)
+    (ls' : List (List ℕ)) (text' : List ℕ) (tolds' : List (List ℕ)) (d'' : WithShelf)
     → DeskReplies n d ls text tolds d' → DeskReplies n d' ls' text' tolds' d'' →
     DeskReplies n d (ls ++ ls') (text ++ text') (tolds ++ tolds') d''
 DeskReplies-append n d [] text tolds d' ls' text' tolds' d'' (text_is, tolds_are, same) second =
@@ -72,7 +73,7 @@ pub lines-open : (whole : List (List ℕ)) (rest : List ℕ) → All HasNoLineFe
     lines (ended whole ++ rest) ≡ map strip_carriage_return whole ++ lines rest
 lines-open whole rest h = (lines_can_be_taken_out.ended_line whole [] rest h (λ i x within. absurd (omega arith))).without_line
 
-last-replies : (n : ℕ) (d : Standing) (raw kept reply : List ℕ) (tolds : List (List ℕ)) (d' : Standing) → IsPending raw kept →
+last-replies : (n : ℕ) (d : WithShelf) (raw kept reply : List ℕ) (tolds : List (List ℕ)) (d' : WithShelf) → IsPending raw kept →
     DeskReplies n d (last_line kept) reply tolds d' → DeskReplies n d (lines raw) reply tolds d'
 last-replies n d raw [] reply tolds d' pending replies =
     let none : eqb (length raw) 0 ≡ true = empty-kept raw [] pending.stands in
@@ -93,11 +94,11 @@ last_line-none (byte ∷ more) none = absurd (omega arith)
 -- 3. The lines that line feeds end
 
 -- one line more, which was answered
-pub Answering-more : (n : ℕ) (a b c p q r : Option (List ℕ)) (w w' w'' : Beside) (s : ScenarioData) (d d' : Standing) (total total' : ℕ)
-    (kept reply told : List ℕ)
-    → Answering n a b p q w w' s d total → TookLine b c total total' kept → DeskReply n d kept reply told d' → Appends q r reply →
-    GoesOut told w' w'' → Answering n a c p r w w'' s d' total'
-Answering-more n a b c p q r w w' w'' s d d' total total' kept reply told so_far took replies appends goes =
+pub Answering-more : (n : ℕ) (a b c p q r : Option (List ℕ)) (w w' w'' : Beside) (shelf : Shelved) (s : ScenarioData)
+    (d d' : WithShelf) (total total' : ℕ) (kept reply told : List ℕ)
+    → Answering n a b p q w w' shelf s d total → TookLine b c total total' kept → DeskReply n d kept reply told d' → Appends q r reply →
+    GoesOut told w' w'' → Answering n a c p r w w'' shelf s d' total'
+Answering-more n a b c p q r w w' w'' shelf s d d' total total' kept reply told so_far took replies appends goes =
     let is = DeskReply-cut n d took.raw took.uncut reply told d' took.pending.stands (rw took.cut at replies) in
     record {
       whole = so_far.whole ++ took.raw ∷ [];
@@ -117,17 +118,17 @@ Answering-more n a b c p q r w w' w'' s d d' total total' kept reply told so_far
       tolds = so_far.tolds ++ told ∷ [];
       tells = GoOut-append so_far.tolds (told ∷ []) w w' w'' so_far.tells (GoOut-one told w' w'' goes);
       are_replies = rw (map-append strip_carriage_return so_far.whole (took.raw ∷ []))
-          (DeskReplies-append n (at_first s) (map strip_carriage_return so_far.whole) so_far.out so_far.tolds d
+          (DeskReplies-append n (at_first s shelf) (map strip_carriage_return so_far.whole) so_far.out so_far.tolds d
           (strip_carriage_return took.raw ∷ []) reply (told ∷ []) d' so_far.are_replies
           (DeskReplies-one n d (strip_carriage_return took.raw) reply told d' is));
     }
 
 -- reading ended within a line
-DeskStopped-from : (n : ℕ) (a b c p q : Option (List ℕ)) (w w' : Beside) (s : ScenarioData) (d : Standing) (total total' : ℕ)
-    (kept : List ℕ) (plan : Option Plan) (entries : List (ℕ × Entry))
-    → Answering n a b p q w w' s d total → TakingLine b c total total' kept → IsRunning plan entries d.scenario →
-    DeskStopped n a c p q w w' s total'
-DeskStopped-from n a b c p q w w' s d total total' kept plan entries so_far taking runs = record {
+DeskStopped-from : (n : ℕ) (a b c p q : Option (List ℕ)) (w w' : Beside) (shelf : Shelved) (s : ScenarioData) (d : WithShelf)
+    (total total' : ℕ) (kept : List ℕ) (plan : Option Plan) (entries : List (ℕ × Entry))
+    → Answering n a b p q w w' shelf s d total → TakingLine b c total total' kept → IsRunning plan entries d.desk.scenario →
+    DeskStopped n a c p q w w' shelf d.shelf s total'
+DeskStopped-from n a b c p q w w' shelf s d total total' kept plan entries so_far taking runs = record {
   whole = so_far.whole;
   open_yet = taking.raw;
   are_whole = so_far.are_whole;
@@ -140,28 +141,29 @@ DeskStopped-from n a b c p q w w' s d total total' kept plan entries so_far taki
   tells = so_far.tells;
   after = d;
   are_replies = so_far.are_replies;
+  shelf_is = refl;
   run = (entries, runs.1);
 }
 
-pub DeskEnds-stopped : (fault : BenchFault) (n : ℕ) (a b c p q : Option (List ℕ)) (w w' : Beside) (s : ScenarioData) (d : Standing)
-    (total total' : ℕ) (kept : List ℕ) (plan : Option Plan) (entries : List (ℕ × Entry))
-    → Answering n a b p q w w' s d total → TakingLine b c total total' kept × StopsAt fault total' → IsRunning plan entries d.scenario →
-    DeskEnds n (Err fault) a c p q w w' s
-DeskEnds-stopped ReadFailed n a b c p q w w' s d total total' kept plan entries so_far taking runs =
-    (total', taking.1, DeskStopped-from n a b c p q w w' s d total total' kept plan entries so_far taking.0 runs)
-DeskEnds-stopped WriteFailed n a b c p q w w' s d total total' kept plan entries so_far taking runs = absurd taking.1
-DeskEnds-stopped Memory n a b c p q w w' s d total total' kept plan entries so_far taking runs = absurd taking.1
-DeskEnds-stopped ReaderTooLong n a b c p q w w' s d total total' kept plan entries so_far taking runs =
-    rw taking.1 at (DeskStopped-from n a b c p q w w' s d total total' kept plan entries so_far taking.0 runs)
+pub DeskEnds-stopped : (fault : BenchFault) (n : ℕ) (a b c p q : Option (List ℕ)) (w w' : Beside) (shelf : Shelved) (s : ScenarioData)
+    (d : WithShelf) (total total' : ℕ) (kept : List ℕ) (plan : Option Plan) (entries : List (ℕ × Entry))
+    → Answering n a b p q w w' shelf s d total → TakingLine b c total total' kept × StopsAt fault total' →
+    IsRunning plan entries d.desk.scenario → DeskEnds n (Err fault) a c p q w w' shelf d.shelf s
+DeskEnds-stopped ReadFailed n a b c p q w w' shelf s d total total' kept plan entries so_far taking runs =
+    (total', taking.1, DeskStopped-from n a b c p q w w' shelf s d total total' kept plan entries so_far taking.0 runs)
+DeskEnds-stopped WriteFailed n a b c p q w w' shelf s d total total' kept plan entries so_far taking runs = absurd taking.1
+DeskEnds-stopped Memory n a b c p q w w' shelf s d total total' kept plan entries so_far taking runs = absurd taking.1
+DeskEnds-stopped ReaderTooLong n a b c p q w w' shelf s d total total' kept plan entries so_far taking runs =
+    rw taking.1 at (DeskStopped-from n a b c p q w w' shelf s d total total' kept plan entries so_far taking.0 runs)
 
 -- the writer failed within the reply to a line
-pub DeskCut-line : (n : ℕ) (a b c p q r : Option (List ℕ)) (w w' : Beside) (s : ScenarioData) (d d' : Standing) (total total' : ℕ)
-    (kept reply told : List ℕ)
-    → Answering n a b p q w w' s d total → TookLine b c total total' kept → DeskReply n d kept reply told d' → WrotePart q r reply →
-    DeskCut n a c p r w w' s
-DeskCut-line n a b c p q r w w' s d d' total total' kept reply told so_far took replies wrote =
+pub DeskCut-line : (n : ℕ) (a b c p q r : Option (List ℕ)) (w w' : Beside) (shelf : Shelved) (s : ScenarioData)
+    (d d' : WithShelf) (total total' : ℕ) (kept reply told : List ℕ)
+    → Answering n a b p q w w' shelf s d total → TookLine b c total total' kept → DeskReply n d kept reply told d' → WrotePart q r reply →
+    DeskCut n a c p r w w' shelf d'.shelf s
+DeskCut-line n a b c p q r w w' shelf s d d' total total' kept reply told so_far took replies wrote =
     let is = DeskReply-cut n d took.raw took.uncut reply told d' took.pending.stands (rw took.cut at replies) in
-    let part = WrotePart-longer p r (so_far.out ++ reply) (done_text d'.tally)
+    let part = WrotePart-longer p r (so_far.out ++ reply) (done_text d'.desk.tally)
     (WrotePart-after p q r so_far.out reply so_far.appends wrote) in
     record {
       bytes = ended so_far.whole ++ (took.raw ++ 10 ∷ []);
@@ -179,15 +181,16 @@ DeskCut-line n a b c p q r w w' s d d' total total' kept reply told so_far took 
       tolds = so_far.tolds;
       later = told ∷ [];
       tells = so_far.tells;
-      whole = (so_far.out ++ reply) ++ done_text d'.tally;
-      tally = d'.tally;
+      whole = (so_far.out ++ reply) ++ done_text d'.desk.tally;
+      tally = d'.desk.tally;
       text = record {
         replies = so_far.out ++ reply;
         after = d';
         are_replies = rw ((lines_can_be_taken_out.ended_line so_far.whole took.raw [] so_far.are_whole took.pending.open_yet).with_line)
-            (DeskReplies-append n (at_first s) (map strip_carriage_return so_far.whole) so_far.out so_far.tolds d
+            (DeskReplies-append n (at_first s shelf) (map strip_carriage_return so_far.whole) so_far.out so_far.tolds d
             (strip_carriage_return took.raw ∷ []) reply (told ∷ []) d' so_far.are_replies
             (DeskReplies-one n d (strip_carriage_return took.raw) reply told d' is));
+        shelf_is = refl;
         tally_is = refl;
         text_is = refl;
       };
@@ -197,9 +200,9 @@ DeskCut-line n a b c p q r w w' s d d' total total' kept reply told so_far took 
 -- 4. The end
 
 -- the counts alone were to be written
-pub Finish-none : (n : ℕ) (told : Result (Unit {0}) BenchFault) (p q : Option (List ℕ)) (w : Beside) (d : Standing) (kept : List ℕ) →
-    length kept ≡ 0 → Writes p q told (done_text d.tally)
-    → MatchResult told (λ _. FinishedAll n p q w w d kept d) (λ fault. (fault ≡ WriteFailed) × FinishedSome n p q w w d kept)
+pub Finish-none : (n : ℕ) (told : Result (Unit {0}) BenchFault) (p q : Option (List ℕ)) (w : Beside) (d : WithShelf) (kept : List ℕ) →
+    length kept ≡ 0 → Writes p q told (done_text d.desk.tally)
+    → MatchResult told (λ _. FinishedAll n p q w w d kept d) (λ fault. (fault ≡ WriteFailed) × FinishedSome n p q w w d kept d.shelf)
 Finish-none n (Ok done) p q w d kept none writes = record {
   reply = [];
   appends = writes;
@@ -212,6 +215,7 @@ Finish-none n (Err fault) p q w d kept none writes = (
   record {
     reply = [];
     after = d;
+    shelf_is = refl;
     wrote = writes.1;
     tolds = [];
     later = [];
@@ -221,13 +225,13 @@ Finish-none n (Err fault) p q w d kept none writes = (
 )
 
 -- the last line was answered
-pub Finish-line : (n : ℕ) (told : Result (Unit {0}) BenchFault) (p q r : Option (List ℕ)) (w w' : Beside) (d d' : Standing) (kept reply
+pub Finish-line : (n : ℕ) (told : Result (Unit {0}) BenchFault) (p q r : Option (List ℕ)) (w w' : Beside) (d d' : WithShelf) (kept reply
     beside : List ℕ) → 0 < length kept → DeskReply n d kept reply beside d' → Appends p q reply → GoesOut beside w w' →
-    Writes q r told (done_text d'.tally)
-    → MatchResult told (λ _. FinishedAll n p r w w' d kept d') (λ fault. (fault ≡ WriteFailed) × FinishedSome n p r w w' d kept)
+    Writes q r told (done_text d'.desk.tally)
+    → MatchResult told (λ _. FinishedAll n p r w w' d kept d') (λ fault. (fault ≡ WriteFailed) × FinishedSome n p r w w' d kept d'.shelf)
 Finish-line n (Ok done) p q r w w' d d' kept reply beside some replies appends goes writes = record {
   reply = reply;
-  appends = Appends-trans p q r reply (done_text d'.tally) appends writes;
+  appends = Appends-trans p q r reply (done_text d'.desk.tally) appends writes;
   tolds = beside ∷ [];
   tells = GoOut-one beside w w' goes;
   are_replies = rw (last_line-some kept some) (DeskReplies-one n d kept reply beside d' replies);
@@ -237,7 +241,8 @@ Finish-line n (Err fault) p q r w w' d d' kept reply beside some replies appends
   record {
     reply = reply;
     after = d';
-    wrote = WrotePart-after p q r reply (done_text d'.tally) appends writes.1;
+    shelf_is = refl;
+    wrote = WrotePart-after p q r reply (done_text d'.desk.tally) appends writes.1;
     tolds = beside ∷ [];
     later = [];
     tells = GoOut-one beside w w' goes;
@@ -246,15 +251,16 @@ Finish-line n (Err fault) p q r w w' d d' kept reply beside some replies appends
 )
 
 -- the writer failed within the reply to the last line
-pub Finish-failed : (n : ℕ) (p q : Option (List ℕ)) (w w' : Beside) (d d' : Standing) (kept reply beside : List ℕ) (fault : BenchFault)
+pub Finish-failed : (n : ℕ) (p q : Option (List ℕ)) (w w' : Beside) (d d' : WithShelf) (kept reply beside : List ℕ) (fault : BenchFault)
     → 0 < length kept → DeskReply n d kept reply beside d' → (fault ≡ WriteFailed) × WrotePart p q reply → w' ≡ w →
-    (fault ≡ WriteFailed) × FinishedSome n p q w w' d kept
+    (fault ≡ WriteFailed) × FinishedSome n p q w w' d kept d'.shelf
 Finish-failed n p q w w' d d' kept reply beside fault some replies failed same = (
   failed.0,
   record {
     reply = reply;
     after = d';
-    wrote = WrotePart-longer p q reply (done_text d'.tally) failed.1;
+    shelf_is = refl;
+    wrote = WrotePart-longer p q reply (done_text d'.desk.tally) failed.1;
     tolds = [];
     later = beside ∷ [];
     tells = same;
@@ -262,19 +268,20 @@ Finish-failed n p q w w' d d' kept reply beside fault some replies failed same =
   },
 )
 
-all-replies : (n : ℕ) (s : ScenarioData) (whole : List (List ℕ)) (raw kept out reply : List ℕ) (tolds tolds' : List (List ℕ))
-    (d d' : Standing) → All HasNoLineFeed whole → IsPending raw kept
-    → DeskReplies n (at_first s) (map strip_carriage_return whole) out tolds d → DeskReplies n d (last_line kept) reply tolds' d' →
-    DeskReplies n (at_first s) (lines (ended whole ++ raw)) (out ++ reply) (tolds ++ tolds') d'
-all-replies n s whole raw kept out reply tolds tolds' d d' h pending first second =
+all-replies : (n : ℕ) (shelf : Shelved) (s : ScenarioData) (whole : List (List ℕ)) (raw kept out reply : List ℕ)
+    (tolds tolds' : List (List ℕ)) (d d' : WithShelf) → All HasNoLineFeed whole → IsPending raw kept
+    → DeskReplies n (at_first s shelf) (map strip_carriage_return whole) out tolds d → DeskReplies n d (last_line kept) reply tolds' d' →
+    DeskReplies n (at_first s shelf) (lines (ended whole ++ raw)) (out ++ reply) (tolds ++ tolds') d'
+all-replies n shelf s whole raw kept out reply tolds tolds' d d' h pending first second =
     rw (lines-open whole raw h)
-    (DeskReplies-append n (at_first s) (map strip_carriage_return whole) out tolds d (lines raw) reply tolds' d' first
+    (DeskReplies-append n (at_first s shelf) (map strip_carriage_return whole) out tolds d (lines raw) reply tolds' d' first
     (last-replies n d raw kept reply tolds' d' pending second))
 
 -- all was read and answered
-pub DeskDone-from : (n : ℕ) (a c p q r : Option (List ℕ)) (w w' w'' : Beside) (s : ScenarioData) (d d' : Standing) (kept : List ℕ)
-    → AnsweredEnded n a c p q w w' s d kept → FinishedAll n q r w' w'' d kept d' → DeskDone n a c p r w w'' s d'.tally
-DeskDone-from n a c p q r w w' w'' s d d' kept so_far last =
+pub DeskDone-from : (n : ℕ) (a c p q r : Option (List ℕ)) (w w' w'' : Beside) (shelf : Shelved) (s : ScenarioData)
+    (d d' : WithShelf) (kept : List ℕ) → AnsweredEnded n a c p q w w' shelf s d kept → FinishedAll n q r w' w'' d kept d' →
+    DeskDone n a c p r w w'' shelf d'.shelf s d'.desk.tally
+DeskDone-from n a c p q r w w' w'' shelf s d d' kept so_far last =
     let one = so_far.answering in
     let taking = so_far.took.taking in
     record {
@@ -282,28 +289,30 @@ DeskDone-from n a c p q r w w' w'' s d d' kept so_far last =
       consumes = Consumes-trans a so_far.between c (ended one.whole) taking.raw one.consumes taking.consumes;
       at_end = so_far.took.at_end;
       few = omega (arith, length-append (ended one.whole) taking.raw, taking.counts, so_far.took.few, one.counts);
-      out = one.out ++ (last.reply ++ done_text d'.tally);
-      appends = Appends-trans p q r one.out (last.reply ++ done_text d'.tally) one.appends last.appends;
+      out = one.out ++ (last.reply ++ done_text d'.desk.tally);
+      appends = Appends-trans p q r one.out (last.reply ++ done_text d'.desk.tally) one.appends last.appends;
       tolds = one.tolds ++ last.tolds;
       tells = GoOut-append one.tolds last.tolds w w' w'' one.tells last.tells;
       text = record {
         replies = one.out ++ last.reply;
         after = d';
         are_replies =
-            all-replies n s one.whole taking.raw kept one.out last.reply one.tolds last.tolds d d' one.are_whole taking.pending
+            all-replies n shelf s one.whole taking.raw kept one.out last.reply one.tolds last.tolds d d' one.are_whole taking.pending
             one.are_replies last.are_replies;
+        shelf_is = refl;
         tally_is = refl;
-        text_is = sym (append_assoc one.out last.reply (done_text d'.tally));
+        text_is = sym (append_assoc one.out last.reply (done_text d'.desk.tally));
       };
     }
 
 -- the writer failed at the end
-pub DeskCut-end : (n : ℕ) (a c p q r : Option (List ℕ)) (w w' w'' : Beside) (s : ScenarioData) (d : Standing) (kept : List ℕ)
-    → AnsweredEnded n a c p q w w' s d kept → FinishedSome n q r w' w'' d kept → DeskCut n a c p r w w'' s
-DeskCut-end n a c p q r w w' w'' s d kept so_far last =
+pub DeskCut-end : (n : ℕ) (a c p q r : Option (List ℕ)) (w w' w'' : Beside) (shelf shelf' : Shelved) (s : ScenarioData)
+    (d : WithShelf) (kept : List ℕ) → AnsweredEnded n a c p q w w' shelf s d kept → FinishedSome n q r w' w'' d kept shelf' →
+    DeskCut n a c p r w w'' shelf shelf' s
+DeskCut-end n a c p q r w w' w'' shelf shelf' s d kept so_far last =
     let one = so_far.answering in
     let taking = so_far.took.taking in
-    let part = WrotePart-after p q r one.out (last.reply ++ done_text last.after.tally) one.appends last.wrote in
+    let part = WrotePart-after p q r one.out (last.reply ++ done_text last.after.desk.tally) one.appends last.wrote in
     record {
       bytes = ended one.whole ++ taking.raw;
       consumes = Consumes-trans a so_far.between c (ended one.whole) taking.raw one.consumes taking.consumes;
@@ -313,16 +322,17 @@ DeskCut-end n a c p q r w w' w'' s d kept so_far last =
       tolds = one.tolds ++ last.tolds;
       later = last.later;
       tells = GoOut-append one.tolds last.tolds w w' w'' one.tells last.tells;
-      whole = one.out ++ (last.reply ++ done_text last.after.tally);
-      tally = last.after.tally;
+      whole = one.out ++ (last.reply ++ done_text last.after.desk.tally);
+      tally = last.after.desk.tally;
       text = record {
         replies = one.out ++ last.reply;
         after = last.after;
         are_replies = rw (append_assoc one.tolds last.tolds last.later)
-            (all-replies n s one.whole taking.raw kept one.out last.reply one.tolds (last.tolds ++ last.later) d last.after one.are_whole
-            taking.pending one.are_replies last.are_replies);
+            (all-replies n shelf s one.whole taking.raw kept one.out last.reply one.tolds (last.tolds ++ last.later) d last.after
+            one.are_whole taking.pending one.are_replies last.are_replies);
+        shelf_is = last.shelf_is;
         tally_is = refl;
-        text_is = sym (append_assoc one.out last.reply (done_text last.after.tally));
+        text_is = sym (append_assoc one.out last.reply (done_text last.after.desk.tally));
       };
       begins = part.begins;
     }

@@ -15,7 +15,7 @@ use Rattle.pd_colon.specs.Commands.{is_colon, colon_of, second}
 use Rattle.pd_colon.specs.Reasons.{no_line_text, reasons_of, reasons_text}
 use Rattle.pd_bench.specs.Pending.{StandsFor}
 use Rattle.pd_bench.proofs.PendingLemmas.{reading-kept, reading-kept_cut, strip-push}
-use Rattle.pd_desk.specs.Desk.{DeskReply, OwnReply, ReplyBy, Standing}
+use Rattle.pd_desk.specs.Desk.{DeskReply, OwnReply, ReplyBy, WithShelf}
 
 -- two lines of more than 256 bytes, which say the same
 record BothLong (a b : List ℕ) : Type 0 where
@@ -92,7 +92,7 @@ unfolding reasons_text
 reasons_text-long n s a b h =
     ap (λ (r : Result Line EditFault). reasons_of n s a r) h.reading ∙ reasons_of-long n s a b (line_of b) h
 
-own_none : (n : ℕ) (d : Standing) (file others : Option (List ℕ)) (reply told : List ℕ) (d' : Standing) →
+own_none : (n : ℕ) (d : WithShelf) (file others : Option (List ℕ)) (reply told : List ℕ) (d' : WithShelf) →
     OwnReply n d None file reply told d' → OwnReply n d None others reply told d'
 own_none n d file others reply told d' (inl h) = absurd h.0
 own_none n d file others reply told d' (inr h) = inr h
@@ -100,25 +100,25 @@ own_none n d file others reply told d' (inr h) = inr h
 colon_of-long : (line : List ℕ) → 256 < length line → colon_of line ≡ None
 colon_of-long line long = rw (lt-ltb 256 (length line) long) refl
 
-by_colon : (t : Bool) (n : ℕ) (d : Standing) (a b reply told : List ℕ) (d' : Standing) → BothLong a b →
+by_colon : (t : Bool) (n : ℕ) (d : WithShelf) (a b reply told : List ℕ) (d' : WithShelf) → BothLong a b →
     ReplyBy t n d b reply told d' → ReplyBy t n d a reply told d'
 by_colon true n d a b reply told d' h own =
     let none = rw (colon_of-long b h.second_long) at own in
     rw (colon_of-long a h.first_long) (own_none n d (second (words b)) (second (words a)) reply told d' none)
-by_colon false n d a b reply told d' h own = rw (h.reading, reasons_text-long n d.scenario a b h) own
+by_colon false n d a b reply told d' h own = rw (h.reading, reasons_text-long n d.desk.scenario a b h) own
 
-DeskReply-same : (n : ℕ) (d : Standing) (a b reply told : List ℕ) (d' : Standing) → (a ≡ b) ⊎ BothLong a b →
+DeskReply-same : (n : ℕ) (d : WithShelf) (a b reply told : List ℕ) (d' : WithShelf) → (a ≡ b) ⊎ BothLong a b →
     DeskReply n d b reply told d' → DeskReply n d a reply told d'
 DeskReply-same n d a b reply told d' (inl e) h = rw e h
 DeskReply-same n d a b reply told d' (inr e) h = rw e.colon (by_colon (is_colon b) n d a b reply told d' e h)
 
 -- a last line
-pub DeskReply-kept : (n : ℕ) (d : Standing) (line kept reply told : List ℕ) (d' : Standing) → StandsFor line kept →
+pub DeskReply-kept : (n : ℕ) (d : WithShelf) (line kept reply told : List ℕ) (d' : WithShelf) → StandsFor line kept →
     DeskReply n d kept reply told d' → DeskReply n d line reply told d'
 DeskReply-kept n d line kept reply told d' stands h = DeskReply-same n d line kept reply told d' (same_kept line kept stands) h
 
 -- a line that a line feed ends
-pub DeskReply-cut : (n : ℕ) (d : Standing) (line kept reply told : List ℕ) (d' : Standing) → StandsFor line kept →
+pub DeskReply-cut : (n : ℕ) (d : WithShelf) (line kept reply told : List ℕ) (d' : WithShelf) → StandsFor line kept →
     DeskReply n d (strip_carriage_return kept) reply told d' → DeskReply n d (strip_carriage_return line) reply told d'
 DeskReply-cut n d line kept reply told d' stands h =
     DeskReply-same n d (strip_carriage_return line) (strip_carriage_return kept) reply told d' (same_cut line kept stands) h

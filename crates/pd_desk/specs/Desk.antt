@@ -4,7 +4,7 @@ use Rattle.std.specs.Prelude.{Option, Some, None, Result, Ok, if◌then◌else�
 use Rattle.pd_scenario.specs.Scenarios.{ScenarioData}
 use Rattle.pd_scenario.specs.Plans.{plan_of}
 use Rattle.pd_scenario_text.specs.Reading.{Reads}
-use Rattle.pd_save.specs.Files.{file_text}
+use Rattle.pd_save.specs.Files.{ReadsOtherwise, file_text}
 use Rattle.pd_list.specs.Lines.{Lists}
 use Rattle.pd_why.specs.Story.{TellsWhy}
 use Rattle.pd_bounds.specs.declared.question.Question.{Question}
@@ -27,6 +27,7 @@ use Rattle.pd_reasons.specs.Reasons.{reason_of}
 use Rattle.pd_desk.specs.Help.{help_text}
 use Rattle.pd_desk.specs.Reasons.{as_line}
 use Rattle.pd_desk.specs.OwnFaults.{own_sentence}
+use Rattle.pd_desk.specs.Shelf.{IsNotPut, IsPut, Shelved}
 use Rattle.pd_desk.specs.declared.own.OwnFault.{OwnFault}
 use Rattle.pd_desk.specs.declared.own.OwnFault.TheVariants.{Unknown, NoEdit, NoSuchPort, Differs, NotSaved, Memory}
 
@@ -40,8 +41,16 @@ pub record Standing : Type 0 where
 abbrev pub standing : ScenarioData → List ScenarioData → Tally → Standing
 standing s earlier tally = record { scenario = s; earlier = earlier; tally = tally }
 
-abbrev pub at_first : ScenarioData → Standing
-at_first s = standing s [] no_lines
+-- the same, with what is known of the shelf then
+pub record WithShelf : Type 0 where
+  pub desk : Standing
+  pub shelf : Shelved
+
+abbrev pub with_shelf : Standing → Shelved → WithShelf
+with_shelf d shelf = record { desk = d; shelf = shelf }
+
+abbrev pub at_first : ScenarioData → Shelved → WithShelf
+at_first s shelf = with_shelf (standing s [] no_lines) shelf
 
 -- ---- a line of a session
 
@@ -109,62 +118,73 @@ pub record TellsChanges (d : Standing) (text : List ℕ) : Type 0 where
 abbrev pub saved_text : List ℕ → List ℕ
 saved_text file = codes "saved " ++ (file ++ codes "\n")
 
--- the text that was saved reads back as the scenario that stands
-abbrev pub Saves : ℕ → Standing → Option (List ℕ) → List ℕ → Type 0
-Saves n d None text = ⊥
-Saves n d (Some file) text = Reads n (file_text d.scenario) (Ok d.scenario) × (text ≡ saved_text file)
+-- nothing has changed
+abbrev pub IsSame : WithShelf → WithShelf → Type 0
+IsSame d d' = (d'.desk ≡ d.desk) × (d'.shelf ≡ d.shelf)
+
+-- the text of the scenario that stands was put on the shelf, and reads back as that scenario
+abbrev pub Saves : ℕ → WithShelf → Option (List ℕ) → List ℕ → WithShelf → Type 0
+Saves n d None text d' = ⊥
+Saves n d (Some file) text d' =
+    Reads n (file_text d.desk.scenario) (Ok d.desk.scenario) × (text ≡ saved_text file)
+    × IsPut d.shelf d'.shelf file (file_text d.desk.scenario) × (d'.desk ≡ d.desk)
 
 -- what is told for such a line, where nothing fails
-abbrev pub Tells : ℕ → Standing → Option Colon → Option (List ℕ) → List ℕ → Standing → Type 0
+abbrev pub Tells : ℕ → WithShelf → Option Colon → Option (List ℕ) → List ℕ → WithShelf → Type 0
 Tells n d None file text d' = ⊥
-Tells n d (Some colon.Help) file text d' = (text ≡ help_text) × (d' ≡ d)
-Tells n d (Some colon.Listing) file text d' = Lists d.scenario text × (d' ≡ d)
-Tells n d (Some colon.Undo) file text d' = Undoes d text d'
-Tells n d (Some colon.Diff) file text d' = TellsChanges d text × (d' ≡ d)
-Tells n d (Some colon.Save) file text d' = Saves n d file text × (d' ≡ d)
+Tells n d (Some colon.Help) file text d' = (text ≡ help_text) × IsSame d d'
+Tells n d (Some colon.Listing) file text d' = Lists d.desk.scenario text × IsSame d d'
+Tells n d (Some colon.Undo) file text d' = Undoes d.desk text d'.desk × (d'.shelf ≡ d.shelf)
+Tells n d (Some colon.Diff) file text d' = TellsChanges d.desk text × IsSame d d'
+Tells n d (Some colon.Save) file text d' = Saves n d file text d'
 Tells n d (Some (colon.Why port to)) file text d' =
-    TellsWhy (plan_of d.scenario) (record { port = port; to = to }) [] text × (d' ≡ d)
+    TellsWhy (plan_of d.desk.scenario) (record { port = port; to = to }) [] text × IsSame d d'
 
 -- why an edit isn't taken back, or none of its changes told
 abbrev pub FailsEdit : List ScenarioData → OwnFault → Type 0
 FailsEdit earlier fault = ((fault ≡ NoEdit) × (earlier ≡ [])) ⊎ (fault ≡ Memory)
 
--- why the scenario isn't saved
-abbrev pub FailsSave : Option (List ℕ) → OwnFault → Type 0
-FailsSave file fault = ((fault ≡ Unknown) × (file ≡ None)) ⊎ ((fault ≡ Memory) ⊎ ((fault ≡ Differs) ⊎ (fault ≡ NotSaved)))
+-- why the scenario isn't saved: the shelf didn't take its text; or there was no name, no text that reads back, or no memory, and
+-- nothing was to be put there
+abbrev pub FailsSave : ℕ → ScenarioData → Option (List ℕ) → OwnFault → Shelved → Shelved → Type 0
+FailsSave n s file fault shelf shelf' =
+    ((fault ≡ NotSaved) × IsNotPut shelf shelf')
+    ⊎ ((((fault ≡ Unknown) × (file ≡ None)) ⊎ (((fault ≡ Differs) × ReadsOtherwise n (file_text s) s) ⊎ (fault ≡ Memory)))
+    × (shelf' ≡ shelf))
 
 -- why it isn't told what bounds a port
 abbrev pub FailsWhy : ℕ → ℕ → OwnFault → Type 0
 FailsWhy n port fault = ((fault ≡ NoSuchPort) × ((port < 1) ⊎ (n < port))) ⊎ (fault ≡ Memory)
 
--- why such a line does nothing
-abbrev pub Fails : ℕ → Standing → Option Colon → Option (List ℕ) → OwnFault → Type 0
-Fails n d None file fault = fault ≡ Unknown
-Fails n d (Some colon.Help) file fault = fault ≡ Memory
-Fails n d (Some colon.Listing) file fault = fault ≡ Memory
-Fails n d (Some colon.Undo) file fault = FailsEdit d.earlier fault
-Fails n d (Some colon.Diff) file fault = FailsEdit d.earlier fault
-Fails n d (Some colon.Save) file fault = FailsSave file fault
-Fails n d (Some (colon.Why port to)) file fault = FailsWhy n port fault
+-- why such a line does nothing: all is as it was, but that a text which the shelf didn't take is counted there
+abbrev pub Fails : ℕ → WithShelf → Option Colon → Option (List ℕ) → OwnFault → WithShelf → Type 0
+Fails n d None file fault d' = (fault ≡ Unknown) × IsSame d d'
+Fails n d (Some colon.Help) file fault d' = (fault ≡ Memory) × IsSame d d'
+Fails n d (Some colon.Listing) file fault d' = (fault ≡ Memory) × IsSame d d'
+Fails n d (Some colon.Undo) file fault d' = FailsEdit d.desk.earlier fault × IsSame d d'
+Fails n d (Some colon.Diff) file fault d' = FailsEdit d.desk.earlier fault × IsSame d d'
+Fails n d (Some colon.Save) file fault d' = FailsSave n d.desk.scenario file fault d.shelf d'.shelf × (d'.desk ≡ d.desk)
+Fails n d (Some (colon.Why port to)) file fault d' = FailsWhy n port fault × IsSame d d'
 
--- What such a line writes, and what is told beside it. Where it can't be done, the fault is told, and all is as it was.
-abbrev pub OwnReply : ℕ → Standing → Option Colon → Option (List ℕ) → List ℕ → List ℕ → Standing → Type 0
+-- What such a line writes, and what is told beside it. Where it can't be done, nothing is written, and the fault is told.
+abbrev pub OwnReply : ℕ → WithShelf → Option Colon → Option (List ℕ) → List ℕ → List ℕ → WithShelf → Type 0
 OwnReply n d own file reply told d' =
     (Tells n d own file reply d' × (told ≡ []))
-    ⊎ ((fault : OwnFault) × Fails n d own file fault × (reply ≡ []) × (told ≡ own_sentence fault) × (d' ≡ d))
+    ⊎ ((fault : OwnFault) × Fails n d own file fault d' × (reply ≡ []) × (told ≡ own_sentence fault))
 
 -- ---- any line
 
-abbrev pub ReplyBy : Bool → ℕ → Standing → List ℕ → List ℕ → List ℕ → Standing → Type 0
+-- a line of a session puts nothing on the shelf
+abbrev pub ReplyBy : Bool → ℕ → WithShelf → List ℕ → List ℕ → List ℕ → WithShelf → Type 0
 ReplyBy true n d line reply told d' = OwnReply n d (colon_of line) (second (words line)) reply told d'
-ReplyBy false n d line reply told d' = ToldReply n d line reply told d'
+ReplyBy false n d line reply told d' = ToldReply n d.desk line reply told d'.desk × (d'.shelf ≡ d.shelf)
 
-abbrev pub DeskReply : ℕ → Standing → List ℕ → List ℕ → List ℕ → Standing → Type 0
+abbrev pub DeskReply : ℕ → WithShelf → List ℕ → List ℕ → List ℕ → WithShelf → Type 0
 DeskReply n d line reply told d' = ReplyBy (is_colon line) n d line reply told d'
 
 -- the replies to these lines in their order, what is told beside each, and what the desk has come to after them
-abbrev pub DeskReplies : ℕ → Standing → List (List ℕ) → List ℕ → List (List ℕ) → Standing → Type 0
+abbrev pub DeskReplies : ℕ → WithShelf → List (List ℕ) → List ℕ → List (List ℕ) → WithShelf → Type 0
 DeskReplies n d [] text tolds d' = (text ≡ []) × (tolds ≡ []) × (d' ≡ d)
 DeskReplies n d (line ∷ more) text tolds d' =
-    (reply : List ℕ) × (told : List ℕ) × (rest : List ℕ) × (others : List (List ℕ)) × (next : Standing)
+    (reply : List ℕ) × (told : List ℕ) × (rest : List ℕ) × (others : List (List ℕ)) × (next : WithShelf)
     × DeskReply n d line reply told next × (text ≡ reply ++ rest) × (tolds ≡ told ∷ others) × DeskReplies n next more rest others d'

@@ -10,7 +10,8 @@ use Rattle.pd_bench.specs.declared.tally.Tally.{Tally}
 use Rattle.pd_bench.specs.Session.{done_text}
 use Rattle.pd_bench.specs.Stream.{HasRun}
 use Rattle.pd_bench.specs.Traces.{HasNoLineFeed, ended}
-use Rattle.pd_desk.specs.Desk.{DeskReplies, Standing, at_first}
+use Rattle.pd_desk.specs.Desk.{DeskReplies, WithShelf, at_first}
+use Rattle.pd_desk.specs.Shelf.{Shelved}
 
 -- ---- what is told beside the replies
 
@@ -38,16 +39,19 @@ ToldAfter (Err fault) text w w' = w' ≡ w
 
 -- ---- the whole text
 
--- the text of the desk over these bytes: the replies to their lines, and at the end the counts
-pub record DeskText (n : ℕ) (s : ScenarioData) (bytes text : List ℕ) (tolds : List (List ℕ)) (tally : Tally) : Type 0 where
+-- the text of the desk over these bytes: the replies to their lines, and at the end the counts; and what the shelf has come to
+pub record DeskText (n : ℕ) (s : ScenarioData) (shelf : Shelved) (bytes text : List ℕ) (tolds : List (List ℕ)) (shelf' : Shelved)
+    (tally : Tally) : Type 0 where
   pub replies : List ℕ
-  pub after : Standing
-  pub are_replies : DeskReplies n (at_first s) (lines bytes) replies tolds after
-  pub tally_is : tally ≡ after.tally
+  pub after : WithShelf
+  pub are_replies : DeskReplies n (at_first s shelf) (lines bytes) replies tolds after
+  pub shelf_is : shelf' ≡ after.shelf
+  pub tally_is : tally ≡ after.desk.tally
   pub text_is : text ≡ replies ++ done_text tally
 
 -- all that the reader has left was read, and the text over it was written
-pub record DeskDone (n : ℕ) (left left' taken taken' : Option (List ℕ)) (w w' : Beside) (s : ScenarioData) (tally : Tally) : Type 0 where
+pub record DeskDone (n : ℕ) (left left' taken taken' : Option (List ℕ)) (w w' : Beside) (shelf shelf' : Shelved) (s : ScenarioData)
+    (tally : Tally) : Type 0 where
   pub bytes : List ℕ
   pub consumes : Consumes left left' bytes
   pub at_end : IsAtEnd left'
@@ -56,11 +60,12 @@ pub record DeskDone (n : ℕ) (left left' taken taken' : Option (List ℕ)) (w w
   pub appends : Appends taken taken' out
   pub tolds : List (List ℕ)
   pub tells : GoOut tolds w w'
-  pub text : DeskText n s bytes out tolds tally
+  pub text : DeskText n s shelf bytes out tolds shelf' tally
 
 -- So many bytes were read: some ended lines, whose replies were written, and the first bytes of one more. The scenario that
 -- stands then has a run.
-pub record DeskStopped (n : ℕ) (left left' taken taken' : Option (List ℕ)) (w w' : Beside) (s : ScenarioData) (count : ℕ) : Type 0 where
+pub record DeskStopped (n : ℕ) (left left' taken taken' : Option (List ℕ)) (w w' : Beside) (shelf shelf' : Shelved) (s : ScenarioData)
+    (count : ℕ) : Type 0 where
   pub whole : List (List ℕ)
   pub open_yet : List ℕ
   pub are_whole : All HasNoLineFeed whole
@@ -71,12 +76,14 @@ pub record DeskStopped (n : ℕ) (left left' taken taken' : Option (List ℕ)) (
   pub appends : Appends taken taken' out
   pub tolds : List (List ℕ)
   pub tells : GoOut tolds w w'
-  pub after : Standing
-  pub are_replies : DeskReplies n (at_first s) (map strip_carriage_return whole) out tolds after
-  pub run : HasRun after.scenario
+  pub after : WithShelf
+  pub are_replies : DeskReplies n (at_first s shelf) (map strip_carriage_return whole) out tolds after
+  pub shelf_is : shelf' ≡ after.shelf
+  pub run : HasRun after.desk.scenario
 
 -- some bytes were read, and what was written begins the text over them
-pub record DeskCut (n : ℕ) (left left' taken taken' : Option (List ℕ)) (w w' : Beside) (s : ScenarioData) : Type 0 where
+pub record DeskCut (n : ℕ) (left left' taken taken' : Option (List ℕ)) (w w' : Beside) (shelf shelf' : Shelved) (s : ScenarioData) : Type
+    0 where
   pub bytes : List ℕ
   pub consumes : Consumes left left' bytes
   pub few : length bytes ≤ 16777217
@@ -87,24 +94,25 @@ pub record DeskCut (n : ℕ) (left left' taken taken' : Option (List ℕ)) (w w'
   pub tells : GoOut tolds w w'
   pub whole : List ℕ
   pub tally : Tally
-  pub text : DeskText n s bytes whole (tolds ++ later) tally
+  pub text : DeskText n s shelf bytes whole (tolds ++ later) shelf' tally
   pub begins : Begins out whole
 
--- Without memory for the first run nothing is read, written or told.
+-- Without memory for the first run nothing is read, written, told or saved.
 abbrev pub DeskEnds : ℕ → Result Tally BenchFault → Option (List ℕ) → Option (List ℕ) → Option (List ℕ) → Option (List ℕ) →
-    Beside → Beside → ScenarioData → Type 0
-DeskEnds n (Ok tally) left left' taken taken' w w' s = DeskDone n left left' taken taken' w w' s tally
-DeskEnds n (Err ReadFailed) left left' taken taken' w w' s =
-    (count : ℕ) × (count ≤ 16777216) × DeskStopped n left left' taken taken' w w' s count
-DeskEnds n (Err WriteFailed) left left' taken taken' w w' s = DeskCut n left left' taken taken' w w' s
-DeskEnds n (Err Memory) left left' taken taken' w w' s = (left' ≡ left) × (taken' ≡ taken) × (w' ≡ w)
-DeskEnds n (Err ReaderTooLong) left left' taken taken' w w' s = DeskStopped n left left' taken taken' w w' s 16777217
+    Beside → Beside → Shelved → Shelved → ScenarioData → Type 0
+DeskEnds n (Ok tally) left left' taken taken' w w' shelf shelf' s = DeskDone n left left' taken taken' w w' shelf shelf' s tally
+DeskEnds n (Err ReadFailed) left left' taken taken' w w' shelf shelf' s =
+    (count : ℕ) × (count ≤ 16777216) × DeskStopped n left left' taken taken' w w' shelf shelf' s count
+DeskEnds n (Err WriteFailed) left left' taken taken' w w' shelf shelf' s = DeskCut n left left' taken taken' w w' shelf shelf' s
+DeskEnds n (Err Memory) left left' taken taken' w w' shelf shelf' s = (left' ≡ left) × (taken' ≡ taken) × (w' ≡ w) × (shelf' ≡ shelf)
+DeskEnds n (Err ReaderTooLong) left left' taken taken' w w' shelf shelf' s =
+    DeskStopped n left left' taken taken' w w' shelf shelf' s 16777217
 
 -- the bytes that were read
 abbrev pub read_of : (n : ℕ) (result : Result Tally BenchFault) (left left' taken taken' : Option (List ℕ)) (w w' : Beside)
-    (s : ScenarioData) → DeskEnds n result left left' taken taken' w w' s → List ℕ
-read_of n (Ok tally) left left' taken taken' w w' s ends = ends.bytes
-read_of n (Err ReadFailed) left left' taken taken' w w' s ends = ended ends.2.whole ++ ends.2.open_yet
-read_of n (Err WriteFailed) left left' taken taken' w w' s ends = ends.bytes
-read_of n (Err Memory) left left' taken taken' w w' s ends = []
-read_of n (Err ReaderTooLong) left left' taken taken' w w' s ends = ended ends.whole ++ ends.open_yet
+    (shelf shelf' : Shelved) (s : ScenarioData) → DeskEnds n result left left' taken taken' w w' shelf shelf' s → List ℕ
+read_of n (Ok tally) left left' taken taken' w w' shelf shelf' s ends = ends.bytes
+read_of n (Err ReadFailed) left left' taken taken' w w' shelf shelf' s ends = ended ends.2.whole ++ ends.2.open_yet
+read_of n (Err WriteFailed) left left' taken taken' w w' shelf shelf' s ends = ends.bytes
+read_of n (Err Memory) left left' taken taken' w w' shelf shelf' s ends = []
+read_of n (Err ReaderTooLong) left left' taken taken' w w' shelf shelf' s ends = ended ends.whole ++ ends.open_yet

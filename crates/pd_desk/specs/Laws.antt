@@ -9,6 +9,7 @@ use Rattle.pd_bench.specs.Session.{SessionEnds}
 use Rattle.pd_colon.specs.Commands.{is_colon}
 use Rattle.pd_desk.specs.Desk.{LineTells}
 use Rattle.pd_desk.specs.Ends.{Beside, DeskEnds, read_of}
+use Rattle.pd_desk.specs.Shelf.{Shelved}
 
 -- no line of these bytes is the desk's own
 abbrev pub NoneIsOwn : List ℕ → Type 0
@@ -17,9 +18,9 @@ NoneIsOwn bytes = All (λ line. is_colon line ≡ false) (lines bytes)
 -- Where no line that was read is the desk's own, the desk ended as a session does.
 abbrev pub DeskIsSession : Type 0
 DeskIsSession =
-    (n : ℕ) (result : Result Tally BenchFault) (left left' taken taken' : Option (List ℕ)) (w w' : Beside) (s : ScenarioData)
-    (ends : DeskEnds n result left left' taken taken' w w' s)
-    → NoneIsOwn (read_of n result left left' taken taken' w w' s ends) → SessionEnds n result left left' taken taken' s
+    (n : ℕ) (result : Result Tally BenchFault) (left left' taken taken' : Option (List ℕ)) (w w' : Beside)
+    (shelf shelf' : Shelved) (s : ScenarioData) (ends : DeskEnds n result left left' taken taken' w w' shelf shelf' s)
+    → NoneIsOwn (read_of n result left left' taken taken' w w' shelf shelf' s ends) → SessionEnds n result left left' taken taken' s
 
 -- Beside each refusal something is told.
 abbrev pub RefusalsAreTold : Type 0

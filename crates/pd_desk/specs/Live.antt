@@ -8,20 +8,23 @@ use Rattle.pd_run_text.specs.declared.texts.RunFault.{RunFault}
 use Rattle.pd_run_text.specs.declared.texts.RunFault.TheVariants as faults
 use Rattle.pd_run_text.specs.Texts.{IsRefused, IsScenarioText}
 use Rattle.pd_desk.specs.Ends.{Beside, DeskEnds}
+use Rattle.pd_desk.specs.Shelf.{Shelved}
 
 -- the desk ended so, for the scenario of the text
 abbrev pub EndsFor : Result Tally BenchFault → List ℕ → Option (List ℕ) → Option (List ℕ) → Option (List ℕ) → Option (List ℕ) →
-    Beside → Beside → Type 0
-EndsFor result text left left' taken taken' w w' =
-    (n : ℕ) × (s : ScenarioData) × IsScenarioText text n s × DeskEnds n result left left' taken taken' w w' s
+    Beside → Beside → Shelved → Shelved → Type 0
+EndsFor result text left left' taken taken' w w' shelf shelf' =
+    (n : ℕ) × (s : ScenarioData) × IsScenarioText text n s × DeskEnds n result left left' taken taken' w w' shelf shelf' s
 
--- a refused text: nothing is read, written or told
+-- a refused text: nothing is read, written, told or saved
 abbrev pub LiveEnds : Result Tally RunFault → List ℕ → Option (List ℕ) → Option (List ℕ) → Option (List ℕ) → Option (List ℕ) →
-    Beside → Beside → Type 0
-LiveEnds (Ok tally) text left left' taken taken' w w' = EndsFor (Ok tally) text left left' taken taken' w w'
-LiveEnds (Err (faults.Scenario fault)) text left left' taken taken' w w' =
-    IsRefused text fault × (left' ≡ left) × (taken' ≡ taken) × (w' ≡ w)
-LiveEnds (Err (faults.Session fault)) text left left' taken taken' w w' = EndsFor (Err fault) text left left' taken taken' w w'
+    Beside → Beside → Shelved → Shelved → Type 0
+LiveEnds (Ok tally) text left left' taken taken' w w' shelf shelf' =
+    EndsFor (Ok tally) text left left' taken taken' w w' shelf shelf'
+LiveEnds (Err (faults.Scenario fault)) text left left' taken taken' w w' shelf shelf' =
+    IsRefused text fault × (left' ≡ left) × (taken' ≡ taken) × (w' ≡ w) × (shelf' ≡ shelf)
+LiveEnds (Err (faults.Session fault)) text left left' taken taken' w w' shelf shelf' =
+    EndsFor (Err fault) text left left' taken taken' w w' shelf shelf'
 
 -- which device failed, by the counts of failed reads and writes
 abbrev pub LiveCounts : Result Tally RunFault → ℕ → ℕ → ℕ → ℕ → Type 0

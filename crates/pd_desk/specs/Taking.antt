@@ -9,8 +9,9 @@ use Rattle.pd_device.specs.declared.fault.BenchFault.TheVariants.{ReadFailed, Wr
 use Rattle.pd_bench.specs.Pending.{IsPending}
 use Rattle.pd_bench.specs.Session.{done_text}
 use Rattle.pd_bench.specs.Traces.{HasNoLineFeed, ended}
-use Rattle.pd_desk.specs.Desk.{DeskReplies, Standing, at_first}
+use Rattle.pd_desk.specs.Desk.{DeskReplies, WithShelf, at_first}
 use Rattle.pd_desk.specs.Ends.{Beside, GoOut}
+use Rattle.pd_desk.specs.Shelf.{Shelved}
 
 -- The bytes of a line were read, and no line feed. What is kept stands for them.
 pub record TakingLine (left left' : Option (List ℕ)) (total total' : ℕ) (kept : List ℕ) : Type 0 where
@@ -47,8 +48,8 @@ StopsAt Memory total = ⊥
 StopsAt ReaderTooLong total = total ≡ 16777217
 
 -- some ended lines were read, and their replies written
-pub record Answering (n : ℕ) (left left' taken taken' : Option (List ℕ)) (w w' : Beside) (s : ScenarioData) (after : Standing)
-    (total : ℕ) : Type 0 where
+pub record Answering (n : ℕ) (left left' taken taken' : Option (List ℕ)) (w w' : Beside) (shelf : Shelved) (s : ScenarioData)
+    (after : WithShelf) (total : ℕ) : Type 0 where
   pub whole : List (List ℕ)
   pub are_whole : All HasNoLineFeed whole
   pub consumes : Consumes left left' (ended whole)
@@ -57,15 +58,15 @@ pub record Answering (n : ℕ) (left left' taken taken' : Option (List ℕ)) (w 
   pub appends : Appends taken taken' out
   pub tolds : List (List ℕ)
   pub tells : GoOut tolds w w'
-  pub are_replies : DeskReplies n (at_first s) (map strip_carriage_return whole) out tolds after
+  pub are_replies : DeskReplies n (at_first s shelf) (map strip_carriage_return whole) out tolds after
 
 -- all was read, and all answered but the last bytes, where no line feed ends them
-pub record AnsweredEnded (n : ℕ) (left left' taken taken' : Option (List ℕ)) (w w' : Beside) (s : ScenarioData) (after : Standing)
-    (kept : List ℕ) : Type 0 where
+pub record AnsweredEnded (n : ℕ) (left left' taken taken' : Option (List ℕ)) (w w' : Beside) (shelf : Shelved) (s : ScenarioData)
+    (after : WithShelf) (kept : List ℕ) : Type 0 where
   pub between : Option (List ℕ)
   pub total : ℕ
   pub total' : ℕ
-  pub answering : Answering n left between taken taken' w w' s after total
+  pub answering : Answering n left between taken taken' w w' shelf s after total
   pub took : TookLast between left' total total' kept
 
 -- the lines of the last bytes, where no line feed ends them
@@ -74,19 +75,21 @@ last_line [] = []
 last_line (byte ∷ more) = (byte ∷ more) ∷ []
 
 -- the last line was answered, where there is one, and the counts were written
-pub record FinishedAll (n : ℕ) (taken taken' : Option (List ℕ)) (w w' : Beside) (d : Standing) (kept : List ℕ) (d' : Standing) : Type
+pub record FinishedAll (n : ℕ) (taken taken' : Option (List ℕ)) (w w' : Beside) (d : WithShelf) (kept : List ℕ) (d' : WithShelf) : Type
     0 where
   pub reply : List ℕ
-  pub appends : Appends taken taken' (reply ++ done_text d'.tally)
+  pub appends : Appends taken taken' (reply ++ done_text d'.desk.tally)
   pub tolds : List (List ℕ)
   pub tells : GoOut tolds w w'
   pub are_replies : DeskReplies n d (last_line kept) reply tolds d'
 
 -- the writer failed after the first bytes of that
-pub record FinishedSome (n : ℕ) (taken taken' : Option (List ℕ)) (w w' : Beside) (d : Standing) (kept : List ℕ) : Type 0 where
+pub record FinishedSome (n : ℕ) (taken taken' : Option (List ℕ)) (w w' : Beside) (d : WithShelf) (kept : List ℕ) (shelf' : Shelved) : Type
+    0 where
   pub reply : List ℕ
-  pub after : Standing
-  pub wrote : WrotePart taken taken' (reply ++ done_text after.tally)
+  pub after : WithShelf
+  pub shelf_is : shelf' ≡ after.shelf
+  pub wrote : WrotePart taken taken' (reply ++ done_text after.desk.tally)
   pub tolds : List (List ℕ)
   pub later : List (List ℕ)
   pub tells : GoOut tolds w w'

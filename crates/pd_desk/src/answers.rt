@@ -8,7 +8,7 @@ ghost use Rattle.pd_colon.specs.Reasons.{reasons_text};
 ghost use Rattle.pd_edit_lines.specs.Numbers.{number_of};
 ghost use Rattle.pd_bench.specs.Session.{answered, refused_text};
 ghost use Rattle.pd_bench.specs.Stream.{IsRunning};
-ghost use Rattle.pd_desk.specs.Desk.{DeskReply, OwnReply, TellsWhyNot, ToldReply, standing};
+ghost use Rattle.pd_desk.specs.Desk.{DeskReply, OwnReply, TellsWhyNot, ToldReply, standing, with_shelf};
 ghost use Rattle.pd_desk.specs.Ends.{GoesOut, ToldAfter, beside};
 
 use crate::desk::{Desk, answer_session};
@@ -60,6 +60,7 @@ fn answer_told<const N: usize, T: Runner<N>, W: TextOut, E: TextOut, S: Shelf>(
         × ToldAfter result told (beside (E.taken outlets.old.reasons) (E.failures outlets.old.reasons))
         (beside (E.taken outlets.new.reasons) (E.failures outlets.new.reasons)) }
     ensures counts { CountsFailure (W.failures outlets.old.answers) (W.failures outlets.new.answers) result }
+    ensures shelf { outlets.new.shelf ≡ outlets.old.shelf }
     ensures runs { IsRunning (T.plan runner.new) (T.entries runner.new) desk.new.state.scenario }
     ensures room { answered desk.new.state.tally ≤ answered desk.old.state.tally + 1 }
 {
@@ -85,8 +86,10 @@ fn answer_own<const N: usize, T: Runner<N>, W: TextOut, E: TextOut, S: Shelf>(
 ) -> Result<(), BenchFault>
     requires runs { IsRunning (T.plan runner.old) (T.entries runner.old) desk.old.state.scenario }
     ensures reply { (reply : List ℕ) × (told : List ℕ)
-        × OwnReply N (standing desk.old.state.scenario desk.old.earlier.items desk.old.state.tally) (colon_of line.now)
-        (second (words line.now)) reply told (standing desk.new.state.scenario desk.new.earlier.items desk.new.state.tally)
+        × OwnReply N
+        (with_shelf (standing desk.old.state.scenario desk.old.earlier.items desk.old.state.tally) (S.known outlets.old.shelf))
+        (colon_of line.now) (second (words line.now)) reply told
+        (with_shelf (standing desk.new.state.scenario desk.new.earlier.items desk.new.state.tally) (S.known outlets.new.shelf))
         × Writes (W.taken outlets.old.answers) (W.taken outlets.new.answers) result reply
         × ToldAfter result told (beside (E.taken outlets.old.reasons) (E.failures outlets.old.reasons))
         (beside (E.taken outlets.new.reasons) (E.failures outlets.new.reasons)) }
@@ -115,8 +118,10 @@ pub(crate) fn answer_desk<const N: usize, T: Runner<N>, W: TextOut, E: TextOut, 
     requires runs { IsRunning (T.plan runner.old) (T.entries runner.old) desk.old.state.scenario }
     requires room { answered desk.old.state.tally + 1 < 2 ^ 32 }
     ensures reply { (reply : List ℕ) × (told : List ℕ)
-        × DeskReply N (standing desk.old.state.scenario desk.old.earlier.items desk.old.state.tally) line.now reply told
-        (standing desk.new.state.scenario desk.new.earlier.items desk.new.state.tally)
+        × DeskReply N
+        (with_shelf (standing desk.old.state.scenario desk.old.earlier.items desk.old.state.tally) (S.known outlets.old.shelf))
+        line.now reply told
+        (with_shelf (standing desk.new.state.scenario desk.new.earlier.items desk.new.state.tally) (S.known outlets.new.shelf))
         × Writes (W.taken outlets.old.answers) (W.taken outlets.new.answers) result reply
         × ToldAfter result told (beside (E.taken outlets.old.reasons) (E.failures outlets.old.reasons))
         (beside (E.taken outlets.new.reasons) (E.failures outlets.new.reasons)) }

@@ -5,7 +5,7 @@ ghost use Rattle.pd_device.specs.Device.{CountsFailure};
 ghost use Rattle.pd_device.specs.declared.fault.BenchFault.TheVariants.{WriteFailed as write_failed};
 ghost use Rattle.pd_bench.specs.Session.{CountsFault, answered, no_lines};
 ghost use Rattle.pd_bench.specs.Stream.{IsRunning};
-ghost use Rattle.pd_desk.specs.Desk.{standing};
+ghost use Rattle.pd_desk.specs.Desk.{standing, with_shelf};
 ghost use Rattle.pd_desk.specs.Ends.{DeskEnds, beside};
 ghost use Rattle.pd_desk.specs.Taking.{AnsweredEnded, FinishedAll, FinishedSome};
 
@@ -37,11 +37,13 @@ fn answer_ended<const N: usize, T: Runner<N>, R: TextIn, W: TextOut, E: TextOut,
     ensures text { MatchResult result
         (λ _. AnsweredEnded N (R.left reader.old) (R.left reader.new) (W.taken outlets.old.answers) (W.taken outlets.new.answers)
         (beside (E.taken outlets.old.reasons) (E.failures outlets.old.reasons))
-        (beside (E.taken outlets.new.reasons) (E.failures outlets.new.reasons)) desk.old.state.scenario
-        (standing desk.new.state.scenario desk.new.earlier.items desk.new.state.tally) line.new)
+        (beside (E.taken outlets.new.reasons) (E.failures outlets.new.reasons)) (S.known outlets.old.shelf)
+        desk.old.state.scenario
+        (with_shelf (standing desk.new.state.scenario desk.new.earlier.items desk.new.state.tally) (S.known outlets.new.shelf)) line.new)
         (λ fault. DeskEnds N (Err fault) (R.left reader.old) (R.left reader.new) (W.taken outlets.old.answers)
         (W.taken outlets.new.answers) (beside (E.taken outlets.old.reasons) (E.failures outlets.old.reasons))
-        (beside (E.taken outlets.new.reasons) (E.failures outlets.new.reasons)) desk.old.state.scenario) }
+        (beside (E.taken outlets.new.reasons) (E.failures outlets.new.reasons)) (S.known outlets.old.shelf)
+        (S.known outlets.new.shelf) desk.old.state.scenario) }
     ensures counts { CountsFault result (R.failures reader.old) (R.failures reader.new)
         (W.failures outlets.old.answers) (W.failures outlets.new.answers) }
     ensures runs { IsRunning (T.plan runner.new) (T.entries runner.new) desk.new.state.scenario }
@@ -70,13 +72,15 @@ fn finish<const N: usize, T: Runner<N>, W: TextOut, E: TextOut, S: Shelf>(
         (λ _. FinishedAll N (W.taken outlets.old.answers) (W.taken outlets.new.answers)
         (beside (E.taken outlets.old.reasons) (E.failures outlets.old.reasons))
         (beside (E.taken outlets.new.reasons) (E.failures outlets.new.reasons))
-        (standing desk.old.state.scenario desk.old.earlier.items desk.old.state.tally) line.now
-        (standing desk.new.state.scenario desk.new.earlier.items desk.new.state.tally))
+        (with_shelf (standing desk.old.state.scenario desk.old.earlier.items desk.old.state.tally) (S.known outlets.old.shelf))
+        line.now
+        (with_shelf (standing desk.new.state.scenario desk.new.earlier.items desk.new.state.tally) (S.known outlets.new.shelf)))
         (λ fault. (fault ≡ write_failed)
         × FinishedSome N (W.taken outlets.old.answers) (W.taken outlets.new.answers)
         (beside (E.taken outlets.old.reasons) (E.failures outlets.old.reasons))
         (beside (E.taken outlets.new.reasons) (E.failures outlets.new.reasons))
-        (standing desk.old.state.scenario desk.old.earlier.items desk.old.state.tally) line.now) }
+        (with_shelf (standing desk.old.state.scenario desk.old.earlier.items desk.old.state.tally) (S.known outlets.old.shelf))
+        line.now (S.known outlets.new.shelf)) }
     ensures counts { CountsFailure (W.failures outlets.old.answers) (W.failures outlets.new.answers) result }
 {
     if line.is_empty() {
@@ -107,7 +111,8 @@ pub(crate) fn desk_session<
 ) -> Result<Tally, BenchFault>
     ensures text { DeskEnds N result (R.left reader.old) (R.left reader.new) (W.taken outlets.old.answers)
         (W.taken outlets.new.answers) (beside (E.taken outlets.old.reasons) (E.failures outlets.old.reasons))
-        (beside (E.taken outlets.new.reasons) (E.failures outlets.new.reasons)) scenario.entry }
+        (beside (E.taken outlets.new.reasons) (E.failures outlets.new.reasons)) (S.known outlets.old.shelf)
+        (S.known outlets.new.shelf) scenario.entry }
     ensures counts { CountsFault result (R.failures reader.old) (R.failures reader.new)
         (W.failures outlets.old.answers) (W.failures outlets.new.answers) }
 {

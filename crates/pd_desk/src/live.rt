@@ -46,7 +46,8 @@ pub fn run_live<R: TextIn, W: TextOut, E: TextOut, S: Shelf>(
     ensures text { LiveEnds result text.now (R.left reader.old) (R.left reader.new)
         (W.taken outlets.old.answers) (W.taken outlets.new.answers)
         (beside (E.taken outlets.old.reasons) (E.failures outlets.old.reasons))
-        (beside (E.taken outlets.new.reasons) (E.failures outlets.new.reasons)) }
+        (beside (E.taken outlets.new.reasons) (E.failures outlets.new.reasons)) (S.known outlets.old.shelf)
+        (S.known outlets.new.shelf) }
     ensures counts { LiveCounts result (R.failures reader.old) (R.failures reader.new)
         (W.failures outlets.old.answers) (W.failures outlets.new.answers) }
 {
@@ -72,7 +73,8 @@ fn live_file<const N: usize, R: TextIn, W: TextOut, E: TextOut, S: Shelf>(
     ensures text { ForTexts file (λ text. LiveEnds result text (R.left reader.old) (R.left reader.new)
         (W.taken outlets.old.answers) (W.taken outlets.new.answers)
         (beside (E.taken outlets.old.reasons) (E.failures outlets.old.reasons))
-        (beside (E.taken outlets.new.reasons) (E.failures outlets.new.reasons))) }
+        (beside (E.taken outlets.new.reasons) (E.failures outlets.new.reasons)) (S.known outlets.old.shelf)
+        (S.known outlets.new.shelf)) }
     ensures counts { LiveCounts result (R.failures reader.old) (R.failures reader.new)
         (W.failures outlets.old.answers) (W.failures outlets.new.answers) }
 {

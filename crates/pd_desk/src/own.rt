@@ -10,9 +10,9 @@ ghost use Rattle.pd_colon.specs.Commands.{colon_of, second};
 ghost use Rattle.pd_list.specs.Lines.{Lists};
 ghost use Rattle.pd_colon.specs.Diff.{diff_text};
 ghost use Rattle.pd_why.specs.Story.{TellsWhy};
-ghost use Rattle.pd_desk.specs.Desk.{Fails, FailsEdit, FailsSave, FailsWhy, Tells, TellsChanges, Undoes, saved_text, standing};
+ghost use Rattle.pd_desk.specs.Desk.{Fails, FailsEdit, FailsSave, FailsWhy, Tells, TellsChanges, Undoes, saved_text, standing, with_shelf};
 ghost use Rattle.pd_desk.specs.OwnFaults.{own_sentence};
-ghost use Rattle.pd_desk.specs.Shelf.{Puts};
+ghost use Rattle.pd_desk.specs.Shelf.{IsPut};
 ghost use Rattle.pd_desk.specs.declared.own.OwnFault.TheVariants.{Memory as memory};
 
 use crate::Shelf;
@@ -146,8 +146,9 @@ fn save<const N: usize, S: Shelf>(
 ) -> Result<Vec<u8>, OwnFault>
     ensures text { IfOk result (λ text. (file : List ℕ) × (second (words line.now) ≡ Some file) × (text.items ≡ saved_text file)
         × Reads N (file_text scenario.now) (Ok scenario.now)
-        × Puts (S.kept shelf.old) (S.kept shelf.new) file (file_text scenario.now)) }
-    ensures fault { IfErr result (FailsSave (second (words line.now))) }
+        × IsPut (S.known shelf.old) (S.known shelf.new) file (file_text scenario.now)) }
+    ensures fault { IfErr result
+        (λ fault. FailsSave N scenario.now (second (words line.now)) fault (S.known shelf.old) (S.known shelf.new)) }
 {
     let Some(file) = file_of(line) else {
         return Err(OwnFault::Unknown);
@@ -191,7 +192,7 @@ fn bounds<const N: usize>(
 /// What is told for a line of the desk's own.
 ///
 /// # Errors
-/// It could not be done; then all is as it was.
+/// It could not be done; then all is as it was, but that a shelf counts what it could not take.
 pub(crate) fn own_text<const N: usize, T: Runner<N>, S: Shelf>(
     alloc: Global,
     line: &[u8],
@@ -202,12 +203,14 @@ pub(crate) fn own_text<const N: usize, T: Runner<N>, S: Shelf>(
 ) -> Result<Vec<u8>, OwnFault>
     requires runs { IsRunning (T.plan runner.old) (T.entries runner.old) desk.old.state.scenario }
     ensures text { MatchResult result
-        (λ text. Tells N (standing desk.old.state.scenario desk.old.earlier.items desk.old.state.tally) (colon_of line.now)
-        (second (words line.now)) text.items (standing desk.new.state.scenario desk.new.earlier.items desk.new.state.tally))
-        (λ fault. (standing desk.new.state.scenario desk.new.earlier.items desk.new.state.tally
-        ≡ standing desk.old.state.scenario desk.old.earlier.items desk.old.state.tally)
-        × Fails N (standing desk.old.state.scenario desk.old.earlier.items desk.old.state.tally) (colon_of line.now)
-        (second (words line.now)) fault) }
+        (λ text. Tells N
+        (with_shelf (standing desk.old.state.scenario desk.old.earlier.items desk.old.state.tally) (S.known shelf.old))
+        (colon_of line.now) (second (words line.now)) text.items
+        (with_shelf (standing desk.new.state.scenario desk.new.earlier.items desk.new.state.tally) (S.known shelf.new)))
+        (λ fault. Fails N
+        (with_shelf (standing desk.old.state.scenario desk.old.earlier.items desk.old.state.tally) (S.known shelf.old))
+        (colon_of line.now) (second (words line.now)) fault
+        (with_shelf (standing desk.new.state.scenario desk.new.earlier.items desk.new.state.tally) (S.known shelf.new))) }
     ensures runs { IsRunning (T.plan runner.new) (T.entries runner.new) desk.new.state.scenario }
     ensures tally { desk.new.state.tally ≡ desk.old.state.tally }
 {

@@ -1,19 +1,20 @@
 //! Where scenarios are saved.
 
-ghost use Rattle.std.specs.Prelude.{◌≡◌, ℕ, List, Option, None, OnOk};
-ghost use Rattle.pd_desk.specs.Shelf.{Puts};
+ghost use Rattle.std.specs.Prelude.{MatchResult};
+ghost use Rattle.pd_desk.specs.Shelf.{IsNotPut, IsPut, Shelved};
 
 use pd_device::DeviceFault;
 
 /// Where texts are put, each under a name.
 pub trait Shelf {
-    // the names and texts that were put there, where it tells them
-    ghost kept: { Self → Option (List (List ℕ × List ℕ)) } = { λ _. None };
+    // what is known of it
+    ghost known: { Self → Shelved };
 
     /// Puts a whole text under a name, in the place of what stands there.
     ///
     /// # Errors
-    /// It can't be put there.
+    /// It can't be put there, and what stands there stays.
     fn put(&mut self, name: &[u8], text: &[u8]) -> Result<(), DeviceFault>
-        ensures { OnOk result (Puts (kept self.old) (kept self.new) name.now text.now) };
+        ensures { MatchResult result (λ _. IsPut (known self.old) (known self.new) name.now text.now)
+            (λ _. IsNotPut (known self.old) (known self.new)) };
 }

@@ -1,5 +1,7 @@
 //! `pdlab live SCENARIO`.
 
+ghost use Rattle.pd_desk.specs.Shelf.{untold};
+
 use crate::Ending;
 use crate::fault::{output, tell, tell_refused, tell_unread};
 use pd_desk::{ByteIn, Outlets, Shelf, run_live};
@@ -12,19 +14,26 @@ use std::io::IsTerminal;
 use std::rt::Files;
 use std::{fs, io};
 
-/// Files, where scenarios are saved.
+/// Files, where scenarios are saved, and how many of them couldn't be written, up to the greatest value.
 #[derive(Drop)]
 struct Folder<'a, R> {
     files: &'a R,
+    failures: u64,
 }
 
 impl<'a, R: Files + Alloc<A = Global>> Shelf for Folder<'a, R> {
+    ghost known = { λ s. untold s.failures };
+
     fn put(&mut self, name: &[u8], text: &[u8]) -> Result<(), DeviceFault> {
         let saved = match std::str::from_utf8(name) {
             Ok(name) => save(self.files, name, text).is_ok(),
             Err(_) => false,
         };
-        if saved { Ok(()) } else { Err(DeviceFault) }
+        if saved {
+            return Ok(());
+        }
+        self.failures = self.failures.saturating_add(1);
+        Err(DeviceFault)
     }
 }
 
@@ -96,7 +105,10 @@ where
     let mut outlets = Outlets {
         answers: output(rt),
         reasons: output(errors),
-        shelf: Folder { files: rt },
+        shelf: Folder {
+            files: rt,
+            failures: 0,
+        },
     };
     let mut meter = Meter::new();
     let ended = run_live(

@@ -14,11 +14,10 @@ returns-in-Ok-clause-reply g c = (
 )
 
 pub returns-in-Err-clause-reply : goal.returns-in-Err-clause-reply
-returns-in-Err-clause-reply g c =
-    let failed = c.in-Err.ensures.text in (
-      [],
-      own_sentence c.in-Err.fault,
-      inr (c.in-Err.fault, failed.1, refl, refl, failed.0),
-      Appends-nil _,
-      (c.write_all-in-Err.result, rw c.sentence.ensures at c.write_all-in-Err.ensures.text, c.write_all-in-Err.ensures.counts),
-    )
+returns-in-Err-clause-reply g c = (
+  [],
+  own_sentence c.in-Err.fault,
+  inr (c.in-Err.fault, c.in-Err.ensures.text, refl, refl),
+  Appends-nil _,
+  (c.write_all-in-Err.result, rw c.sentence.ensures at c.write_all-in-Err.ensures.text, c.write_all-in-Err.ensures.counts),
+)
