@@ -1,7 +1,8 @@
 //! What sessions over a case come to, and whether a file is refused.
 
 ghost use Rattle.std.specs.Prelude.{IsTrue, IfSome};
-ghost use Rattle.pd_run_text.specs.Texts.{IsAnswered, IsRefusedBy};
+ghost use Rattle.pd_scenario_text.specs.Texts.{IsRefusedBy};
+ghost use Rattle.pd_run_text.specs.Texts.{IsAnswered};
 
 use crate::cases::Case;
 use pd_device::Output;

@@ -4,4 +4,5 @@
 mod texts;
 
 pub use pd_lanes::Look;
-pub use texts::{DrawFault, draw_text};
+pub use pd_scene::SceneFault;
+pub use texts::draw_text;

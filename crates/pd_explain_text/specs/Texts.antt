@@ -2,7 +2,7 @@
 use Rattle.std.specs.Prelude.{◌≡◌, ℕ, List, Result, Ok, Err}
 use Rattle.std.specs.Str.Lines.{lines}
 use Rattle.pd_scenario.specs.Scenarios.{ScenarioData}
-use Rattle.pd_run_text.specs.Texts.{IsRefused, IsScenarioText}
+use Rattle.pd_scenario_text.specs.Texts.{IsRefused, IsScenarioText}
 use Rattle.pd_script.specs.Script.{script_text}
 use Rattle.pd_explain_text.specs.declared.texts.ExplainFault.{ExplainFault}
 use Rattle.pd_explain_text.specs.declared.texts.ExplainFault.TheVariants as fault

@@ -3,7 +3,7 @@
 ghost use Rattle.std.specs.Prelude.{◌≡◌, ◌≤◌, Ok};
 ghost use Rattle.pd_scenario_tables.specs.Ports.{counted};
 ghost use Rattle.pd_scenario_text.specs.File.{members_of};
-ghost use Rattle.pd_run_text.specs.Texts.{ForTexts};
+ghost use Rattle.pd_scenario_text.specs.Texts.{ForTexts};
 ghost use Rattle.pd_explain_text.specs.Texts.{ExplainsText};
 
 use pd_scenario_text::{ScenarioFault, ScenarioFile};

@@ -1,3 +1,2 @@
 pub mod Paid
-pub mod Read
 pub mod Told

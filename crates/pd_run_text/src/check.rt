@@ -3,7 +3,7 @@
 ghost use Rattle.std.specs.Prelude.{◌≡◌, ◌≤◌, Ok};
 ghost use Rattle.pd_scenario_tables.specs.Ports.{counted};
 ghost use Rattle.pd_scenario_text.specs.File.{members_of};
-ghost use Rattle.pd_run_text.specs.Texts.{ForTexts, ChecksText};
+ghost use Rattle.pd_scenario_text.specs.Texts.{ForTexts, ChecksText};
 
 use pd_scenario_text::{ScenarioFault, ScenarioFile};
 use std::alloc::Global;

@@ -2,8 +2,9 @@ pub mod Answered
 pub mod Decided
 pub mod Differing
 pub mod Found
+pub mod Mapped
 pub mod Nowhere
+pub mod Read
 pub mod Rising
 pub mod Unique
 pub mod Valid
-pub mod Mapped

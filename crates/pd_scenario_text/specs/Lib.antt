@@ -5,3 +5,4 @@ pub mod Laws
 pub mod Names
 pub mod Reading
 pub mod Refusals
+pub mod Texts

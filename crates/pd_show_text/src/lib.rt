@@ -3,5 +3,6 @@
 
 mod texts;
 
+pub use pd_scene::SceneFault;
 pub use pd_show::{Choice, Form};
-pub use texts::{ShowFault, show_text};
+pub use texts::show_text;

@@ -5,6 +5,7 @@ mod count;
 mod texts;
 
 pub use count::packet_count;
+pub use pd_scene::SceneFault;
 pub use pd_sweep::{Campaign, Choice, Loss, Tally};
 pub use pd_sweep_lines::Form;
-pub use texts::{SweepFault, sweep_text};
+pub use texts::sweep_text;

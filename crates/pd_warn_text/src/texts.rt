@@ -4,7 +4,7 @@ ghost use Rattle.std.specs.Prelude.{◌≡◌, ◌≤◌, ◌++◌, Ok, OnOk};
 ghost use Rattle.std.specs.Str.Lines.{lines};
 ghost use Rattle.pd_scenario_tables.specs.Ports.{counted};
 ghost use Rattle.pd_scenario_text.specs.File.{members_of};
-ghost use Rattle.pd_run_text.specs.Texts.{ForTexts};
+ghost use Rattle.pd_scenario_text.specs.Texts.{ForTexts};
 ghost use Rattle.pd_warn_text.specs.Lines.{last_line};
 ghost use Rattle.pd_warn_text.specs.Sentences.{place_text, warning_line, warnings_text};
 ghost use Rattle.pd_warn_text.specs.Texts.{TellsWarnings, WarnsText};

@@ -4,7 +4,7 @@ use Rattle.std.specs.Str.Lines.{lines}
 use Rattle.pd_scenario.specs.Limits.{is_port}
 use Rattle.pd_scenario.specs.Plans.{plan_of}
 use Rattle.pd_scenario.specs.Scenarios.{ScenarioData}
-use Rattle.pd_run_text.specs.Texts.{IsRefused, IsScenarioText}
+use Rattle.pd_scenario_text.specs.Texts.{IsRefused, IsScenarioText}
 use Rattle.pd_script.specs.Script.{followed}
 use Rattle.pd_bounds.specs.declared.question.Question.{Question}
 use Rattle.pd_why_text.specs.declared.form.Form.{Form}

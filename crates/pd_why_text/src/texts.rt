@@ -6,7 +6,7 @@ ghost use Rattle.pd_scenario.specs.Limits.{is_port};
 ghost use Rattle.pd_scenario.specs.Plans.{plan_of};
 ghost use Rattle.pd_scenario_tables.specs.Ports.{counted};
 ghost use Rattle.pd_scenario_text.specs.File.{members_of};
-ghost use Rattle.pd_run_text.specs.Texts.{ForTexts};
+ghost use Rattle.pd_scenario_text.specs.Texts.{ForTexts};
 ghost use Rattle.pd_script.specs.Script.{followed};
 ghost use Rattle.pd_why_text.specs.Forms.{TellsStory};
 ghost use Rattle.pd_why_text.specs.Texts.{TellsText};

@@ -1,13 +1,13 @@
 //! `pdlab draw SCENARIO [EDITS]`.
 
-use crate::fault::{output, tell, tell_no_port, tell_refused, tell_unread};
+use crate::fault::{output, tell, tell_scene, tell_unread};
 use crate::numbers::{FROM, PORT, TO, WrongNumber, number_of};
 use crate::script_file::{read_input, read_script};
 use crate::shown::tell_lines;
 use crate::{Ending, numbers};
 use clap::ArgMatches;
-use pd_device::{BenchFault, write_all};
-use pd_draw_text::{DrawFault, Look, draw_text};
+use pd_device::write_all;
+use pd_draw_text::{Look, draw_text};
 use pd_port::Meter;
 use std::alloc::Global;
 use std::rt::Files;
@@ -54,8 +54,6 @@ pub fn drawn<R: Files + Input + Print + Alloc<A = Global>, E: Print>(
             Ok(()) => Ending::Done,
             Err(fault) => tell(errors, fault),
         },
-        Err(DrawFault::Scenario(fault)) => tell_refused(errors, scenario, fault),
-        Err(DrawFault::NoSuchPort) => tell_no_port(rt, errors, scenario, text, look.port),
-        Err(DrawFault::Memory) => tell(errors, BenchFault::Memory),
+        Err(fault) => tell_scene(rt, errors, scenario, text, look.port, fault),
     }
 }

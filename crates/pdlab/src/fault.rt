@@ -6,6 +6,7 @@ use crate::words::USAGE;
 use pd_desk::tell_reason;
 use pd_device::{BenchFault, Output};
 use pd_scenario_text::{ScenarioFault, port_count};
+use pd_scene::SceneFault;
 use std::alloc::Global;
 use std::io;
 use std::io::Printer;
@@ -31,6 +32,22 @@ pub fn tell_refused<E: Print>(errors: &E, file: &str, fault: ScenarioFault) -> E
     let _ = print!(errors; "{file}: ");
     let _ = tell_reason(&mut output(errors), fault.number());
     Ending::Refused
+}
+
+/// Tells why nothing, or not all, was done for the scenario of a file, of which a port may have been asked for.
+pub fn tell_scene<R: Alloc<A = Global>, E: Print>(
+    rt: &R,
+    errors: &E,
+    file: &str,
+    text: &[u8],
+    port: Option<usize>,
+    fault: SceneFault,
+) -> Ending {
+    match fault {
+        SceneFault::Scenario(fault) => tell_refused(errors, file, fault),
+        SceneFault::NoSuchPort => tell_no_port(rt, errors, file, text, port),
+        SceneFault::Job(fault) => tell(errors, fault),
+    }
 }
 
 /// Tells that the scenario of a file, by its text, doesn't have the port that was asked for.

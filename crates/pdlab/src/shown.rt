@@ -1,14 +1,14 @@
 //! `pdlab show SCENARIO [EDITS]`.
 
 use crate::Ending;
-use crate::fault::{output, tell, tell_no_port, tell_refused, tell_unread};
+use crate::fault::{output, tell, tell_scene, tell_unread};
 use crate::numbers::{FROM, PORT, TO, WrongNumber, number_of};
 use crate::script_file::{read_input, read_script};
 use clap::ArgMatches;
 use pd_device::{BenchFault, write_all};
 use pd_explain_text::{ExplainFault, explain_text};
 use pd_port::Meter;
-use pd_show_text::{Choice, Form, ShowFault, show_text};
+use pd_show_text::{Choice, Form, show_text};
 use std::alloc::Global;
 use std::rt::Files;
 
@@ -90,8 +90,6 @@ pub fn shown<R: Files + Input + Print + Alloc<A = Global>, E: Print>(
         &mut meter,
     ) {
         Ok(()) => Ending::Done,
-        Err(ShowFault::Scenario(fault)) => tell_refused(errors, scenario, fault),
-        Err(ShowFault::NoSuchPort) => tell_no_port(rt, errors, scenario, text, choice.port),
-        Err(ShowFault::Run(fault)) => tell(errors, fault),
+        Err(fault) => tell_scene(rt, errors, scenario, text, choice.port, fault),
     }
 }

@@ -1,7 +1,7 @@
 //! `pdlab sweep SCENARIO [EDITS]`.
 
 use crate::Ending;
-use crate::fault::{output, tell, tell_no_port, tell_refused, tell_unread};
+use crate::fault::{output, tell, tell_scene, tell_unread};
 use crate::numbers::{FROM, IN_A_ROW, PORT, RESERVE, TO, WrongNumber, number_of};
 use crate::progress::{Packets, Watched};
 use crate::script_file::{read_input, read_script};
@@ -10,7 +10,7 @@ use crate::words::USAGE;
 use clap::ArgMatches;
 use pd_header::{Kind, kind_of};
 use pd_port::Meter;
-use pd_sweep_text::{Campaign, Choice, Form, Loss, SweepFault, Tally, packet_count, sweep_text};
+use pd_sweep_text::{Campaign, Choice, Form, Loss, SceneFault, Tally, packet_count, sweep_text};
 use std::alloc::Global;
 use std::io::IsTerminal;
 use std::rt::{Clock, Files};
@@ -127,7 +127,7 @@ fn tally_of<R: Print + Clock + Alloc<A = Global>, E: Print + IsTerminal>(
     script: &[u8],
     campaign: &Campaign,
     form: Form,
-) -> Result<Tally, SweepFault> {
+) -> Result<Tally, SceneFault> {
     let (alloc, mut meter) = (rt.alloc(), Meter::new());
     if !errors.is_terminal() {
         let mut out = output(rt);
@@ -173,14 +173,13 @@ pub fn swept<R: Files + Input + Print + Clock + Alloc<A = Global>, E: Print + Is
     }
     match tally_of(rt, errors, text, script, campaign, form) {
         Ok(tally) => ending_of(&tally),
-        Err(SweepFault::Scenario(fault)) => tell_refused(errors, scenario, fault),
-        Err(SweepFault::NoSuchPort) => tell_no_port(
+        Err(fault) => tell_scene(
             rt,
             errors,
             scenario,
             text,
             campaign.choice.port,
+            fault,
         ),
-        Err(SweepFault::Run(fault)) => tell(errors, fault),
     }
 }

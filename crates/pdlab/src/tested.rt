@@ -1,11 +1,11 @@
 //! `pdlab test [--json] SCRIPT..`.
 
 use crate::Ending;
-use crate::fault::{output, tell, tell_refused, tell_twice, tell_unread};
+use crate::fault::{output, tell, tell_scene, tell_twice, tell_unread};
 use crate::script_file::read_input;
 use clap::ArgMatches;
 use pd_device::{BenchFault, write_all};
-use pd_expect::{TestFault, TestReport, TestTally, scenario_name, test_text};
+use pd_expect::{TestReport, TestTally, scenario_name, test_text};
 use pd_explain_text::push_objects;
 use pd_port::Meter;
 use pd_run_text::read_whole;
@@ -63,8 +63,14 @@ fn report_of<R: Files + Input + Print + Alloc<A = Global>, E: Print>(
     ) {
         Ok(report) if json => written_objects(rt, errors, script.as_bytes(), &report),
         Ok(report) => written(rt, errors, report.text.as_slice(), report.tally),
-        Err(TestFault::Scenario(fault)) => Err(tell_refused(errors, scenario.as_str(), fault)),
-        Err(TestFault::Memory) => Err(tell(errors, BenchFault::Memory)),
+        Err(fault) => Err(tell_scene(
+            rt,
+            errors,
+            scenario.as_str(),
+            text.as_slice(),
+            None,
+            fault,
+        )),
     }
 }
 

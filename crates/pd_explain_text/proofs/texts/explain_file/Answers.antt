@@ -1,5 +1,5 @@
 use Rattle.std.proofs.Common.{refl}
-use Rattle.pd_run_text.proofs.Read.{refused}
+use Rattle.pd_scenario_text.proofs.Read.{refused}
 use Rattle.pd_explain_text.proofs.texts.explain_file.Goals as goal
 
 pub returns-in-Err : goal.returns-in-Err

@@ -1,6 +1,6 @@
 use Rattle.std.proofs.Common.{refl}
 use Rattle.pd_run_text.proofs.Paid.{run_costs}
-use Rattle.pd_run_text.proofs.Read.{accepted, refused}
+use Rattle.pd_scenario_text.proofs.Read.{accepted, refused}
 use Rattle.pd_run_text.proofs.Told.{runs_text}
 use Rattle.pd_run_text.proofs.texts.run_file.Goals as goal
 

@@ -7,7 +7,7 @@ use Rattle.pd_scenario_text.specs.declared.file.ScenarioFile.{ScenarioFile}
 use Rattle.pd_scenario_text.specs.File.{members_of}
 use Rattle.pd_scenario_text.specs.Reading.{IsTextOf, Answers, Reads, reading}
 use Rattle.pd_scenario_text.proofs.Answered.{read_answer, not_toml}
-use Rattle.pd_run_text.specs.Texts.{IsScenarioText, IsRefused}
+use Rattle.pd_scenario_text.specs.Texts.{IsScenarioText, IsRefused}
 
 reads_of : (n : ℕ) (text : List ℕ) (file : ScenarioFile) (answer : Result ScenarioData ScenarioFault) → IsTextOf text (members_of file)
     → Answers answer (reading n (members_of file)) → Reads n text answer

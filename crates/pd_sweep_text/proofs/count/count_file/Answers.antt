@@ -1,5 +1,0 @@
-use Rattle.pd_run_text.proofs.Read.{refused}
-use Rattle.pd_sweep_text.proofs.count.count_file.Goals as goal
-
-pub returns-in-Err : goal.returns-in-Err
-returns-in-Err g c = λ text is. refused g.row.N text c.args.file _ is c.requires.counts c.in-Err.ensures
