@@ -1,4 +1,6 @@
-pub mod LeastLemmas
-pub mod LevelLemmas
+pub mod BandLemmas
+pub mod MarkLemmas
+pub mod PhaseLemmas
 pub mod PictureLemmas
-pub mod ToldLemmas
+pub mod TitleLemmas
+pub mod WalkLemmas

@@ -1,5 +1,7 @@
-pub mod Chart
-pub mod Curves
+pub mod Bands
+pub mod Lanes
 pub mod Laws
+pub mod Marks
+pub mod Phases
 pub mod Picture
-pub mod Scale
+pub mod Places

@@ -1,17 +1,25 @@
-//! The chart of a run: the shared budget, the ports' contracts and what they hold of it, over time.
+//! A run as a picture: below the chart of the budget a lane for each port, with the phases of its source, its events, contracts,
+//! faults and packets.
 #![tactic(auto)]
 
-mod amounts;
-mod chart;
-mod curves;
-mod frame;
+mod bands;
+mod lane;
+mod lanes;
 mod laws;
-mod look;
+mod marks;
+mod moves;
+mod phase;
 mod picture;
+mod place;
+mod texts;
+mod walk;
 
-pub use chart::push_port_name;
-pub use curves::{Curve, Curves, Level};
-pub use frame::Frame;
-pub use laws::curves_are_true;
-pub use look::Look;
-pub use picture::{push_chart, push_head};
+pub use lane::Lane;
+pub use lanes::Lanes;
+pub use laws::{bands_are_true, phases_stand, titles_are_lines};
+pub use pd_chart::Look;
+pub use pd_scene::SceneFault;
+pub use phase::Phase;
+pub use place::{Place, Row};
+pub use texts::draw_text;
+pub use walk::draw;

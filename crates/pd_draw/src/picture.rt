@@ -1,180 +1,196 @@
-//! The chart of a picture, and the picture's size.
+//! The picture of a run.
 
-ghost use Rattle.std.specs.Prelude.{◌≡◌, ◌∷◌, ◌++◌, ◌≤◌, OnOk, codes, decimal};
+ghost use Rattle.std.specs.Prelude.{◌≡◌, ◌∷◌, ◌++◌, ◌≤◌, [], OnOk, All};
 ghost use Rattle.std.specs.List.{flat_map};
-ghost use Rattle.pd_svg.specs.Elements.{attribute_text, element_text};
-ghost use Rattle.pd_draw.specs.Picture.{axes_text, curves_text, elements_of, head_of, keys_text};
-ghost use Rattle.pd_draw.specs.Picture.{least_elements, rules, stacks_text, top_of, whole_width};
+ghost use Rattle.pd_svg.specs.Elements.{drawing_text, element_text};
+ghost use Rattle.pd_draw.specs.Lanes.{Drawn, last_elements, shown_ports};
+ghost use Rattle.pd_draw.specs.Picture.{bottom_of, lanes_text, names_of, phase_key, phases, picture, row_words, lane_rules};
 
-use crate::chart::{
-    push_areas, push_budget, push_keys, push_line_keys, push_margin_mark, push_margin_words,
-    push_outlines, push_power_ticks, push_time_ticks,
-};
-use crate::curves::{greatest, tightest};
-use crate::{Frame, Level};
-use pd_svg::{push_attribute, push_style};
-use pd_tell::push_number;
+use crate::place::lane_top;
+use crate::{Lanes, Phase};
+use pd_chart::{Frame, Level, push_chart, push_head, push_port_name};
+use pd_svg::{Area, push_box, push_style, push_words};
 use std::alloc::{AllocError, Global};
 
-/// How the classes look.
-#[tactic(auto, unfolding(crate::specs::Picture::rules))]
-fn rules() -> &'static [u8]
-    ensures { result.now ≡ rules }
+/// How the lanes look.
+#[tactic(auto, unfolding(crate::specs::Picture::lane_rules))]
+fn lane_rules() -> &'static [u8]
+    ensures { result.now ≡ lane_rules }
 {
-    b"svg{background:#fff;font:100px sans-serif}.head{font-size:130px}.middle{text-anchor:middle}.end{text-anchor:end}\
-      path{fill:none;stroke-width:10}.grid{stroke:#ddd;stroke-width:5}.budget{stroke:#000;stroke-width:20}\
-      .least{stroke:#c00;stroke-width:50;stroke-linecap:round}.p1,.p2,.p3,.p4,.p5,.p6,.p7,.p8{stroke:#000;stroke-width:5}.p1{fill:#e69f00}\
-      .p2{fill:#56b4e9}.p3{fill:#009e73}.p4{fill:#f0e442}.p5{fill:#0072b2}.p6{fill:#d55e00}.p7{fill:#cc79a7}\
-      .p8{fill:#999}.hold{stroke:#444;stroke-width:12;stroke-dasharray:40 15}.h1{stroke:#7a5400}.h2{stroke:#1c5f8a}\
-      .h3{stroke:#00402f}.h4{stroke:#7d7500}.h5{stroke:#00304d}.h6{stroke:#6e3000}.h7{stroke:#7a2f58}.h8{stroke:#444}"
+    b"text{paint-order:stroke;stroke:#fff;stroke-width:20}.label,.row{stroke:none;font-family:monospace;pointer-events:none}\
+      .label{font-size:90px}.row{text-anchor:end}.detached{fill:#ccc}.negotiating{fill:#b3dcf5}.contract{fill:#99d8c7}.hard{fill:#ee9e66}\
+      .disabled{fill:#000}.event{stroke:#0072b2}.change{stroke:#009e73}.fault{stroke:#c00;stroke-width:20}.packet{stroke:#000}\
+      .box{fill:#fff;stroke-width:5}"
 }
 
-/// How far up the chart reaches, in microwatts.
-fn top_of(levels: &[Level]) -> u32
-    ensures { result ≡ top_of levels.now }
+/// Draws what the band of a phase looks like.
+#[tactic(auto, unfolding(crate::specs::Picture::phase_key))]
+fn push_phase_key(text: &mut Vec<u8>, phase: Phase) -> Result<(), AllocError>
+    ensures { OnOk result (text.new.items ≡ text.old.items ++ flat_map element_text (phase_key phase)) }
 {
-    greatest(levels).min(1_000_000_000) as u32
-}
-
-/// Writes the part of the plane that the picture shows.
-fn push_view(text: &mut Vec<u8>, width: u64, height: u64) -> Result<(), AllocError>
-    ensures { OnOk result (text.new.items ≡ text.old.items ++ (codes "0 0 " ++ (decimal width ++ (32 ∷ decimal height)))) }
-{
-    text.extend_from_slice(b"0 0 ")?;
-    push_number(text, width)?;
-    text.push(b' ')?;
-    push_number(text, height)
-}
-
-/// Writes the picture's size: it is so high, in tenths of a pixel.
-///
-/// # Errors
-/// There is no memory for it; some of it may stand in the text.
-#[tactic(auto, unfolding(crate::specs::Picture::head_of))]
-pub fn push_head(
-    alloc: Global,
-    text: &mut Vec<u8>,
-    frame: Frame,
-    bottom: u64,
-) -> Result<(), AllocError>
-    ensures { OnOk result (text.new.items ≡ text.old.items ++ flat_map attribute_text (head_of frame bottom)) }
-{
-    let whole = u64::from(frame.width) + 1_100;
-    let mut width = Vec::new(alloc);
-    let mut height = Vec::new(alloc);
-    let mut view = Vec::new(alloc);
-    push_number(&mut width, whole / 10)?;
-    push_number(&mut height, bottom / 10)?;
-    push_view(&mut view, whole, bottom)?;
-    push_attribute(text, b"xmlns", b"http://www.w3.org/2000/svg")?;
-    push_attribute(text, b"width", width.as_slice())?;
-    push_attribute(text, b"height", height.as_slice())?;
-    push_attribute(text, b"viewBox", view.as_slice())
-}
-
-/// Draws the least margin.
-fn push_least(
-    alloc: Global,
-    text: &mut Vec<u8>,
-    frame: Frame,
-    top: u32,
-    levels: &[Level],
-) -> Result<(), AllocError>
-    ensures { OnOk result (text.new.items ≡ text.old.items ++ flat_map element_text (least_elements frame top levels.now)) }
-{
-    let [first, rest @ ..] = levels else {
-        return Ok(());
+    let left = 700 + 1_500 * u64::from(phase.number()).saturating_sub(1);
+    let height = phase.height();
+    let area = Area {
+        x: left,
+        y: 3_910u64.saturating_sub(height),
+        width: 200,
+        height,
     };
-    let least = tightest(*first, rest);
-    push_margin_mark(alloc, text, frame, top, &least)?;
-    push_margin_words(alloc, text, &least)
+    push_box(text, phase.name(), area, b"")?;
+    push_words(text, b"label", left + 230, 3_890, phase.name())
 }
 
-/// Draws the contracts of ports, and over them what the ports hold.
-#[tactic(auto, unfolding(crate::specs::Picture::stacks_text))]
-fn push_stacks(
+/// Draws what the bands of all phases look like.
+fn push_phase_keys(text: &mut Vec<u8>) -> Result<(), AllocError>
+    ensures { OnOk result (text.new.items ≡ text.old.items ++ flat_map element_text (flat_map phase_key phases)) }
+{
+    push_phase_key(text, Phase::Detached)?;
+    push_phase_key(text, Phase::Negotiating)?;
+    push_phase_key(text, Phase::Contract)?;
+    push_phase_key(text, Phase::HardReset)?;
+    push_phase_key(text, Phase::Disabled)
+}
+
+/// Writes the name of a row of a lane.
+fn push_row_words(text: &mut Vec<u8>, top: u16, row: u16, words: &[u8]) -> Result<(), AllocError>
+    ensures { OnOk result (text.new.items ≡ text.old.items ++ element_text (row_words top row words.now)) }
+{
+    push_words(text, b"row", 660, u64::from(top) + u64::from(row), words)
+}
+
+/// Writes the names of the rows of a port's lane.
+#[tactic(auto, unfolding(crate::specs::Picture::names_of))]
+fn push_names(
     alloc: Global,
     text: &mut Vec<u8>,
-    frame: Frame,
-    top: u32,
-    levels: &[Level],
+    chosen: Option<usize>,
+    port: usize,
+) -> Result<(), AllocError>
+    requires { port ≤ 8 }
+    ensures { OnOk result (text.new.items ≡ text.old.items ++ flat_map element_text (names_of chosen port)) }
+{
+    let top = lane_top(chosen, port);
+    let mut name = Vec::new(alloc);
+    push_port_name(&mut name, port as u64)?;
+    push_row_words(text, top, 105, name.as_slice())?;
+    push_row_words(text, top, 240, b"events")?;
+    push_row_words(text, top, 380, b"contracts")?;
+    push_row_words(text, top, 520, b"faults")?;
+    push_row_words(text, top, 660, b"packets")
+}
+
+/// Writes the names of the rows of ports' lanes.
+fn push_all_names(
+    alloc: Global,
+    text: &mut Vec<u8>,
+    chosen: Option<usize>,
     ports: &[usize],
 ) -> Result<(), AllocError>
-    ensures { OnOk result (text.new.items ≡ text.old.items ++ stacks_text frame top levels.now ports.now) }
+    requires { All (λ port. port ≤ 8) ports.now }
+    ensures { OnOk result (text.new.items ≡ text.old.items ++ flat_map (λ port. flat_map element_text (names_of chosen port)) ports.now) }
 {
-    push_areas(alloc, text, frame, top, levels, ports)?;
-    push_outlines(alloc, text, frame, top, levels, ports)
+    for port in ports {
+        push_names(alloc, text, chosen, *port)?;
+    }
+    Ok(())
 }
 
-/// Draws the contracts and the holds from the last port to the first, the budget, and the least margin.
-#[tactic(auto, unfolding(crate::specs::Picture::curves_text))]
-fn push_curves(
+/// Draws the last bands of ports' lanes.
+fn push_lasts(
+    text: &mut Vec<u8>,
+    frame: Frame,
+    chosen: Option<usize>,
+    lanes: &Lanes,
+    ports: &[usize],
+) -> Result<(), AllocError>
+    requires { All (λ port. (1 ≤ port) × (port ≤ 8)) ports.now }
+    ensures { OnOk result (text.new.items
+        ≡ text.old.items ++ flat_map (λ port. flat_map element_text (last_elements frame chosen lanes.now.lanes port)) ports.now) }
+{
+    for port in ports {
+        lanes.push_last(text, frame, chosen, *port)?;
+    }
+    Ok(())
+}
+
+/// Draws the lanes of ports.
+#[tactic(auto, unfolding(crate::specs::Picture::lanes_text))]
+fn push_lanes_of(
+    alloc: Global,
+    text: &mut Vec<u8>,
+    frame: Frame,
+    chosen: Option<usize>,
+    lanes: &Lanes,
+    ports: &[usize],
+) -> Result<(), AllocError>
+    requires { All (λ port. (1 ≤ port) × (port ≤ 8)) ports.now }
+    ensures { OnOk result (text.new.items
+        ≡ text.old.items ++ lanes_text frame chosen ports.now lanes.now.lanes lanes.now.text) }
+{
+    push_style(text, lane_rules())?;
+    push_phase_keys(text)?;
+    push_all_names(alloc, text, chosen, ports)?;
+    text.extend_from_slice(lanes.text())?;
+    push_lasts(text, frame, chosen, lanes, ports)
+}
+
+/// Draws the lanes of the ports that have them.
+fn push_lanes(
     alloc: Global,
     text: &mut Vec<u8>,
     frame: Frame,
     ports: usize,
-    levels: &[Level],
+    chosen: Option<usize>,
+    lanes: &Lanes,
 ) -> Result<(), AllocError>
     requires { ports ≤ 8 }
-    ensures { OnOk result (text.new.items ≡ text.old.items ++ curves_text frame ports levels.now) }
-{
-    let top = top_of(levels);
-    let down = [8usize, 7, 6, 5, 4, 3, 2, 1];
-    push_stacks(alloc, text, frame, top, levels, &down[8 - ports..])?;
-    push_budget(alloc, text, frame, top, levels)?;
-    push_least(alloc, text, frame, top, levels)
-}
-
-/// Draws what the colours and the lines stand for.
-#[tactic(auto, unfolding(crate::specs::Picture::keys_text))]
-fn push_all_keys(alloc: Global, text: &mut Vec<u8>, ports: usize) -> Result<(), AllocError>
-    requires { ports ≤ 8 }
-    ensures { OnOk result (text.new.items ≡ text.old.items ++ keys_text ports) }
+    ensures { OnOk result (text.new.items
+        ≡ text.old.items ++ lanes_text frame chosen (shown_ports ports chosen) lanes.now.lanes lanes.now.text) }
 {
     let up = [1usize, 2, 3, 4, 5, 6, 7, 8];
-    push_keys(alloc, text, &up[..ports])?;
-    push_line_keys(alloc, text, ports)
+    match chosen {
+        None => push_lanes_of(alloc, text, frame, chosen, lanes, &up[..ports]),
+        Some(port) if 1 <= port && port <= 8 => {
+            push_lanes_of(alloc, text, frame, chosen, lanes, &[port])
+        }
+        Some(_) => push_lanes_of(alloc, text, frame, chosen, lanes, &[]),
+    }
 }
 
-/// Draws the axes.
-#[tactic(auto, unfolding(crate::specs::Picture::axes_text))]
-fn push_axes(
-    alloc: Global,
-    text: &mut Vec<u8>,
-    frame: Frame,
-    bottom: u64,
-    levels: &[Level],
-) -> Result<(), AllocError>
-    ensures { OnOk result (text.new.items ≡ text.old.items ++ axes_text frame bottom levels.now) }
+/// Where the lanes end.
+fn bottom_of(ports: usize, chosen: Option<usize>) -> u64
+    requires { ports ≤ 8 }
+    ensures value { result ≡ bottom_of ports chosen }
+    ensures within { result ≤ 10400 }
 {
-    let top = top_of(levels);
-    push_time_ticks(
-        alloc,
-        text,
-        frame,
-        bottom,
-        &[0, 1, 2, 3, 4, 5, 6, 7, 8, 9, 10],
-    )?;
-    push_power_ticks(alloc, text, frame, top, &[0, 1, 2, 3, 4, 5])
+    match chosen {
+        None => 4_000 + 800 * ports as u64,
+        Some(port) if 1 <= port && port <= 8 => 4_800,
+        Some(_) => 4_000,
+    }
 }
 
-/// Draws the chart; the lines of times go down to the picture's end, in tenths of a pixel.
-///
-/// # Errors
-/// There is no memory for it; some of it may stand in the text.
-pub fn push_chart(
+/// Draws the picture of the steps of so many ports and of their lanes.
+#[tactic(auto, unfolding(crate::specs::Picture::picture))]
+pub(crate) fn push_picture(
     alloc: Global,
     text: &mut Vec<u8>,
     frame: Frame,
-    bottom: u64,
     ports: usize,
+    chosen: Option<usize>,
     levels: &[Level],
+    lanes: &Lanes,
 ) -> Result<(), AllocError>
     requires { ports ≤ 8 }
-    ensures { OnOk result (text.new.items ≡ text.old.items ++ flat_map element_text (elements_of frame bottom ports levels.now)) }
+    ensures { OnOk result ((d : Drawn) → lanes.now.lanes ≡ d.lanes → lanes.now.text ≡ flat_map element_text d.elements
+        → text.new.items ≡ text.old.items ++ drawing_text (picture frame ports chosen levels.now d)) }
 {
-    push_style(text, rules())?;
-    push_all_keys(alloc, text, ports)?;
-    push_axes(alloc, text, frame, bottom, levels)?;
-    push_curves(alloc, text, frame, ports, levels)
+    let bottom = bottom_of(ports, chosen);
+    text.extend_from_slice(b"<svg")?;
+    push_head(alloc, text, frame, bottom)?;
+    text.extend_from_slice(b">\n")?;
+    push_chart(alloc, text, frame, bottom, ports, levels)?;
+    push_lanes(alloc, text, frame, ports, chosen, lanes)?;
+    text.extend_from_slice(b"</svg>\n")?;
+    Ok(())
 }

@@ -12,8 +12,8 @@ use pd_objects::Contract;
 use pd_report::{Margin, least_margin};
 use pd_run::Runner;
 use pd_scenario::Scenario;
-use pd_sweep::summary_of;
 use pd_test_lines::{Expectation, Span, quoted};
+use pd_trials::summary_of;
 
 /// What a run has of what is expected.
 #[derive(Clone, Copy, Debug)]

@@ -4,3 +4,4 @@ pub mod Pages
 pub mod Seen
 pub mod Show
 pub mod Since
+pub mod Texts

@@ -1,8 +1,8 @@
-pub mod Along
-pub mod Choices
-pub mod Laws
-pub mod Summaries
-pub mod Tallies
-pub mod Trials
-pub mod Variants
-pub mod Words
+pub mod Columns
+pub mod Counts
+pub mod Forms
+pub mod Names
+pub mod Objects
+pub mod Rows
+pub mod Sweeps
+pub mod Texts

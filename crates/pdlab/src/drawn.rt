@@ -7,7 +7,7 @@ use crate::shown::tell_lines;
 use crate::{Ending, numbers};
 use clap::ArgMatches;
 use pd_device::write_all;
-use pd_draw_text::{Look, draw_text};
+use pd_draw::{Look, draw_text};
 use pd_port::Meter;
 use std::alloc::Global;
 use std::rt::Files;

@@ -8,7 +8,7 @@ use clap::ArgMatches;
 use pd_device::{BenchFault, write_all};
 use pd_explain_text::{ExplainFault, explain_text};
 use pd_port::Meter;
-use pd_show_text::{Choice, Form, show_text};
+use pd_show::{Choice, Form, show_text};
 use std::alloc::Global;
 use std::rt::Files;
 

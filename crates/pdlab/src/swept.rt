@@ -10,7 +10,7 @@ use crate::words::USAGE;
 use clap::ArgMatches;
 use pd_header::{Kind, kind_of};
 use pd_port::Meter;
-use pd_sweep_text::{Campaign, Choice, Form, Loss, SceneFault, Tally, packet_count, sweep_text};
+use pd_sweep::{Campaign, Choice, Form, Loss, SceneFault, Tally, packet_count, sweep_text};
 use std::alloc::Global;
 use std::io::IsTerminal;
 use std::rt::{Clock, Files};
@@ -173,13 +173,6 @@ pub fn swept<R: Files + Input + Print + Clock + Alloc<A = Global>, E: Print + Is
     }
     match tally_of(rt, errors, text, script, campaign, form) {
         Ok(tally) => ending_of(&tally),
-        Err(fault) => tell_scene(
-            rt,
-            errors,
-            scenario,
-            text,
-            campaign.choice.port,
-            fault,
-        ),
+        Err(fault) => tell_scene(rt, errors, scenario, text, campaign.choice.port, fault),
     }
 }

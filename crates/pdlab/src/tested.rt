@@ -63,14 +63,7 @@ fn report_of<R: Files + Input + Print + Alloc<A = Global>, E: Print>(
     ) {
         Ok(report) if json => written_objects(rt, errors, script.as_bytes(), &report),
         Ok(report) => written(rt, errors, report.text.as_slice(), report.tally),
-        Err(fault) => Err(tell_scene(
-            rt,
-            errors,
-            scenario.as_str(),
-            text.as_slice(),
-            None,
-            fault,
-        )),
+        Err(fault) => Err(tell_scene(rt, errors, scenario.as_str(), text.as_slice(), None, fault)),
     }
 }
 

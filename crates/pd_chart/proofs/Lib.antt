@@ -1,0 +1,4 @@
+pub mod LeastLemmas
+pub mod LevelLemmas
+pub mod PictureLemmas
+pub mod ToldLemmas

@@ -1,0 +1,9 @@
+use Rattle.std.proofs.Common.{◌≡◌, ◌++◌, take}
+use Rattle.std.specs.List.{flat_map}
+use Rattle.pd_svg.specs.Elements.{element_text}
+use Rattle.pd_chart.specs.Chart.{area_of}
+use Rattle.pd_chart.proofs.chart.push_areas.Given as goal
+
+abbrev pub invariant-loop-port : goal.invariant-loop-port
+invariant-loop-port l =
+    l.text.items ≡ l.fn.text.items ++ flat_map (λ port. element_text (area_of l.frame l.top l.levels port)) (take l.port-index l.ports)

@@ -1,0 +1,5 @@
+pub mod Chart
+pub mod Curves
+pub mod Laws
+pub mod Picture
+pub mod Scale

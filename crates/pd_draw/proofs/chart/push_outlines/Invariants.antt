@@ -1,9 +1,0 @@
-use Rattle.std.proofs.Common.{◌≡◌, ◌++◌, take}
-use Rattle.std.specs.List.{flat_map}
-use Rattle.pd_svg.specs.Elements.{element_text}
-use Rattle.pd_draw.specs.Chart.{outline_of}
-use Rattle.pd_draw.proofs.chart.push_outlines.Given as goal
-
-abbrev pub invariant-loop-port : goal.invariant-loop-port
-invariant-loop-port l =
-    l.text.items ≡ l.fn.text.items ++ flat_map (λ port. element_text (outline_of l.frame l.top l.levels port)) (take l.port-index l.ports)

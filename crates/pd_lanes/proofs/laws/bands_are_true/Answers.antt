@@ -1,5 +1,0 @@
-use Rattle.pd_lanes.proofs.BandLemmas.{bands_are_true}
-use Rattle.pd_lanes.proofs.laws.bands_are_true.Goals as goal
-
-pub returns : goal.returns
-returns c = bands_are_true

@@ -1,0 +1,59 @@
+-- The summary of a sweep as a JSON object.
+use Rattle.std.specs.Prelude.{ℕ, List, [], ◌++◌, codes, decimal, Option, Some, None}
+use Rattle.pd_tell.specs.Members.{number_member}
+use Rattle.pd_trials.specs.declared.tally.Lowest.{Lowest}
+use Rattle.pd_trials.specs.declared.tally.Tally.{Tally}
+use Rattle.pd_trials.specs.declared.tally.Worst.{Worst}
+use Rattle.pd_sweep.specs.Objects.{instant_members, packet_members}
+
+-- how many packets were lost, and how many of the runs end with other contracts
+abbrev pub counts_members : Tally → List ℕ
+counts_members tally = number_member (codes "packets") tally.tried ++ number_member (codes "other_contracts") tally.changed
+
+-- a column's worst: how much more there is, behind its key, and the packet
+abbrev pub worst_object : List ℕ → Worst → List ℕ
+worst_object more w =
+    codes "{\"" ++ (more ++ (codes "\":" ++ (decimal w.by ++ (packet_members w.target ++ codes "}"))))
+
+abbrev pub worst_json : List ℕ → Option Worst → List ℕ
+worst_json more None = codes "null"
+worst_json more (Some w) = worst_object more w
+
+unfoldable pub worst_member : List ℕ → List ℕ → Option Worst → List ℕ
+worst_member key more worst = codes ",\"" ++ (key ++ (codes "\":" ++ worst_json more worst))
+
+abbrev pub columns_members : Tally → List ℕ
+columns_members tally =
+    worst_member (codes "latest_settled") (codes "more_us") tally.settled
+    ++ (worst_member (codes "most_faults") (codes "more") tally.faults
+    ++ worst_member (codes "most_hard_resets") (codes "more") tally.hard_resets)
+
+-- the least that a loss leaves, when, and by which ports
+abbrev pub lowest_object : Lowest → List ℕ
+lowest_object l =
+    codes "{\"least_margin_uw\":" ++ (decimal l.margin.left ++ (instant_members l.margin.at l.makers
+    ++ (packet_members l.target ++ codes "}")))
+
+abbrev pub lowest_json : Option Lowest → List ℕ
+lowest_json None = codes "null"
+lowest_json (Some l) = lowest_object l
+
+unfoldable pub lowest_member : List ℕ → Option Lowest → List ℕ
+lowest_member key lowest = codes ",\"" ++ (key ++ (codes "\":" ++ lowest_json lowest))
+
+-- in how many runs less is left than so many milliwatts, where that is asked
+abbrev pub less_members : ℕ → ℕ → List ℕ
+less_members mw short = number_member (codes "reserve_mw") mw ++ number_member (codes "left_less") short
+
+abbrev pub short_members : Option ℕ → ℕ → List ℕ
+short_members None short = []
+short_members (Some mw) short = less_members mw short
+
+abbrev pub tally_members : Option ℕ → Tally → List ℕ
+tally_members reserve tally =
+    counts_members tally ++ (columns_members tally ++ (lowest_member (codes "least_margin") tally.margin
+    ++ short_members reserve tally.short))
+
+-- an object, and the end of its line
+unfoldable pub tally_object : Option ℕ → Tally → List ℕ
+tally_object reserve tally = codes "{\"kind\":\"summary\"" ++ (tally_members reserve tally ++ codes "}\n")

@@ -1,0 +1,128 @@
+-- A trial as a JSON object, and the summary of all: the keys of a shown run, with a number's unit at the end of its key.
+use Rattle.std.specs.Prelude.{ℕ, ◌+◌, nat_lt, Bool, List, [], ◌∷◌, ◌++◌, codes, decimal, if◌then◌else◌, Option, Some, None}
+use Rattle.pd_symbols.specs.declared.channel.Channel.{Channel}
+use Rattle.pd_header.specs.Header.{id_of}
+use Rattle.pd_header.specs.Kinds.{kind_of_header, name_of}
+use Rattle.pd_objects.specs.declared.contract.Contract.{Contract}
+use Rattle.pd_edit_lines.specs.Numbers.{number_of}
+use Rattle.pd_tell.specs.Members.{number_member, text_member}
+use Rattle.pd_tell.specs.Words.{side_words}
+use Rattle.pd_trials.specs.Words.{are_same, is_same, listed}
+use Rattle.pd_trials.specs.declared.findings.Findings.{Findings}
+use Rattle.pd_trials.specs.declared.makers.Makers.{Makers}
+use Rattle.pd_trials.specs.declared.packets.Target.{Target}
+use Rattle.pd_trials.specs.declared.summary.Summary.{Summary}
+use Rattle.pd_trials.specs.declared.trial.Outcome.{Outcome}
+use Rattle.pd_trials.specs.declared.trial.Outcome.TheVariants.{Ran, Missed, Disturbed, Barred}
+use Rattle.pd_trials.specs.declared.trial.Trial.{Trial}
+use Rattle.pd_trials.specs.declared.variant.Obstacle.{Obstacle}
+use Rattle.pd_trials.specs.declared.variant.Obstacle.TheVariants.{NoId, Refused}
+use Rattle.pd_sweep.specs.Names.{set_name, signed_text, truth}
+
+-- ---- members, each behind a comma
+
+-- whether something holds, behind its key
+unfoldable pub flag_member : List ℕ → Bool → List ℕ
+flag_member key b = codes ",\"" ++ (key ++ (codes "\":" ++ truth b))
+
+-- how much more a number is than it was, behind its key
+unfoldable pub signed_member : List ℕ → ℕ → ℕ → List ℕ
+signed_member key old new = codes ",\"" ++ (key ++ (codes "\":" ++ signed_text old new))
+
+-- ---- a packet
+
+-- its ordered set, the message's name and its ID
+abbrev pub message_members : Channel → ℕ → List ℕ
+message_members channel header =
+    text_member (codes "set") (set_name channel)
+    ++ (text_member (codes "message") (name_of (kind_of_header header)) ++ number_member (codes "id") (id_of header))
+
+-- its time, its port, who sends it, and the message
+abbrev pub packet_members : Target → List ℕ
+packet_members t =
+    number_member (codes "at_us") t.at ++ (number_member (codes "port") t.port ++ (text_member (codes "side") (side_words t.side)
+    ++ message_members t.channel t.header))
+
+-- ---- contracts at the end
+
+abbrev pub contract_object : Contract → List ℕ
+contract_object c =
+    codes "{\"position\":" ++ (decimal c.position ++ (number_member (codes "voltage_mv") c.mv
+    ++ (number_member (codes "current_ma") c.ma ++ codes "}")))
+
+abbrev pub contract_json : Option Contract → List ℕ
+contract_json None = codes "null"
+contract_json (Some c) = contract_object c
+
+-- the contract of a port, and that without the loss
+unfoldable pub change_object : ℕ → Option Contract → Option Contract → List ℕ
+change_object port old new =
+    codes "{\"port\":" ++ (decimal port ++ (codes ",\"contract\":" ++ (contract_json new ++ (codes ",\"was\":"
+    ++ (contract_json old ++ codes "}")))))
+
+-- those of the ports that have another contract, from one port on: the first behind some words, and each further one behind a comma
+unfoldable pub change_objects : List ℕ → ℕ → List (Option Contract) → List (Option Contract) → List ℕ
+change_objects lead port [] news = []
+change_objects lead port (old ∷ olds) [] = []
+change_objects lead port (old ∷ olds) (new ∷ news) =
+    if is_same old new then change_objects lead (port + 1) olds news
+    else lead ++ (change_object port old new ++ change_objects (codes ",") (port + 1) olds news)
+
+unfoldable pub changes_member : List (Option Contract) → List (Option Contract) → List ℕ
+changes_member olds news = codes ",\"contracts\":[" ++ (change_objects [] 1 olds news ++ codes "]")
+
+-- ---- the run in which a packet is lost beside the one in which it isn't
+
+abbrev pub later_members : Summary → Summary → List ℕ
+later_members old new =
+    signed_member (codes "settled_us") old.standing.settled new.standing.settled
+    ++ (signed_member (codes "faults") old.mishaps.faults new.mishaps.faults
+    ++ signed_member (codes "hard_resets") old.mishaps.hard_resets new.mishaps.hard_resets)
+
+abbrev pub summary_members : Summary → Summary → List ℕ
+summary_members old new =
+    flag_member (codes "same_contracts") (are_same old.standing.contracts new.standing.contracts)
+    ++ (changes_member old.standing.contracts new.standing.contracts ++ later_members old new)
+
+-- the ports whose contracts are made at an instant
+unfoldable pub ports_member : Makers → List ℕ
+ports_member m = codes ",\"lower_ports\":[" ++ (listed [] (codes ",") 1 m.ports ++ codes "]")
+
+-- the first instant at which the least is left, and the ports whose contracts are made then
+abbrev pub instant_members : ℕ → Makers → List ℕ
+instant_members at makers = number_member (codes "lower_at_us") at ++ ports_member makers
+
+-- where it is less than without the loss
+abbrev pub lower_members : Findings → Findings → List ℕ
+lower_members old new =
+    if nat_lt new.margin.left old.margin.left then instant_members new.margin.at new.makers
+    else codes ",\"lower_at_us\":null,\"lower_ports\":[]"
+
+abbrev pub margin_members : Findings → Findings → List ℕ
+margin_members old new = number_member (codes "least_margin_uw") new.margin.left ++ lower_members old new
+
+abbrev pub run_members : Findings → Findings → List ℕ
+run_members old new = summary_members old.summary new.summary ++ margin_members old new
+
+-- ---- what comes of losing a packet
+
+abbrev pub hit_members : Findings → Findings → List ℕ
+hit_members old new = text_member (codes "outcome") (codes "hit") ++ run_members old new
+
+abbrev pub refused_members : ℕ → List ℕ
+refused_members number = text_member (codes "outcome") (codes "refused") ++ number_member (codes "refusal") number
+
+abbrev pub barred_members : Obstacle → List ℕ
+barred_members NoId = text_member (codes "outcome") (codes "no_id")
+barred_members (Refused fault) = refused_members (number_of fault)
+
+abbrev pub outcome_members : Findings → Outcome → List ℕ
+outcome_members old (Ran new) = hit_members old new
+outcome_members old Missed = text_member (codes "outcome") (codes "not_hit")
+outcome_members old Disturbed = text_member (codes "outcome") (codes "disturbed")
+outcome_members old (Barred obstacle) = barred_members obstacle
+
+-- an object, and the end of its line
+unfoldable pub trial_object : Findings → Trial → List ℕ
+trial_object old trial =
+    codes "{\"kind\":\"packet\"" ++ (packet_members trial.target ++ (outcome_members old trial.outcome ++ codes "}\n"))

@@ -1,0 +1,84 @@
+-- A trial as comma-separated values. What stands in quotation marks has none in it.
+use Rattle.std.specs.Prelude.{ℕ, nat_lt, List, [], ◌∷◌, ◌++◌, codes, decimal, if◌then◌else◌, Option}
+use Rattle.pd_symbols.specs.declared.channel.Channel.{Channel}
+use Rattle.pd_header.specs.Header.{id_of}
+use Rattle.pd_header.specs.Kinds.{kind_of_header, name_of}
+use Rattle.pd_objects.specs.declared.contract.Contract.{Contract}
+use Rattle.pd_edit_lines.specs.Numbers.{number_of}
+use Rattle.pd_tell.specs.Words.{side_words}
+use Rattle.pd_trials.specs.Words.{are_same, contracts_words, listed}
+use Rattle.pd_trials.specs.declared.findings.Findings.{Findings}
+use Rattle.pd_trials.specs.declared.makers.Makers.{Makers}
+use Rattle.pd_trials.specs.declared.packets.Target.{Target}
+use Rattle.pd_trials.specs.declared.summary.Summary.{Summary}
+use Rattle.pd_trials.specs.declared.trial.Outcome.{Outcome}
+use Rattle.pd_trials.specs.declared.trial.Outcome.TheVariants.{Ran, Missed, Disturbed, Barred}
+use Rattle.pd_trials.specs.declared.trial.Trial.{Trial}
+use Rattle.pd_trials.specs.declared.variant.Obstacle.{Obstacle}
+use Rattle.pd_trials.specs.declared.variant.Obstacle.TheVariants.{NoId, Refused}
+use Rattle.pd_sweep.specs.Names.{set_name, signed_text, truth}
+
+-- the names of the values
+abbrev pub first_names : List ℕ
+first_names = codes "at_us,port,side,set,message,id,outcome,same_contracts,contracts,"
+
+abbrev pub last_names : List ℕ
+last_names = codes "settled_us,faults,hard_resets,least_margin_uw,lower_at_us,lower_ports\n"
+
+-- a packet: its time, its port, who sends it, the ordered set, the message's name and its ID
+abbrev pub message_values : Channel → ℕ → List ℕ
+message_values channel header =
+    codes "," ++ (set_name channel ++ (codes "," ++ (name_of (kind_of_header header) ++ (codes "," ++ decimal (id_of header)))))
+
+abbrev pub packet_values : Target → List ℕ
+packet_values t =
+    decimal t.at ++ (codes "," ++ (decimal t.port ++ (codes "," ++ (side_words t.side ++ message_values t.channel t.header))))
+
+-- whether the contracts at the end are the same, and in words which are others
+unfoldable pub contracts_values : List (Option Contract) → List (Option Contract) → List ℕ
+contracts_values olds news =
+    codes "," ++ (truth (are_same olds news) ++ (codes ",\"" ++ (contracts_words olds news ++ codes "\"")))
+
+-- how much more a number is than it was
+abbrev pub more_value : ℕ → ℕ → List ℕ
+more_value old new = 44 ∷ signed_text old new
+
+abbrev pub later_values : Summary → Summary → List ℕ
+later_values old new =
+    more_value old.standing.settled new.standing.settled
+    ++ (more_value old.mishaps.faults new.mishaps.faults ++ more_value old.mishaps.hard_resets new.mishaps.hard_resets)
+
+-- the first instant at which the least is left, and the ports whose contracts are made then, with a space between them
+abbrev pub instant_values : ℕ → Makers → List ℕ
+instant_values at m = codes "," ++ (decimal at ++ (codes "," ++ listed [] (codes " ") 1 m.ports))
+
+-- where it is less than without the loss
+abbrev pub lower_values : Findings → Findings → List ℕ
+lower_values old new =
+    if nat_lt new.margin.left old.margin.left then instant_values new.margin.at new.makers else codes ",,"
+
+abbrev pub margin_values : Findings → Findings → List ℕ
+margin_values old new = codes "," ++ (decimal new.margin.left ++ lower_values old new)
+
+abbrev pub run_values : Findings → Findings → List ℕ
+run_values old new =
+    contracts_values old.summary.standing.contracts new.summary.standing.contracts
+    ++ (later_values old.summary new.summary ++ margin_values old new)
+
+-- what comes of losing a packet; without a run eight values are empty
+abbrev pub barred_values : Obstacle → List ℕ
+barred_values NoId = codes ",no_id,,,,,,,,"
+barred_values (Refused fault) = codes ",refused " ++ (decimal (number_of fault) ++ codes ",,,,,,,,")
+
+abbrev pub hit_values : Findings → Findings → List ℕ
+hit_values old new = codes ",hit" ++ run_values old new
+
+abbrev pub outcome_values : Findings → Outcome → List ℕ
+outcome_values old (Ran new) = hit_values old new
+outcome_values old Missed = codes ",not_hit,,,,,,,,"
+outcome_values old Disturbed = codes ",disturbed,,,,,,,,"
+outcome_values old (Barred obstacle) = barred_values obstacle
+
+-- a row
+unfoldable pub trial_row : Findings → Trial → List ℕ
+trial_row old trial = packet_values trial.target ++ (outcome_values old trial.outcome ++ codes "\n")

@@ -1,0 +1,14 @@
+-- What a sweep comes to, for a scenario.
+use Rattle.std.specs.Prelude.{ℕ, List, Result, Option}
+use Rattle.pd_device.specs.declared.fault.BenchFault.{BenchFault}
+use Rattle.pd_scenario.specs.Scenarios.{ScenarioData}
+use Rattle.pd_trials.specs.declared.choice.Campaign.{Campaign}
+use Rattle.pd_trials.specs.declared.tally.Tally.{Tally}
+use Rattle.pd_sweep.specs.Sweeps.{CountsSweep, Sweeps}
+use Rattle.pd_sweep.specs.declared.form.Form.{Form}
+
+-- the sweep of a scenario of n ports, or some first bytes of it where a run fails; and the count of failed writes says whether one failed
+pub record SweepsScene (campaign : Campaign) (form : Form) (n : ℕ) (s : ScenarioData) (result : Result Tally BenchFault)
+    (taken taken' : Option (List ℕ)) (writes writes' : ℕ) : Type 0 where
+  pub text : Sweeps n s campaign form result taken taken'
+  pub counts : CountsSweep result writes writes'

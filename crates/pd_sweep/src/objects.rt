@@ -1,0 +1,279 @@
+//! A trial as a JSON object.
+
+ghost use Rattle.std.specs.Prelude.{◌≡◌, ◌+◌, ◌<◌, ◌^◌, ◌++◌, OnOk, length};
+ghost use Rattle.pd_sweep.specs.Objects.{barred_members, change_object, change_objects, changes_member, contract_json};
+ghost use Rattle.pd_sweep.specs.Objects.{contract_object, flag_member, hit_members, instant_members, later_members};
+ghost use Rattle.pd_sweep.specs.Objects.{lower_members, margin_members, message_members, outcome_members, packet_members};
+ghost use Rattle.pd_sweep.specs.Objects.{ports_member, refused_members, run_members, signed_member, summary_members};
+ghost use Rattle.pd_sweep.specs.Objects.{trial_object};
+
+use crate::names::{push_signed, set_name, truth};
+use pd_header::{header_id, header_kind};
+use pd_objects::Contract;
+use pd_symbols::Channel;
+use pd_tell::{push_number, push_number_member, push_text_member, side_text};
+use pd_trials::{
+    Findings, Makers, Obstacle, Outcome, Summary, Target, Trial, are_same, is_same, push_listed,
+};
+use std::alloc::AllocError;
+
+/// Writes whether something holds, behind its key.
+#[tactic(auto, unfolding(crate::specs::Objects::flag_member))]
+fn push_flag(text: &mut Vec<u8>, key: &[u8], holds: bool) -> Result<(), AllocError>
+    ensures { OnOk result (text.new.items ≡ text.old.items ++ flag_member key.now holds) }
+{
+    text.extend_from_slice(b",\"")?;
+    text.extend_from_slice(key)?;
+    text.extend_from_slice(b"\":")?;
+    text.extend_from_slice(truth(holds))
+}
+
+/// Writes how much more a number is than it was, behind its key.
+#[tactic(auto, unfolding(crate::specs::Objects::signed_member))]
+fn push_signed_member(
+    text: &mut Vec<u8>,
+    key: &[u8],
+    old: u128,
+    new: u128,
+) -> Result<(), AllocError>
+    ensures { OnOk result (text.new.items ≡ text.old.items ++ signed_member key.now old new) }
+{
+    text.extend_from_slice(b",\"")?;
+    text.extend_from_slice(key)?;
+    text.extend_from_slice(b"\":")?;
+    push_signed(text, old, new)
+}
+
+/// Writes a message.
+fn push_message(text: &mut Vec<u8>, channel: Channel, header: u16) -> Result<(), AllocError>
+    ensures { OnOk result (text.new.items ≡ text.old.items ++ message_members channel header) }
+{
+    push_text_member(text, b"set", set_name(channel))?;
+    push_text_member(
+        text,
+        b"message",
+        header_kind(header).name().as_str().as_bytes(),
+    )?;
+    push_number_member(text, b"id", u64::from(header_id(header)))
+}
+
+/// Writes a packet.
+pub(crate) fn push_packet_members(text: &mut Vec<u8>, target: &Target) -> Result<(), AllocError>
+    ensures { OnOk result (text.new.items ≡ text.old.items ++ packet_members target.now) }
+{
+    push_number_member(text, b"at_us", target.at)?;
+    push_number_member(text, b"port", target.port as u64)?;
+    push_text_member(text, b"side", side_text(target.side))?;
+    push_message(text, target.channel, target.header)
+}
+
+/// Writes a contract.
+fn push_contract_object(text: &mut Vec<u8>, contract: &Contract) -> Result<(), AllocError>
+    ensures { OnOk result (text.new.items ≡ text.old.items ++ contract_object contract.now) }
+{
+    text.extend_from_slice(b"{\"position\":")?;
+    push_number(text, u64::from(contract.position))?;
+    push_number_member(text, b"voltage_mv", u64::from(contract.mv))?;
+    push_number_member(text, b"current_ma", u64::from(contract.ma))?;
+    text.extend_from_slice(b"}")
+}
+
+/// Writes a contract, or that there is none.
+fn push_contract_json(text: &mut Vec<u8>, contract: &Option<Contract>) -> Result<(), AllocError>
+    ensures { OnOk result (text.new.items ≡ text.old.items ++ contract_json contract.now) }
+{
+    match contract {
+        None => text.extend_from_slice(b"null"),
+        Some(contract) => push_contract_object(text, contract),
+    }
+}
+
+/// Writes the contract of a port, and that without the loss.
+#[tactic(auto, unfolding(crate::specs::Objects::change_object))]
+fn push_change(
+    text: &mut Vec<u8>,
+    port: u64,
+    old: &Option<Contract>,
+    new: &Option<Contract>,
+) -> Result<(), AllocError>
+    ensures { OnOk result (text.new.items ≡ text.old.items ++ change_object port old.now new.now) }
+{
+    text.extend_from_slice(b"{\"port\":")?;
+    push_number(text, port)?;
+    text.extend_from_slice(b",\"contract\":")?;
+    push_contract_json(text, new)?;
+    text.extend_from_slice(b",\"was\":")?;
+    push_contract_json(text, old)?;
+    text.extend_from_slice(b"}")
+}
+
+/// Writes those of the ports that have another contract, from one port on: the first behind some words, each further one behind
+/// a comma.
+#[tactic(auto, unfolding(crate::specs::Objects::change_objects))]
+fn push_changes(
+    text: &mut Vec<u8>,
+    lead: &[u8],
+    port: u64,
+    olds: &[Option<Contract>],
+    news: &[Option<Contract>],
+) -> Result<(), AllocError>
+    requires { port + length olds.now < 2 ^ 64 }
+    ensures { OnOk result (text.new.items ≡ text.old.items ++ change_objects lead.now port olds.now news.now) }
+{
+    let [old, olds @ ..] = olds else {
+        return Ok(());
+    };
+    let [new, news @ ..] = news else {
+        return Ok(());
+    };
+    if is_same(old, new) {
+        return push_changes(text, lead, port + 1, olds, news);
+    }
+    text.extend_from_slice(lead)?;
+    push_change(text, port, old, new)?;
+    push_changes(text, b",", port + 1, olds, news)
+}
+
+/// Writes the contracts at the end that are others, each beside that without the loss.
+fn push_changes_member(
+    text: &mut Vec<u8>,
+    olds: &[Option<Contract>; 8],
+    news: &[Option<Contract>; 8],
+) -> Result<(), AllocError>
+    ensures { OnOk result (text.new.items ≡ text.old.items ++ changes_member olds.now news.now) }
+{
+    text.extend_from_slice(b",\"contracts\":[")?;
+    push_changes(text, b"", 1, olds, news)?;
+    text.extend_from_slice(b"]")?;
+    Ok(())
+}
+
+/// Writes how much later the last contract changes, and how many faults and Hard Resets there are more.
+fn push_later(text: &mut Vec<u8>, old: &Summary, new: &Summary) -> Result<(), AllocError>
+    ensures { OnOk result (text.new.items ≡ text.old.items ++ later_members old.now new.now) }
+{
+    let (before, after) = (
+        u128::from(old.standing.settled),
+        u128::from(new.standing.settled),
+    );
+    push_signed_member(text, b"settled_us", before, after)?;
+    push_signed_member(text, b"faults", old.mishaps.faults, new.mishaps.faults)?;
+    push_signed_member(
+        text,
+        b"hard_resets",
+        old.mishaps.hard_resets,
+        new.mishaps.hard_resets,
+    )
+}
+
+/// Writes the summary of a run beside that of the one without the loss.
+fn push_summary(text: &mut Vec<u8>, old: &Summary, new: &Summary) -> Result<(), AllocError>
+    ensures { OnOk result (text.new.items ≡ text.old.items ++ summary_members old.now new.now) }
+{
+    let (olds, news) = (&old.standing.contracts, &new.standing.contracts);
+    push_flag(text, b"same_contracts", are_same(olds, news))?;
+    push_changes_member(text, olds, news)?;
+    push_later(text, old, new)
+}
+
+/// Writes the ports whose contracts are made at an instant.
+#[tactic(auto, unfolding(crate::specs::Objects::ports_member))]
+fn push_ports(text: &mut Vec<u8>, makers: &Makers) -> Result<(), AllocError>
+    ensures { OnOk result (text.new.items ≡ text.old.items ++ ports_member makers.now) }
+{
+    text.extend_from_slice(b",\"lower_ports\":[")?;
+    push_listed(text, b"", b",", 1, &makers.ports)?;
+    text.extend_from_slice(b"]")
+}
+
+/// Writes an instant, and the ports whose contracts are made then.
+pub(crate) fn push_instant_members(
+    text: &mut Vec<u8>,
+    at: u64,
+    makers: &Makers,
+) -> Result<(), AllocError>
+    ensures { OnOk result (text.new.items ≡ text.old.items ++ instant_members at makers.now) }
+{
+    push_number_member(text, b"lower_at_us", at)?;
+    push_ports(text, makers)
+}
+
+/// Writes the first instant at which the least is left, and by which ports, where that is less than without the loss.
+fn push_lower(text: &mut Vec<u8>, old: &Findings, new: &Findings) -> Result<(), AllocError>
+    ensures { OnOk result (text.new.items ≡ text.old.items ++ lower_members old.now new.now) }
+{
+    if new.margin.left < old.margin.left {
+        push_instant_members(text, new.margin.at, &new.makers)
+    } else {
+        text.extend_from_slice(b",\"lower_at_us\":null,\"lower_ports\":[]")
+    }
+}
+
+/// Writes the least that is left of the budget.
+fn push_margin(text: &mut Vec<u8>, old: &Findings, new: &Findings) -> Result<(), AllocError>
+    ensures { OnOk result (text.new.items ≡ text.old.items ++ margin_members old.now new.now) }
+{
+    push_number_member(text, b"least_margin_uw", new.margin.left)?;
+    push_lower(text, old, new)
+}
+
+/// Writes the run in which a packet is lost beside the one in which it isn't.
+fn push_run(text: &mut Vec<u8>, old: &Findings, new: &Findings) -> Result<(), AllocError>
+    ensures { OnOk result (text.new.items ≡ text.old.items ++ run_members old.now new.now) }
+{
+    push_summary(text, &old.summary, &new.summary)?;
+    push_margin(text, old, new)
+}
+
+/// Writes that a packet is hit, and the run in which it is.
+fn push_hit(text: &mut Vec<u8>, old: &Findings, new: &Findings) -> Result<(), AllocError>
+    ensures { OnOk result (text.new.items ≡ text.old.items ++ hit_members old.now new.now) }
+{
+    push_text_member(text, b"outcome", b"hit")?;
+    push_run(text, old, new)
+}
+
+/// Writes that the event is refused.
+fn push_refused(text: &mut Vec<u8>, number: u64) -> Result<(), AllocError>
+    ensures { OnOk result (text.new.items ≡ text.old.items ++ refused_members number) }
+{
+    push_text_member(text, b"outcome", b"refused")?;
+    push_number_member(text, b"refusal", number)
+}
+
+/// Writes why a packet can't be lost.
+fn push_barred(text: &mut Vec<u8>, obstacle: &Obstacle) -> Result<(), AllocError>
+    ensures { OnOk result (text.new.items ≡ text.old.items ++ barred_members obstacle.now) }
+{
+    match obstacle {
+        Obstacle::NoId => push_text_member(text, b"outcome", b"no_id"),
+        Obstacle::Refused(fault) => push_refused(text, u64::from(fault.number())),
+    }
+}
+
+/// Writes what comes of losing a packet.
+fn push_outcome(text: &mut Vec<u8>, old: &Findings, outcome: &Outcome) -> Result<(), AllocError>
+    ensures { OnOk result (text.new.items ≡ text.old.items ++ outcome_members old.now outcome.now) }
+{
+    match outcome {
+        Outcome::Ran(new) => push_hit(text, old, new),
+        Outcome::Missed => push_text_member(text, b"outcome", b"not_hit"),
+        Outcome::Disturbed => push_text_member(text, b"outcome", b"disturbed"),
+        Outcome::Barred(obstacle) => push_barred(text, obstacle),
+    }
+}
+
+/// Writes the object of a trial.
+pub(crate) fn push_trial_object(
+    text: &mut Vec<u8>,
+    old: &Findings,
+    trial: &Trial,
+) -> Result<(), AllocError>
+    ensures { OnOk result (text.new.items ≡ text.old.items ++ trial_object old.now trial.now) }
+{
+    text.extend_from_slice(b"{\"kind\":\"packet\"")?;
+    push_packet_members(text, &trial.target)?;
+    push_outcome(text, old, &trial.outcome)?;
+    text.extend_from_slice(b"}\n")?;
+    Ok(())
+}

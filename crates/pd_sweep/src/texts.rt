@@ -1,0 +1,94 @@
+//! Each packet of a run lost in turn, for the scenarios of texts.
+
+ghost use Rattle.pd_scene.specs.Outlet.{SameEnds};
+ghost use Rattle.pd_scene.specs.Scene.{Scene, follows};
+ghost use Rattle.pd_sweep.specs.Texts.{SweepsScene};
+
+use crate::{Form, sweep};
+use pd_device::{BenchFault, TextOut};
+use pd_keep::Kept;
+use pd_port::Meter;
+use pd_run::Runner;
+use pd_scenario::Scenario;
+use pd_scene::{Job, JobOn, Outlet, SceneFault, on_scene};
+use pd_trials::{Campaign, Tally};
+use std::alloc::Global;
+
+// Which packets are lost, and how that is told.
+#[derive(Drop)]
+struct Sweeping<'a> {
+    campaign: &'a Campaign,
+    form: Form,
+}
+
+impl<'w, W: TextOut> Job<Outlet<'w, W, Meter>> for Sweeping<'_> {
+    type Answer = Tally;
+
+    ghost needs = { λ j. j.campaign.now.choice.port };
+
+    ghost does = { λ j n s r old new. SameEnds old new
+        × SweepsScene j.campaign.now j.form n s r (W.taken old.writer.now) (W.taken new.writer.now)
+        (W.failures old.writer.now) (W.failures new.writer.now) };
+
+    fn port(&self) -> Option<usize> {
+        self.campaign.choice.port
+    }
+}
+
+impl<'w, const N: usize, W: TextOut> JobOn<N, Outlet<'w, W, Meter>> for Sweeping<'_> {
+    fn on(
+        &self,
+        alloc: Global,
+        scenario: Scenario<N>,
+        to: &mut Outlet<'w, W, Meter>,
+    ) -> Result<Tally, BenchFault>
+        ensures { SameEnds to.old to.new
+            × SweepsScene self.now.campaign.now self.now.form N scenario.entry result
+            (W.taken to.old.writer.now) (W.taken to.new.writer.now) (W.failures to.old.writer.now) (W.failures to.new.writer.now) }
+    {
+        let mut run: Kept<N> = Kept::empty(alloc);
+        sweep(
+            alloc,
+            &mut run,
+            &scenario,
+            self.campaign,
+            self.form,
+            to.writer,
+            to.meter,
+        )
+    }
+}
+
+/// Loses each packet that is chosen of the run of the scenario of a text, which has 1 to 8 ports, as an edit script leaves it, and
+/// tells what that leads to. A line of the script that is refused changes nothing.
+///
+/// # Errors
+/// `Scenario` where the text is refused, `NoSuchPort` where it hasn't the port that is chosen, and nothing is written; `Job`
+/// where a run fails, and some first bytes of the text may be written.
+pub fn sweep_text<W: TextOut>(
+    alloc: Global,
+    text: &[u8],
+    script: &[u8],
+    campaign: &Campaign,
+    form: Form,
+    writer: &mut W,
+    meter: &mut Meter,
+) -> Result<Tally, SceneFault>
+    ensures { Scene campaign.now.choice.port (follows
+        (λ n s r old new. SweepsScene campaign.now form n s r (W.taken old) (W.taken new) (W.failures old) (W.failures new)) script.now)
+        result text.now writer.old writer.new }
+{
+    let mut outlet = Outlet { writer, meter };
+    let answer = on_scene(
+        alloc,
+        text,
+        script,
+        &Sweeping { campaign, form },
+        &mut outlet,
+    );
+    let Outlet {
+        writer: _,
+        meter: _,
+    } = outlet;
+    answer
+}
