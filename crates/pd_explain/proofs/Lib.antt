@@ -1,5 +1,6 @@
 mod FirstReason
 mod Least
+mod Others
 mod WhereBroken
 mod WordCounts
 pub mod NearWords

@@ -1,5 +1,5 @@
 -- What is said of a place at which a rule is broken: this product's own form, docs/FORMATS.md, "Reasons".
-use Rattle.std.specs.Prelude.{ℕ, List, [], ◌∷◌, ◌++◌, map, codes, decimal, nat_lt, if◌then◌else◌}
+use Rattle.std.specs.Prelude.{ℕ, ◌-◌, ◌==◌, List, [], ◌∷◌, ◌++◌, length, take, map, codes, decimal, nat_lt, if◌then◌else◌}
 use Rattle.std.specs.List.{flat_map}
 use Rattle.pd_near.specs.Slips.{nearest, meant_text}
 use Rattle.pd_scenario.specs.declared.limits.Quantity.{Quantity}
@@ -15,14 +15,28 @@ use Rattle.pd_explain.specs.declared.place.Counted.TheVariants as counted
 use Rattle.pd_explain.specs.declared.place.Place.{Place}
 use Rattle.pd_explain.specs.declared.place.Place.TheVariants as place
 
--- ---- what there is
+-- ---- what there is: eight of a list at most, and how many more
 
 -- the words of a list behind a comma each
 abbrev pub behind_commas : List (List ℕ) → List ℕ
 behind_commas words = flat_map (λ word. 44 ∷ 32 ∷ word) words
 
+-- so many are told behind the first
+abbrev pub most_others : ℕ
+most_others = 7
+
+unfoldable pub more_words : ℕ → List ℕ
+more_words count = codes " and " ++ (decimal count ++ codes " more")
+
+-- how many more there are than are told, where there are any
+abbrev pub more_text : ℕ → List ℕ
+more_text count = if count == 0 then [] else more_words count
+
+unfoldable pub others_text : List (List ℕ) → List ℕ
+others_text others = behind_commas (take most_others others) ++ more_text (length others - most_others)
+
 unfoldable pub some_text : List ℕ → List (List ℕ) → List ℕ
-some_text first others = codes "; there are " ++ (first ++ behind_commas others)
+some_text first others = codes "; there are " ++ (first ++ others_text others)
 
 -- what there is in place of what isn't there
 unfoldable pub there_are : List (List ℕ) → List ℕ
