@@ -1,6 +1,7 @@
 mod NumberedTexts
 mod FirstLines
 mod Found
+mod Seen
 mod Told
 mod TablesTold
 mod LimitsTold

@@ -3,7 +3,7 @@ use Rattle.std.proofs.Common.{◌≡◌, ℕ, ◌+◌, ◌<◌, ◌≤◌, Bool,
 use Rattle.std.proofs.Common.{length, map, refl, sym, ap, ◌∙◌, subst, arith, inl, inr, Some, append_assoc}
 use Rattle.std.specs.Prelude.{nat_lt, bytes_eq}
 use Rattle.std.specs.List.{list_any, list_all, position_from}
-use Rattle.std.proofs.lemmas.Bool.{false≢true, cases_Bool, and_parts, or_parts}
+use Rattle.std.proofs.lemmas.Bool.{false≢true, cases_Bool, and_parts}
 use Rattle.std.proofs.lemmas.Bool.Decides.{nat_tests}
 use Rattle.std.proofs.lemmas.List.{append-nil}
 use Rattle.std.proofs.lemmas.Simd.{map-map}
@@ -35,6 +35,7 @@ use Rattle.pd_places.specs.Numbered.{numbered}
 use Rattle.pd_places.specs.Same.{same_sentence, same_part, same_names_text, same_ids_text, names_of, ids_of, same_text}
 use Rattle.pd_places.proofs.Told.{Told, begins_of, begins_on, or_told, if_told}
 use Rattle.pd_places.proofs.TablesTold.{numbered_told}
+use Rattle.pd_places.proofs.Seen.{position_here, not_less}
 use Rattle.pd_places.proofs.KnownTold.{name_there}
 
 -- ---- the first that passes a test, among some and others behind them
@@ -51,21 +52,10 @@ position_before p i (x ∷ xs) rest h =
           (j, rw other is, omega (arith, less))
     ]
 
-position_here : {V : Type 0} (p : V → Bool) (i : ℕ) (before rest : List V) (x : V) → list_any p before ≡ false → p x ≡ true
-    → position_from p i (before ++ x ∷ rest) ≡ Some (i + length before)
-position_here p i [] rest x none own = let same : i ≡ i + 0 = omega arith in rw own (ap (λ (n : ℕ). Some n) same)
-position_here p i (y ∷ ys) rest x none own =
-    let both = or_parts (p y) (list_any p ys) none in
-    let same : (i + 1) + length ys ≡ i + length (y ∷ ys) = omega arith in
-    rw both.0 (position_here p (i + 1) ys rest x both.1 own ∙ ap (λ (n : ℕ). Some n) same)
-
 -- ---- a value that stands at an earlier table is told
 
 less_is : (a b : ℕ) → a < b → nat_lt a b ≡ true
 less_is a b h = grind (arith, nat_tests)
-
-not_less : (a b : ℕ) → b ≤ a → nat_lt a b ≡ false
-not_less a b h = grind (arith, nat_tests)
 
 same_told : (front word : List ℕ) (k : Key) (value : List ℕ) (number j : ℕ)
     → Told front (nat_lt (j + 1) number) (same_part front word k value number (Some j))

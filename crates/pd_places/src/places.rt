@@ -20,7 +20,7 @@ use crate::counts::push_count;
 use crate::first_lines::FirstLines;
 use crate::funds::{push_events_low, push_low};
 use crate::known::push_events_known;
-use crate::same::{push_same_ids, push_same_names};
+use crate::same::push_same_values;
 use pd_misfits::{explain_tables, explain_top, file_front};
 use pd_scenario_tables::{Key, ScenarioFault, counted, number_at, tables_at, version_at};
 use std::alloc::{AllocError, Global};
@@ -48,15 +48,15 @@ const REFUSALS: [ScenarioFault; 10] = [
     ScenarioFault::Limit,
 ];
 
-/// Writes where names and ids stand twice.
+/// Writes where names and ids stand twice, up to as many as are told.
 #[tactic(auto, unfolding(crate::specs::Same::same_text))]
 fn push_duplicates(
     alloc: Global,
-    text: &mut Vec<u8>,
+    told: &mut FirstLines,
     front: &[u8],
     top: &Table,
 ) -> Result<(), AllocError>
-    ensures { OnOk result (text.new.items ≡ text.old.items ++ same_text front.now (tables_of (table_view top.now))) }
+    ensures { OnOk result (told.new ≡ added told.old (same_text front.now (tables_of (table_view top.now)))) }
 {
     let cables = tables_at(alloc, top, Key::Cable)?;
     let cable_names = names_of(alloc, &cables)?;
@@ -64,9 +64,7 @@ fn push_duplicates(
     let sink_names = names_of(alloc, &sinks)?;
     let events = tables_at(alloc, top, Key::Event)?;
     let ids = ids_of(alloc, &events)?;
-    push_same_names(alloc, text, front, "cable", &cable_names)?;
-    push_same_names(alloc, text, front, "sink", &sink_names)?;
-    push_same_ids(alloc, text, front, &ids)
+    push_same_values(alloc, told, front, &cable_names, &sink_names, &ids)
 }
 
 /// Writes which budgets are too low for the floors of at most eight ports.
@@ -171,8 +169,8 @@ fn push_refusal(
     let front = front.as_slice();
     let mut text = Vec::new(alloc);
     match fault {
+        ScenarioFault::Duplicate => return push_duplicates(alloc, told, front, top),
         ScenarioFault::UnknownName => return push_known(alloc, told, front, top),
-        ScenarioFault::Duplicate => push_duplicates(alloc, &mut text, front, top)?,
         ScenarioFault::Floors => push_funds(alloc, &mut text, front, top)?,
         ScenarioFault::Limit => push_counts(alloc, &mut text, front, top)?,
         _ => push_misfits(alloc, &mut text, name, fault, top)?,

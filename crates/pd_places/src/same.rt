@@ -1,15 +1,19 @@
 //! Refusal 7: names and ids that stand at an earlier table of the same kind.
 
-ghost use Rattle.std.specs.Prelude.{◌≡◌, ◌++◌, OnOk, bytes_eq};
+ghost use Rattle.std.specs.Prelude.{◌≡◌, ◌-◌, ◌≤◌, ◌++◌, OnOk, Some, bytes_eq, codes};
+ghost use Rattle.std.specs.Bool.{OnTrue};
 ghost use Rattle.std.specs.List.{position_from};
 ghost use Rattle.pd_scenario_text.specs.Names.{texts};
 ghost use Rattle.pd_misfits.specs.Lines.{line};
+ghost use Rattle.pd_places.specs.FirstLines.{added};
 ghost use Rattle.pd_places.specs.Same.{same_sentence, same_part, first_name, same_name_part, same_names_text};
 ghost use Rattle.pd_places.specs.Same.{first_id, same_id_part, same_ids_text};
 
+use crate::first_lines::FirstLines;
 use pd_misfits::{push_line, push_number, push_quoted, table_front};
 use pd_scenario_tables::Key;
 use std::alloc::{AllocError, Global};
+use std::collections::BTreeSet;
 
 /// Writes the value at a key, and the number of the first table that has it.
 #[tactic(auto, unfolding(crate::specs::Same::same_sentence))]
@@ -69,49 +73,64 @@ fn first_name(names: &[&str], name: &str) -> Option<usize>
     position_of(names, name)
 }
 
-/// Writes a line for a name that an earlier table has.
+/// Writes a line for a name that an earlier table has; a new one is the first of its kind.
+#[tactic(auto, unfolding(crate::specs::FirstLines::added))]
 fn push_same_name(
     alloc: Global,
-    text: &mut Vec<u8>,
+    told: &mut FirstLines,
     front: &[u8],
     word: &str,
     names: &[&str],
     number: usize,
     name: &str,
+    is_new: bool,
 ) -> Result<(), AllocError>
-    ensures { OnOk result (text.new.items ≡ text.old.items ++ same_name_part front.now word.now (texts names.now) number name.now) }
+    requires from_one { 1 ≤ number }
+    requires first { OnTrue is_new (first_name (texts names.now) name.now ≡ Some (number - 1)) }
+    ensures { OnOk result (told.new ≡ added told.old (same_name_part front.now word.now (texts names.now) number name.now)) }
 {
+    if is_new {
+        return Ok(());
+    }
     if name.is_empty() {
         return Ok(());
     }
     let mut value = Vec::new(alloc);
     push_quoted(&mut value, name.as_bytes())?;
     let before = first_name(names, name);
+    let mut line = Vec::new(alloc);
     push_same(
         alloc,
-        text,
+        &mut line,
         front,
         word,
         Key::Name,
         value.as_slice(),
         number,
         before,
-    )
+    )?;
+    told.add(line.as_slice())
 }
 
-/// Writes a line for each name that an earlier table has.
-pub fn push_same_names(
+/// Writes a line for each name that an earlier table has, up to as many as are told. The names that came before are kept in a set:
+/// the first of its kind is looked for only where there is one.
+fn push_same_names(
     alloc: Global,
-    text: &mut Vec<u8>,
+    told: &mut FirstLines,
     front: &[u8],
     word: &str,
     names: &[&str],
 ) -> Result<(), AllocError>
-    ensures { OnOk result (text.new.items ≡ text.old.items ++ same_names_text front.now word.now (texts names.now)) }
+    ensures { OnOk result (told.new ≡ added told.old (same_names_text front.now word.now (texts names.now))) }
 {
+    let mut seen = BTreeSet::new(alloc);
     let mut number = 1;
     for name in names {
-        push_same_name(alloc, text, front, word, names, number, name)?;
+        if told.is_full() {
+            return Ok(());
+        }
+        let is_new = seen.insert(*name)?;
+        push_same_name(alloc, told, front, word, names, number, name, is_new)?;
         number += 1;
     }
     Ok(())
@@ -124,48 +143,81 @@ fn first_id(ids: &[u32], id: u32) -> Option<usize>
     ids.iter().position(|other| *other == id)
 }
 
-/// Writes a line for an id that an earlier event has.
+/// Writes a line for an id that an earlier event has; a new one is the first of its kind.
+#[tactic(auto, unfolding(crate::specs::FirstLines::added))]
 fn push_same_id(
     alloc: Global,
-    text: &mut Vec<u8>,
+    told: &mut FirstLines,
     front: &[u8],
     ids: &[u32],
     number: usize,
     id: u32,
+    is_new: bool,
 ) -> Result<(), AllocError>
-    ensures { OnOk result (text.new.items ≡ text.old.items ++ same_id_part front.now ids.now number id) }
+    requires from_one { 1 ≤ number }
+    requires first { OnTrue is_new (first_id ids.now id ≡ Some (number - 1)) }
+    ensures { OnOk result (told.new ≡ added told.old (same_id_part front.now ids.now number id)) }
 {
+    if is_new {
+        return Ok(());
+    }
     if id == 0 {
         return Ok(());
     }
     let mut value = Vec::new(alloc);
     push_number(&mut value, u64::from(id))?;
     let before = first_id(ids, id);
+    let mut line = Vec::new(alloc);
     push_same(
         alloc,
-        text,
+        &mut line,
         front,
         "event",
         Key::Id,
         value.as_slice(),
         number,
         before,
-    )
+    )?;
+    told.add(line.as_slice())
 }
 
-/// Writes a line for each id that an earlier event has.
-pub fn push_same_ids(
+/// Writes a line for each id that an earlier event has, up to as many as are told. The ids that came before are kept in a set.
+fn push_same_ids(
     alloc: Global,
-    text: &mut Vec<u8>,
+    told: &mut FirstLines,
     front: &[u8],
     ids: &[u32],
 ) -> Result<(), AllocError>
-    ensures { OnOk result (text.new.items ≡ text.old.items ++ same_ids_text front.now ids.now) }
+    ensures { OnOk result (told.new ≡ added told.old (same_ids_text front.now ids.now)) }
 {
+    let mut seen = BTreeSet::new(alloc);
     let mut number = 1;
     for id in ids {
-        push_same_id(alloc, text, front, ids, number, *id)?;
+        if told.is_full() {
+            return Ok(());
+        }
+        let is_new = seen.insert(*id)?;
+        push_same_id(alloc, told, front, ids, number, *id, is_new)?;
         number += 1;
     }
     Ok(())
+}
+
+/// Writes a line for each name of a cable, each of a sink and each id that an earlier table has, up to as many as are told.
+pub fn push_same_values(
+    alloc: Global,
+    told: &mut FirstLines,
+    front: &[u8],
+    cables: &[&str],
+    sinks: &[&str],
+    ids: &[u32],
+) -> Result<(), AllocError>
+    ensures { OnOk result (told.new
+        ≡ added told.old
+        (same_names_text front.now (codes "cable") (texts cables.now)
+        ++ (same_names_text front.now (codes "sink") (texts sinks.now) ++ same_ids_text front.now ids.now))) }
+{
+    push_same_names(alloc, told, front, "cable", cables)?;
+    push_same_names(alloc, told, front, "sink", sinks)?;
+    push_same_ids(alloc, told, front, ids)
 }
