@@ -1,7 +1,8 @@
 //! Spoiled lines, each with what is said of it.
 
-use pd_scenario_text::scenario_from_text;
-use pd_script::explain_script;
+use pd_device::Output;
+use pd_explain_text::{Form, Telling, explain_text};
+use pd_port::Meter;
 use std::test::*;
 
 /// Two ports with floors of 2.5 W at a budget of 60 W, two cables, one sink, an attach and a change of the budget.
@@ -255,8 +256,20 @@ hint: did you mean `lose`?",
 
 /// What is said of a script on that scenario.
 fn said(rt: &impl AllocGlobal, script: &[u8]) -> Result<Vec<u8>, Fail> {
-    let scenario = scenario_from_text::<2>(rt.alloc(), TWO_PORTS)?;
-    Ok(explain_script(rt.alloc(), scenario, b"it", script)?)
+    let telling = Telling {
+        file: b"two.toml",
+        edits: b"it",
+        form: Form::Lines,
+        warns: false,
+    };
+    let mut out = Output {
+        writer: Vec::new(rt.alloc()),
+        failures: 0,
+    };
+    let mut meter = Meter::new();
+    let alloc = rt.alloc();
+    explain_text(alloc, TWO_PORTS, &telling, script, &mut meter, &mut out)?;
+    Ok(out.writer)
 }
 
 /// The same, as it stands above: without what is in front of each line.
@@ -320,6 +333,28 @@ fn many_places(rt: HostRuntime) -> Result<(), Fail> {
     );
     assert!(rt;
         text.ends_with(b"it:22: refused 25: event 28 at 9 names it\nit:22: 2 more places\n")
+    );
+    Ok(())
+}
+
+/// Of a list eight are told, and how many more there are.
+#[test]
+fn long_lists(rt: HostRuntime) -> Result<(), Fail> {
+    let mut script = Vec::new(rt.alloc());
+    for id in 10..16 {
+        let line = format!(in rt.alloc(); "insert {id} 9 1 lose\n")?;
+        script.extend_from_slice(line.as_bytes())?;
+    }
+    script.extend_from_slice(
+        b"remove 9\ninsert 16 9 1 lose\nremove 9\nend 52000\ninsert 17 9 1 lose\nremove 9\n",
+    )?;
+    let expected = b"it:7: refused 22: no event is 9; there are 1, 3, 10, 11, 12, 13, 14, 15
+it:9: refused 22: no event is 9; there are 1, 3, 10, 11, 12, 13, 14, 15 and 1 more
+it:12: refused 22: no event is 9; there are 1, 3, 10, 11, 12, 13, 14, 15 and 2 more
+";
+    assert_eq!(rt;
+        said(&rt, script.as_slice())?.as_slice(),
+        expected.as_slice()
     );
     Ok(())
 }

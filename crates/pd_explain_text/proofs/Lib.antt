@@ -1,1 +1,3 @@
 mod ObjectLines
+mod ScriptLines
+mod Written

@@ -6,12 +6,12 @@ use Rattle.pd_edit_lines.specs.Words.{next}
 use Rattle.pd_json.specs.Objects.{object_text}
 use Rattle.pd_explain_text.specs.Objects.{objects_text}
 
-next_some : (ls : List (List ℕ)) (line : List ℕ) (more : List (List ℕ)) → Some (line, more) ≡ next ls → ls ≡ line ∷ more
+pub next_some : (ls : List (List ℕ)) (line : List ℕ) (more : List (List ℕ)) → Some (line, more) ≡ next ls → ls ≡ line ∷ more
 next_some [] line more e = absurd (cc)
 next_some (w ∷ ws) line more e =
     let pair : (line, more) ≡ (w, ws) = cc in sym (ap (λ (p : List ℕ × List (List ℕ)). p.0 ∷ p.1) pair)
 
-next_none : (ls : List (List ℕ)) → None ≡ next ls → ls ≡ []
+pub next_none : (ls : List (List ℕ)) → None ≡ next ls → ls ≡ []
 next_none [] e = refl
 next_none (w ∷ ws) e = absurd (cc)
 

@@ -1,8 +1,11 @@
-//! Why lines of edit scripts are refused, for the scenarios of texts.
+//! Why lines of edit scripts are refused, and what scenarios are warned of, for the scenarios of texts.
 #![tactic(auto)]
 
+mod form;
 mod objects;
+mod script;
 mod texts;
 
+pub use form::{Form, Telling};
 pub use objects::push_objects;
 pub use texts::{ExplainFault, explain_text};

@@ -1,6 +1,6 @@
 -- What is said of the refused lines of an edit script: this product's own form, docs/FORMATS.md, "Reasons". The answers to
 -- lines are those of Session.antt of pd_bench.
-use Rattle.std.specs.Prelude.{ℕ, ◌+◌, ◌-◌, ◌==◌, List, [], ◌∷◌, ◌++◌, length, take, codes, decimal, Result, Ok, Err, if◌then◌else◌}
+use Rattle.std.specs.Prelude.{ℕ, ◌-◌, ◌==◌, List, [], ◌∷◌, ◌++◌, length, take, codes, decimal, Result, Ok, Err, if◌then◌else◌}
 use Rattle.std.specs.List.{flat_map}
 use Rattle.pd_scenario.specs.Scenarios.{ScenarioData}
 use Rattle.pd_scenario.specs.Limits.{is_port}
@@ -93,12 +93,6 @@ after_read n c _ = c
 
 unfoldable pub after_line : ℕ → ScenarioData → List ℕ → ScenarioData
 after_line n c line = after_read n c (line_of line)
-
--- why lines of a script are refused, each against the scenario as edited by then; the first has this number
-unfoldable pub script_text : List ℕ → ℕ → ScenarioData → ℕ → List (List ℕ) → List ℕ
-script_text name n c number [] = []
-script_text name n c number (line ∷ lines) =
-    line_text (at_line name number) n c line ++ script_text name n (after_line n c line) (number + 1) lines
 
 -- the scenario after the lines of a script
 unfoldable pub followed : ℕ → ScenarioData → List (List ℕ) → ScenarioData

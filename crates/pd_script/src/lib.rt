@@ -8,5 +8,5 @@ mod script;
 
 pub use followed::follow;
 pub use lines::first_line;
-pub use made::{MadeEdit, make_edits};
-pub use script::{at_line, explain_line, explain_script};
+pub use made::{MadeEdit, note_line};
+pub use script::{at_line, explain_line};

@@ -1,11 +1,11 @@
-//! Which edits a script makes.
+//! Lines taken in one by one: why each is refused, or which edit it makes.
 
-ghost use Rattle.std.specs.Prelude.{◌≡◌, ◌++◌, OnOk, IfOk};
-ghost use Rattle.std.specs.Str.Lines.{lines};
-ghost use Rattle.pd_script.specs.Script.{after_line, followed};
-ghost use Rattle.pd_script.specs.Made.{line_made, made};
+ghost use Rattle.std.specs.Prelude.{◌≡◌, ◌++◌, OnOk};
+ghost use Rattle.pd_edit.specs.Refusals.{edited};
+ghost use Rattle.pd_script.specs.Script.{after_line, edit_text, kept_or, line_text};
+ghost use Rattle.pd_script.specs.Made.{edit_made, line_made};
 
-use crate::lines::first_line;
+use crate::script::{push_no_line, push_refused, push_show};
 use pd_edit::apply;
 use pd_edit_lines::{Edit, EditFault, Line};
 use pd_scenario::Scenario;
@@ -18,21 +18,21 @@ pub struct MadeEdit {
     pub edit: Edit,
 }
 
-/// Takes in a line: makes its edit, where it is one that isn't refused.
-#[tactic(auto, unfolding(crate::specs::Script::after_line, crate::specs::Made::line_made))]
-fn make_line<const N: usize>(
+/// Makes the edit of a line and notes it, or writes why it is refused.
+fn note_edit<const N: usize>(
     alloc: Global,
+    text: &mut Vec<u8>,
     made: &mut Vec<MadeEdit>,
-    scenario: &mut Scenario<N>,
+    at: &[u8],
     number: u64,
-    line: &[u8],
+    scenario: &mut Scenario<N>,
+    edit: Edit,
 ) -> Result<(), AllocError>
-    ensures made { OnOk result (made.new.items ≡ made.old.items ++ line_made number N scenario.old line.now) }
-    ensures after { OnOk result (scenario.new ≡ after_line N scenario.old line.now) }
+    ensures text { OnOk result (text.new.items
+        ≡ text.old.items ++ edit_text at.now N scenario.old edit (edited N scenario.old edit)) }
+    ensures after { OnOk result (scenario.new ≡ kept_or scenario.old (edited N scenario.old edit)) }
+    ensures made { OnOk result (made.new.items ≡ made.old.items ++ edit_made number edit (edited N scenario.old edit)) }
 {
-    let Ok(Line::Edit(edit)) = Line::read(line) else {
-        return Ok(());
-    };
     match apply(alloc, scenario, &edit) {
         Ok(after) => {
             *scenario = after;
@@ -40,30 +40,32 @@ fn make_line<const N: usize>(
             Ok(())
         }
         Err(EditFault::Memory) => Err(AllocError),
-        Err(_) => Ok(()),
+        Err(_) => push_refused(alloc, text, at, scenario, &edit),
     }
 }
 
-/// Makes the edits of a script, one after the other, and tells which they are, with the numbers of their lines. A line that is
-/// refused changes nothing, nor does a show.
+/// Does what `explain_line` does, and notes the edit that the line makes, with its number.
 ///
 /// # Errors
-/// There is no memory; some of the edits may be made.
-pub fn make_edits<const N: usize>(
+/// There is no memory; some of the words may stand in the text, and the edit may be made and not noted.
+#[tactic(auto, unfolding(crate::specs::Script::line_text, crate::specs::Script::after_line, crate::specs::Made::line_made))]
+pub fn note_line<const N: usize>(
     alloc: Global,
+    text: &mut Vec<u8>,
+    made: &mut Vec<MadeEdit>,
+    at: &[u8],
+    number: u64,
     scenario: &mut Scenario<N>,
-    script: &[u8],
-) -> Result<Vec<MadeEdit>, AllocError>
-    ensures edits { IfOk result (λ v. v.items ≡ made N scenario.old 1 (lines script.now)) }
-    ensures after { OnOk result (scenario.new ≡ followed N scenario.old (lines script.now)) }
+    line: &[u8],
+) -> Result<(), AllocError>
+    ensures text { OnOk result (text.new.items ≡ text.old.items ++ line_text at.now N scenario.old line.now) }
+    ensures after { OnOk result (scenario.new ≡ after_line N scenario.old line.now) }
+    ensures made { OnOk result (made.new.items ≡ made.old.items ++ line_made number N scenario.old line.now) }
 {
-    let mut made = Vec::new(alloc);
-    let mut rest = script;
-    let mut number = 1;
-    while let Some((line, others)) = first_line(rest) {
-        make_line(alloc, &mut made, scenario, number, line)?;
-        rest = others;
-        number += 1;
+    match Line::read(line) {
+        Ok(Line::Skip) => Ok(()),
+        Ok(Line::Edit(edit)) => note_edit(alloc, text, made, at, number, scenario, edit),
+        Ok(Line::Show(show)) => push_show(text, at, scenario, show),
+        Err(fault) => push_no_line(text, at, fault, line),
     }
-    Ok(made)
 }

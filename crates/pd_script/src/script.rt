@@ -1,16 +1,15 @@
 //! Why lines of an edit script are refused.
 
 ghost use Rattle.std.specs.Prelude.{◌≡◌, ◌++◌, OnOk, IfOk, take};
-ghost use Rattle.std.specs.Str.Lines.{lines};
 ghost use Rattle.pd_edit_lines.specs.Numbers.{number_of};
 ghost use Rattle.pd_edit.specs.Refusals.{edited};
+ghost use Rattle.pd_explain.specs.Places.{reasons as reasons_of};
 ghost use Rattle.pd_explain.specs.Sentences.{sentence};
 ghost use Rattle.pd_explain.specs.Stops.{syntax_text};
 ghost use Rattle.pd_script.specs.Script.{at_line, reason_line, reason_text, reasons_text, edit_text, show_text, kept_or, line_text};
-ghost use Rattle.pd_script.specs.Script.{after_line, script_text, front_text, most_places, more_words, more_line, more_text};
+ghost use Rattle.pd_script.specs.Script.{after_line, front_text, most_places, more_words, more_line, more_text};
 ghost use Rattle.pd_script.specs.Script.{first_reasons_text};
 
-use crate::lines::first_line;
 use pd_content::push_number;
 use pd_edit::apply;
 use pd_edit_lines::{Edit, EditFault, Line, Show};
@@ -121,7 +120,7 @@ fn push_first_reasons<const N: usize>(
 
 /// Writes why a line is none of an edit script.
 #[tactic(auto, unfolding(crate::specs::Script::reason_line))]
-fn push_no_line(
+pub(crate) fn push_no_line(
     text: &mut Vec<u8>,
     at: &[u8],
     fault: EditFault,
@@ -136,7 +135,7 @@ fn push_no_line(
 }
 
 /// Writes why a show is refused.
-fn push_show<const N: usize>(
+pub(crate) fn push_show<const N: usize>(
     text: &mut Vec<u8>,
     at: &[u8],
     scenario: &Scenario<N>,
@@ -158,6 +157,21 @@ fn push_show<const N: usize>(
     }
 }
 
+/// Writes why an edit is refused.
+pub(crate) fn push_refused<const N: usize>(
+    alloc: Global,
+    text: &mut Vec<u8>,
+    at: &[u8],
+    scenario: &Scenario<N>,
+    edit: &Edit,
+) -> Result<(), AllocError>
+    ensures { OnOk result (text.new.items
+        ≡ text.old.items ++ first_reasons_text at.now N scenario.now (reasons_of N scenario.now edit.now)) }
+{
+    let reasons = reasons(alloc, scenario, edit)?;
+    push_first_reasons(text, at, scenario, reasons.as_slice())
+}
+
 /// Makes an edit, or writes why it is refused.
 fn push_edit<const N: usize>(
     alloc: Global,
@@ -176,10 +190,7 @@ fn push_edit<const N: usize>(
             Ok(())
         }
         Err(EditFault::Memory) => Err(AllocError),
-        Err(_) => {
-            let reasons = reasons(alloc, scenario, edit)?;
-            push_first_reasons(text, at, scenario, reasons.as_slice())
-        }
+        Err(_) => push_refused(alloc, text, at, scenario, edit),
     }
 }
 
@@ -220,30 +231,4 @@ pub fn at_line(alloc: Global, name: &[u8], number: u64) -> Result<Vec<u8>, Alloc
     push_number(&mut at, number)?;
     at.extend_from_slice(b": ")?;
     Ok(at)
-}
-
-/// Why lines of an edit script are refused, each against the scenario as edited by then: a line for each place at which a
-/// refusal applies, behind the file's name and the line's number.
-///
-/// # Errors
-/// There is no memory for it.
-pub fn explain_script<const N: usize>(
-    alloc: Global,
-    scenario: Scenario<N>,
-    name: &[u8],
-    script: &[u8],
-) -> Result<Vec<u8>, AllocError>
-    ensures { IfOk result (λ v. v.items ≡ script_text name.now N scenario.entry 1 (lines script.now)) }
-{
-    let mut text = Vec::new(alloc);
-    let mut scenario = scenario;
-    let mut rest = script;
-    let mut number = 1;
-    while let Some((line, others)) = first_line(rest) {
-        let at = at_line(alloc, name, number)?;
-        explain_line(alloc, &mut text, at.as_slice(), &mut scenario, line)?;
-        rest = others;
-        number += 1;
-    }
-    Ok(text)
 }

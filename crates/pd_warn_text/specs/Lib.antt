@@ -1,3 +1,3 @@
 pub mod Lines
 pub mod Sentences
-pub mod Texts
+pub mod Warnings

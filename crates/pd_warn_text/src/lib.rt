@@ -1,10 +1,10 @@
-//! What the scenario of a text is warned of, in words.
+//! What a scenario is warned of, in words.
 #![tactic(auto)]
 
 mod lines;
 mod sentences;
-mod texts;
+mod warnings;
 
 pub use lines::last_line;
 pub use sentences::push_warning;
-pub use texts::{WarnFault, warn_text};
+pub use warnings::push_warnings;

@@ -5,9 +5,10 @@ use crate::fault::{output, tell, tell_scene, tell_unread};
 use crate::numbers::{FROM, PORT, TO, WrongNumber, number_of};
 use crate::script_file::{read_input, read_script};
 use clap::ArgMatches;
-use pd_device::{BenchFault, write_all};
-use pd_explain_text::{ExplainFault, explain_text};
+use pd_device::BenchFault;
+use pd_explain_text::{ExplainFault, Form as TellingForm, Telling, explain_text};
 use pd_port::Meter;
+use pd_scenario_text::ScenarioFault;
 use pd_show::{Choice, Form, show_text};
 use std::alloc::Global;
 use std::rt::Files;
@@ -38,7 +39,8 @@ pub fn choice_of<'a>(matches: &ArgMatches<'a>) -> Result<Choice, WrongNumber<'a>
     })
 }
 
-/// Tells on standard error why lines of a script are refused.
+/// Tells on standard error why lines of a script are refused. What that doesn't take is lost, and of a scenario that is refused
+/// what comes next tells.
 ///
 /// # Errors
 /// There is no memory.
@@ -49,15 +51,17 @@ pub fn tell_lines<R: Alloc<A = Global>, E: Print>(
     name: &str,
     script: &[u8],
 ) -> Result<(), BenchFault> {
-    let mut said = Vec::new(rt.alloc());
-    match explain_text(rt.alloc(), text, name.as_bytes(), script, &mut said) {
-        Ok(()) => {
-            let _ = write_all(&mut output(errors), said.as_slice());
-            Ok(())
-        }
-        // `show_text` answers this as well.
-        Err(ExplainFault::Scenario(_)) => Ok(()),
-        Err(ExplainFault::Memory) => Err(BenchFault::Memory),
+    let telling = Telling {
+        file: b"",
+        edits: name.as_bytes(),
+        form: TellingForm::Lines,
+        warns: false,
+    };
+    let (mut out, mut meter) = (output(errors), Meter::new());
+    match explain_text(rt.alloc(), text, &telling, script, &mut meter, &mut out) {
+        Err(ExplainFault::Scenario(ScenarioFault::Memory)) => Err(BenchFault::Memory),
+        Err(ExplainFault::Run(BenchFault::Memory)) => Err(BenchFault::Memory),
+        _ => Ok(()),
     }
 }
 

@@ -1,0 +1,126 @@
+//! Edit scripts that are explained line by line.
+
+ghost use Rattle.std.specs.Prelude.{◌≡◌, ◌++◌, ◌||◌, nat_lt, length, IfOk, OnOk};
+ghost use Rattle.std.specs.Str.Lines.{lines};
+ghost use Rattle.pd_script.specs.Made.{line_made, made};
+ghost use Rattle.pd_script.specs.Script.{after_line, followed};
+ghost use Rattle.pd_explain_text.specs.Told.{CountsTold, Tells, TellsEnd, TellsLines, line_told};
+
+use crate::form::{Telling, named, told_in};
+use pd_device::{BenchFault, TextOut, write_all};
+use pd_port::Meter;
+use pd_scenario::Scenario;
+use pd_script::{MadeEdit, at_line, first_line, note_line};
+use pd_warn_text::push_warnings;
+use std::alloc::{AllocError, Global};
+
+/// Takes in a line: tells why it is refused, where it is, or makes its edit and notes that.
+fn take_line<const N: usize>(
+    alloc: Global,
+    telling: &Telling<'_>,
+    scenario: &mut Scenario<N>,
+    made: &mut Vec<MadeEdit>,
+    number: u64,
+    line: &[u8],
+) -> Result<Vec<u8>, AllocError>
+    ensures told { IfOk result (λ v. v.items
+        ≡ line_told telling.now.form telling.now.file.now telling.now.edits.now N scenario.old number line.now) }
+    ensures after { OnOk result (scenario.new ≡ after_line N scenario.old line.now) }
+    ensures made { OnOk result (made.new.items ≡ made.old.items ++ line_made number N scenario.old line.now) }
+{
+    let at = at_line(alloc, named(telling.form, telling.edits), number)?;
+    let mut text = Vec::new(alloc);
+    note_line(
+        alloc,
+        &mut text,
+        made,
+        at.as_slice(),
+        number,
+        scenario,
+        line,
+    )?;
+    told_in(alloc, telling, text)
+}
+
+/// Whether anything is told: before, or here.
+fn is_any(before: bool, told: &[u8]) -> bool
+    ensures { result ≡ (before || nat_lt 0 (length told.now)) }
+{
+    before || !told.is_empty()
+}
+
+/// Takes in the lines of a script, and writes why they are refused, each before it takes in the next; says whether one is.
+pub(crate) fn write_lines<const N: usize, W: TextOut>(
+    alloc: Global,
+    telling: &Telling<'_>,
+    scenario: &mut Scenario<N>,
+    edits: &mut Vec<MadeEdit>,
+    script: &[u8],
+    writer: &mut W,
+) -> Result<bool, BenchFault>
+    ensures text { TellsLines telling.now.form telling.now.file.now telling.now.edits.now N scenario.old (lines script.now) result
+        (W.taken writer.old) (W.taken writer.new) }
+    ensures after { OnOk result (scenario.new ≡ followed N scenario.old (lines script.now)) }
+    ensures made { OnOk result (edits.new.items ≡ edits.old.items ++ made N scenario.old 1 (lines script.now)) }
+    ensures counts { CountsTold result (W.failures writer.old) (W.failures writer.new) }
+{
+    let mut any = false;
+    let mut rest = script;
+    let mut number = 1;
+    while let Some((line, others)) = first_line(rest) {
+        let Ok(told) = take_line(alloc, telling, scenario, edits, number, line) else {
+            return Err(BenchFault::Memory);
+        };
+        let told = told.as_slice();
+        write_all(writer, told)?;
+        any = is_any(any, told);
+        rest = others;
+        number += 1;
+    }
+    Ok(any)
+}
+
+/// What is told at the end: where it is wanted, what a scenario is warned of to which these edits led.
+fn end_told<const N: usize>(
+    alloc: Global,
+    telling: &Telling<'_>,
+    scenario: &Scenario<N>,
+    made: &[MadeEdit],
+    meter: &mut Meter,
+) -> Result<Vec<u8>, AllocError>
+    ensures { IfOk result (λ v. TellsEnd telling.now.warns telling.now.form telling.now.file.now telling.now.edits.now
+        N scenario.now made.now v.items) }
+{
+    let mut text = Vec::new(alloc);
+    if !telling.warns {
+        return Ok(text);
+    }
+    let file = named(telling.form, telling.file);
+    let edits = named(telling.form, telling.edits);
+    push_warnings(alloc, &mut text, file, edits, made, scenario, meter)?;
+    told_in(alloc, telling, text)
+}
+
+/// Writes why lines of a script are refused, and where it is wanted what the scenario is warned of, as the script leaves it; says
+/// whether a line is refused.
+pub(crate) fn explain<const N: usize, W: TextOut>(
+    alloc: Global,
+    telling: &Telling<'_>,
+    scenario: Scenario<N>,
+    script: &[u8],
+    meter: &mut Meter,
+    writer: &mut W,
+) -> Result<bool, BenchFault>
+    ensures text { Tells telling.now.warns telling.now.form telling.now.file.now telling.now.edits.now
+        N scenario.entry (lines script.now) result (W.taken writer.old) (W.taken writer.new) }
+    ensures counts { CountsTold result (W.failures writer.old) (W.failures writer.new) }
+{
+    let mut scenario = scenario;
+    let mut made = Vec::new(alloc);
+    let any = write_lines(alloc, telling, &mut scenario, &mut made, script, writer)?;
+    let Ok(end) = end_told(alloc, telling, &scenario, made.as_slice(), meter) else {
+        return Err(BenchFault::Memory);
+    };
+    write_all(writer, end.as_slice())?;
+    Ok(any)
+}
