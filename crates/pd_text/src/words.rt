@@ -1,0 +1,53 @@
+//! What a piece says in a line of words.
+
+ghost use Rattle.std.specs.Prelude.{◌≡◌, ◌++◌, OnOk, map};
+ghost use Rattle.std.specs.List.{flat_map};
+ghost use Rattle.pd_text.specs.Amounts.{amount};
+ghost use Rattle.pd_text.specs.Pieces.{list_name_of, piece_of};
+ghost use Rattle.pd_text.specs.Texts.{list_words, words_of};
+
+use crate::amounts::push_amount;
+use crate::{ListName, Piece, Unit};
+use std::alloc::AllocError;
+
+/// Writes the words of the names that a list has.
+fn push_list_words(text: &mut Vec<u8>, names: &[ListName<'_>]) -> Result<(), AllocError>
+    ensures { OnOk result (text.new.items ≡ text.old.items ++ flat_map list_words (map list_name_of names.now)) }
+{
+    for name in names {
+        if name.is_listed {
+            text.extend_from_slice(name.words)?;
+        }
+    }
+    Ok(())
+}
+
+/// Writes a number behind the words before it.
+fn push_line_number(
+    text: &mut Vec<u8>,
+    words: &[u8],
+    unit: Unit,
+    number: u64,
+) -> Result<(), AllocError>
+    ensures { OnOk result (text.new.items ≡ text.old.items ++ (words.now ++ amount unit number)) }
+{
+    text.extend_from_slice(words)?;
+    push_amount(text, unit, number)
+}
+
+/// Writes what a piece says in a line of words.
+pub(crate) fn push_words(text: &mut Vec<u8>, piece: &Piece<'_>) -> Result<(), AllocError>
+    ensures { OnOk result (text.new.items ≡ text.old.items ++ words_of (piece_of piece.now)) }
+{
+    match piece {
+        Piece::Number(words, _, unit, number) => push_line_number(text, words, *unit, *number),
+        Piece::Name(words, _, _) => text.extend_from_slice(words),
+        Piece::Flag(if_so, if_not, _, holds) => {
+            text.extend_from_slice(if *holds { if_so } else { if_not })
+        }
+        Piece::Names(_, names) => push_list_words(text, names),
+        Piece::LineWords(words) => text.extend_from_slice(words),
+        Piece::LineNumber(words, unit, number) => push_line_number(text, words, *unit, *number),
+        Piece::Kind(_) | Piece::MemberNumber(_, _) | Piece::MemberNull(_) => Ok(()),
+    }
+}
