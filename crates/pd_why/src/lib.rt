@@ -1,9 +1,14 @@
-//! What bounds a port, in words: a line for each fact.
+//! What bounds a port: a line for each fact, in words or as a JSON object.
 #![tactic(auto)]
 
+mod idle;
+mod offer;
+mod outcome;
+mod request;
 mod run;
 mod tell;
 
 pub use pd_bounds::Question;
+pub use pd_text::Form;
 pub use run::why;
 pub use tell::push_fact_lines;

@@ -1,4 +1,4 @@
-//! What bounds a port over the run of a plan, in words.
+//! What bounds a port over the run of a plan.
 
 ghost use Rattle.std.specs.Prelude.{None, OnOk};
 ghost use Rattle.pd_run.specs.Cost.{CostsAllMoves, IsPaid};
@@ -8,6 +8,7 @@ use crate::push_fact_lines;
 use pd_bounds::{Question, facts_of};
 use pd_port::Meter;
 use pd_run::Plan;
+use pd_text::Form;
 use std::alloc::{AllocError, Global};
 
 /// Runs a plan, and writes what bounds a port of it: of each offer up to a time, or of the last one, how the budget was shared, what
@@ -20,12 +21,13 @@ pub fn why<const N: usize>(
     alloc: Global,
     plan: &Plan<N>,
     question: &Question,
+    form: Form,
     meter: &mut Meter,
     text: &mut Vec<u8>,
 ) -> Result<(), AllocError>
-    ensures text { OnOk result (TellsWhy plan.now question.now text.old.items text.new.items) }
+    ensures text { OnOk result (TellsWhy form plan.now question.now text.old.items text.new.items) }
     ensures paid { OnOk result (IsPaid CostsAllMoves None plan.now meter.old meter.new) }
 {
     let facts = facts_of(alloc, plan, question, meter)?;
-    push_fact_lines(text, facts.as_slice())
+    push_fact_lines(text, form, facts.as_slice())
 }

@@ -8,16 +8,15 @@ ghost use Rattle.pd_scenario_tables.specs.Ports.{counted};
 ghost use Rattle.pd_scenario_text.specs.File.{members_of};
 ghost use Rattle.pd_scenario_text.specs.Texts.{ForTexts};
 ghost use Rattle.pd_script.specs.Script.{followed};
-ghost use Rattle.pd_why_text.specs.Forms.{TellsStory};
+ghost use Rattle.pd_why.specs.Story.{TellsWhy};
 ghost use Rattle.pd_why_text.specs.Texts.{TellsText};
 
-use crate::form::{Form, tell_story};
-use pd_bounds::Question;
 use pd_port::Meter;
 use pd_run::Plan;
 use pd_scenario::Scenario;
 use pd_scenario_text::{ScenarioFault, ScenarioFile};
 use pd_script::follow;
+use pd_why::{Form, Question, why};
 use std::alloc::{AllocError, Global};
 
 /// Why it can't be told what bounds a port.
@@ -107,11 +106,11 @@ fn why_scenario<const N: usize>(
     meter: &mut Meter,
     said: &mut Vec<u8>,
 ) -> Result<(), AllocError>
-    ensures { OnOk result (TellsStory form (plan_of (followed N scenario.entry (lines script.now))) question.now
+    ensures { OnOk result (TellsWhy form (plan_of (followed N scenario.entry (lines script.now))) question.now
         said.old.items said.new.items) }
 {
     let mut scenario = scenario;
     follow(alloc, &mut scenario, script)?;
     let plan = Plan::of_scenario(alloc, &scenario)?;
-    tell_story(alloc, &plan, question, form, meter, said)
+    why(alloc, &plan, question, form, meter, said)
 }

@@ -1,20 +1,17 @@
 use Rattle.std.proofs.Common.{◌++◌, ◌∙◌, List, ap}
-use Rattle.std.specs.List.{flat_map}
 use Rattle.std.proofs.lemmas.Result.{on_ok_weaker}
 use Rattle.pd_bounds.specs.declared.fact.Fact.{Fact}
-use Rattle.pd_why.specs.Story.{story_text}
-use Rattle.pd_why.specs.Words.{fact_line}
+use Rattle.pd_why.specs.Facts.{fact_lines}
 use Rattle.pd_why.proofs.run.why.Goals as goal
 
 pub returns-clause-text : goal.returns-clause-text
-unfolding story_text
 returns-clause-text g c =
     let told = c.in_ok-facts.ensures.facts in
     on_ok_weaker c.push_fact_lines.result
     (λ h. record {
       moves = told.moves;
       safe = told.safe;
-      text_is = h ∙ ap (λ (facts : List Fact). c.args.text.now.items ++ flat_map fact_line facts)
+      text_is = h ∙ ap (λ (facts : List Fact). c.args.text.now.items ++ fact_lines c.args.form facts)
           (c.as_slice.ensures.value ∙ told.facts_are);
     })
     c.push_fact_lines.ensures
