@@ -8,7 +8,7 @@ use Rattle.pd_text.specs.Pieces.{list_name_of}
 use Rattle.pd_text.specs.Texts.{listed, names_joined, quoted}
 
 -- behind the first of them each stands behind its comma
-joined : (x : List ℕ) (xs : List (List ℕ)) → join_with_byte 44 (x ∷ xs) ≡ x ++ flat_map (λ name. 44 ∷ name) xs
+pub joined : (x : List ℕ) (xs : List (List ℕ)) → join_with_byte 44 (x ∷ xs) ≡ x ++ flat_map (λ name. 44 ∷ name) xs
 joined x [] = sym (append-nil x)
 joined x (y ∷ xs) = ap (λ rest. x ++ (44 ∷ rest)) (joined y xs)
 

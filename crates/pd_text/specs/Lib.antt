@@ -1,3 +1,4 @@
 pub mod Amounts
 pub mod Pieces
 pub mod Texts
+pub mod Json

@@ -2,6 +2,7 @@
 #![tactic(auto)]
 
 mod idle;
+pub mod laws;
 mod offer;
 mod outcome;
 mod request;
