@@ -12,7 +12,7 @@ use pd_port::Meter;
 use pd_report::{contracts, faults, margins};
 use pd_run::{Plan, Runner};
 use pd_scenario::Scenario;
-use pd_why::{Question, why};
+use pd_why::{Form, Question, why};
 use std::alloc::{AllocError, Global};
 
 /// The contracts, faults and margins of a scenario's run.
@@ -72,10 +72,10 @@ pub fn why_port<const N: usize>(
     question: &Question,
     meter: &mut Meter,
 ) -> Result<Vec<u8>, AllocError>
-    ensures { IfOk result (λ text. TellsWhy (plan_of scenario.now) question.now [] text.items) }
+    ensures { IfOk result (λ text. TellsWhy Form.Words (plan_of scenario.now) question.now [] text.items) }
 {
     let plan = Plan::of_scenario(alloc, scenario)?;
     let mut said = Vec::new(alloc);
-    why(alloc, &plan, question, meter, &mut said)?;
+    why(alloc, &plan, question, Form::Words, meter, &mut said)?;
     Ok(said)
 }

@@ -6,6 +6,7 @@ use Rattle.pd_scenario.specs.Plans.{plan_of}
 use Rattle.pd_scenario_text.specs.Reading.{Reads}
 use Rattle.pd_save.specs.Files.{ReadsOtherwise, file_text}
 use Rattle.pd_list.specs.Lines.{Lists}
+use Rattle.pd_text.specs.declared.piece.Form.TheVariants.{Words}
 use Rattle.pd_why.specs.Story.{TellsWhy}
 use Rattle.pd_bounds.specs.declared.question.Question.{Question}
 use Rattle.pd_edit_lines.specs.Grammar.{line_of}
@@ -138,7 +139,7 @@ Tells n d (Some colon.Undo) file text d' = Undoes d.desk text d'.desk × (d'.she
 Tells n d (Some colon.Diff) file text d' = TellsChanges d.desk text × IsSame d d'
 Tells n d (Some colon.Save) file text d' = Saves n d file text d'
 Tells n d (Some (colon.Why port to)) file text d' =
-    TellsWhy (plan_of d.desk.scenario) (record { port = port; to = to }) [] text × IsSame d d'
+    TellsWhy Words (plan_of d.desk.scenario) (record { port = port; to = to }) [] text × IsSame d d'
 
 -- why an edit isn't taken back, or none of its changes told
 abbrev pub FailsEdit : List ScenarioData → OwnFault → Type 0

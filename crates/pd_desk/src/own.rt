@@ -9,6 +9,7 @@ ghost use Rattle.pd_bench.specs.Stream.{IsRunning};
 ghost use Rattle.pd_colon.specs.Commands.{colon_of, second};
 ghost use Rattle.pd_list.specs.Lines.{Lists};
 ghost use Rattle.pd_colon.specs.Diff.{diff_text};
+ghost use Rattle.pd_text.specs.declared.piece.Form.TheVariants.{Words};
 ghost use Rattle.pd_why.specs.Story.{TellsWhy};
 ghost use Rattle.pd_desk.specs.Desk.{Fails, FailsEdit, FailsSave, FailsWhy, Tells, TellsChanges, Undoes, saved_text, standing, with_shelf};
 ghost use Rattle.pd_desk.specs.OwnFaults.{own_sentence};
@@ -176,7 +177,7 @@ fn bounds<const N: usize>(
     to: Option<u64>,
     meter: &mut Meter,
 ) -> Result<Vec<u8>, OwnFault>
-    ensures text { IfOk result (λ text. TellsWhy (plan_of scenario.now) (record { port = port; to = to }) [] text.items) }
+    ensures text { IfOk result (λ text. TellsWhy Words (plan_of scenario.now) (record { port = port; to = to }) [] text.items) }
     ensures fault { IfErr result (FailsWhy N port) }
 {
     if port < 1 || port > N as u64 {
