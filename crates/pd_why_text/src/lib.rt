@@ -3,5 +3,6 @@
 
 mod texts;
 
+pub use pd_scene::SceneFault;
 pub use pd_why::{Form, Question};
-pub use texts::{WhyFault, why_text};
+pub use texts::why_text;

@@ -1,14 +1,14 @@
 //! `pdlab why [--json] SCENARIO EDITS PORT [AT]`.
 
 use crate::Ending;
-use crate::fault::{output, tell, tell_no_port, tell_refused, tell_unread};
+use crate::fault::{output, tell, tell_scene, tell_unread};
 use crate::numbers::{AT, PORT_WORD, WrongNumber, number_of};
 use crate::script_file::{read_input, read_script};
 use crate::shown::tell_lines;
 use clap::ArgMatches;
-use pd_device::{BenchFault, write_all};
+use pd_device::write_all;
 use pd_port::Meter;
-use pd_why_text::{Form, Question, WhyFault, why_text};
+use pd_why_text::{Form, Question, why_text};
 use std::alloc::Global;
 use std::rt::Files;
 
@@ -52,23 +52,12 @@ pub fn bounds<R: Files + Input + Print + Alloc<A = Global>, E: Print>(
     if let Err(fault) = tell_lines(rt, errors, text, name, script) {
         return tell(errors, fault);
     }
-    let mut said = Vec::new(rt.alloc());
     let mut meter = Meter::new();
-    match why_text(
-        rt.alloc(),
-        text,
-        script,
-        question,
-        form,
-        &mut meter,
-        &mut said,
-    ) {
-        Ok(()) => match write_all(&mut output(rt), said.as_slice()) {
+    match why_text(rt.alloc(), text, script, question, form, &mut meter) {
+        Ok(said) => match write_all(&mut output(rt), said.as_slice()) {
             Ok(()) => Ending::Done,
             Err(fault) => tell(errors, fault),
         },
-        Err(WhyFault::Scenario(fault)) => tell_refused(errors, scenario, fault),
-        Err(WhyFault::NoSuchPort) => tell_no_port(rt, errors, scenario, text, Some(question.port)),
-        Err(WhyFault::Memory) => tell(errors, BenchFault::Memory),
+        Err(fault) => tell_scene(rt, errors, scenario, text, Some(question.port), fault),
     }
 }

@@ -1,6 +1,0 @@
-use Rattle.std.proofs.Common.{refl}
-use Rattle.pd_run_text.proofs.Read.{refused}
-use Rattle.pd_why_text.proofs.texts.why_file.Goals as goal
-
-pub returns-in-Err : goal.returns-in-Err
-returns-in-Err g c = λ text is. (refused g.row.N text c.args.file _ is c.requires.counts c.in-Err.ensures, refl)
