@@ -1,24 +1,22 @@
 -- Over lines of sessions alone, the desk is a session.
-use Rattle.std.proofs.Common.{◌≡◌, ℕ, false, List, [], ◌∷◌, ◌++◌, fold, map, All, refl, sym, ap, ◌∙◌, append_assoc, Option, Result, Ok, Err}
+use Rattle.std.proofs.Common.{◌≡◌, ℕ, false, List, [], ◌∷◌, ◌++◌, fold, map, All, refl, sym, ap, ◌∙◌, append_assoc, Option, Ok, Err}
 use Rattle.std.specs.Str.Lines.{lines, strip_carriage_return}
 use Rattle.std.proofs.lemmas.List.{append-nil}
 use Rattle.std.proofs.lemmas.List.Elements.{All-nil, All-cons, All-head, All-tail}
 use Rattle.pd_scenario.specs.Scenarios.{ScenarioData}
 use Rattle.pd_edit_lines.specs.Grammar.{line_of}
 use Rattle.pd_run.specs.Cost.{Costs}
-use Rattle.pd_device.specs.declared.fault.BenchFault.{BenchFault}
 use Rattle.pd_device.specs.declared.fault.BenchFault.TheVariants.{ReadFailed, WriteFailed, Memory, ReaderTooLong}
 use Rattle.pd_bench.specs.declared.tally.Tally.{Tally}
 use Rattle.pd_bench.specs.declared.tally.Outcome.{Outcome}
-use Rattle.pd_bench.specs.Session.{Replies, Session, BeginsSession, SessionDone, SessionStopped, SessionCut, counted, done_text}
-use Rattle.pd_bench.specs.Stream.{HasRun, so_far}
-use Rattle.pd_bench.specs.Traces.{HasNoLineFeed, ended}
+use Rattle.pd_bench.specs.Session.{Replies, Session, BeginsSession, SessionStopped, counted, done_text}
+use Rattle.pd_bench.specs.Stream.{so_far}
+use Rattle.pd_bench.specs.Traces.{ended}
 use Rattle.pd_bench.proofs.SessionLemmas.{some_answers, Replies-from_answers}
-use Rattle.pd_bench.proofs.TakenOut.{lines_can_be_taken_out}
 use Rattle.pd_colon.specs.Commands.{is_colon}
 use Rattle.pd_desk.specs.Desk.{DeskReply, DeskReplies, Becomes, WithShelf, at_first}
 use Rattle.pd_desk.specs.Shelf.{Shelved}
-use Rattle.pd_desk.specs.Ends.{Beside, DeskText, DeskDone, DeskStopped, DeskCut}
+use Rattle.pd_desk.specs.Ends.{Beside, DeskText, DeskStopped}
 use Rattle.pd_desk.specs.Laws.{NoneIsOwn, DeskIsSession}
 use Rattle.pd_desk.proofs.Joins.{lines-open}
 

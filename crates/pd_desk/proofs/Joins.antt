@@ -1,9 +1,9 @@
 -- How the desk's answers join.
-use Rattle.std.proofs.Common.{◌≡◌, ℕ, ◌+◌, ◌<◌, ◌≤◌, Bool, true, false, cond, eqb, List, [], ◌∷◌, ◌++◌, length, map, All}
+use Rattle.std.proofs.Common.{◌≡◌, ℕ, ◌<◌, true, false, eqb, List, [], ◌∷◌, ◌++◌, length, map, All}
 use Rattle.std.proofs.Common.{refl, sym, ap, ◌∙◌, append_assoc, arith, Option, Result, Ok, Err}
 use Rattle.std.specs.Prelude.{MatchResult}
 use Rattle.std.specs.Str.Lines.{lines, strip_carriage_return}
-use Rattle.std.specs.Io.KnownBytes.{Appends, Consumes, IsAtEnd}
+use Rattle.std.specs.Io.KnownBytes.{Appends}
 use Rattle.std.proofs.KnownBytes.{Appends-trans, Consumes-trans}
 use Rattle.std.proofs.lemmas.Bool.{ne_eqb}
 use Rattle.std.proofs.lemmas.List.{append-nil, length-append, map-append}
@@ -15,7 +15,6 @@ use Rattle.pd_device.specs.Device.{Writes, WrotePart}
 use Rattle.pd_device.specs.declared.fault.BenchFault.{BenchFault}
 use Rattle.pd_device.specs.declared.fault.BenchFault.TheVariants.{ReadFailed, WriteFailed, Memory, ReaderTooLong}
 use Rattle.pd_device.proofs.DeviceLemmas.{WrotePart-after, WrotePart-longer}
-use Rattle.pd_bench.specs.declared.tally.Tally.{Tally}
 use Rattle.pd_bench.specs.Pending.{IsPending}
 use Rattle.pd_bench.specs.Session.{done_text}
 use Rattle.pd_bench.specs.Stream.{IsRunning}
@@ -23,10 +22,9 @@ use Rattle.pd_bench.specs.Traces.{HasNoLineFeed, ended}
 use Rattle.pd_bench.proofs.PendingLemmas.{empty-kept, lines-last}
 use Rattle.pd_bench.proofs.TakenOut.{lines_can_be_taken_out}
 use Rattle.pd_desk.specs.Desk.{DeskReply, DeskReplies, WithShelf, at_first}
-use Rattle.pd_desk.specs.Ends.{Beside, GoesOut, GoOut, ToldAfter, DeskText, DeskDone, DeskStopped, DeskCut, DeskEnds}
+use Rattle.pd_desk.specs.Ends.{Beside, GoesOut, GoOut, DeskDone, DeskStopped, DeskCut, DeskEnds}
 use Rattle.pd_desk.specs.Shelf.{Shelved}
-use Rattle.pd_desk.specs.Taking.{TakingLine, TookLine, TookLast, StopsAt, Answering, AnsweredEnded, last_line, FinishedAll, FinishedSome}
-use Rattle.pd_desk.proofs.DeskLemmas.{writes_after}
+use Rattle.pd_desk.specs.Taking.{TakingLine, TookLine, StopsAt, Answering, AnsweredEnded, last_line, FinishedAll, FinishedSome}
 use Rattle.pd_desk.proofs.Kept.{DeskReply-kept, DeskReply-cut}
 
 -- 1. Replies, and what is told beside them

@@ -1,5 +1,5 @@
 -- What is told beside an answer.
-use Rattle.std.proofs.Common.{◌≡◌, ◌≢◌, ℕ, ◌+◌, List, [], ◌∷◌, ◌++◌, Result, Ok, Err, inl, inr, refl, sym, ◌∙◌}
+use Rattle.std.proofs.Common.{◌≡◌, ◌≢◌, ℕ, List, [], Result, Ok, Err, inl, inr, refl, sym, ◌∙◌}
 use Rattle.std.proofs.Common.{Bool, true, false}
 use Rattle.pd_scenario.specs.Scenarios.{ScenarioData}
 use Rattle.pd_edit.specs.Refusals.{edited}
