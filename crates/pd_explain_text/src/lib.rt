@@ -8,4 +8,5 @@ mod texts;
 
 pub use form::{Form, Telling};
 pub use objects::push_objects;
-pub use texts::{ExplainFault, explain_text};
+pub use pd_scene::SceneFault;
+pub use texts::explain_text;

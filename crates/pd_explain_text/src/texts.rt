@@ -1,35 +1,60 @@
 //! Edit scripts that are explained, for the scenarios of texts.
 
-ghost use Rattle.std.specs.Prelude.{◌≡◌, ◌≤◌, Ok};
-ghost use Rattle.pd_scenario_tables.specs.Ports.{counted};
-ghost use Rattle.pd_scenario_text.specs.File.{members_of};
-ghost use Rattle.pd_scenario_text.specs.Texts.{ForTexts};
-ghost use Rattle.pd_explain_text.specs.Texts.{CountsExplained, ExplainsText};
+ghost use Rattle.std.specs.Prelude.{None};
+ghost use Rattle.pd_scene.specs.Outlet.{SameEnds};
+ghost use Rattle.pd_scene.specs.Scene.{Scene};
+ghost use Rattle.pd_explain_text.specs.Texts.{ExplainsScene};
 
 use crate::form::Telling;
 use crate::script::explain;
 use pd_device::{BenchFault, TextOut};
 use pd_port::Meter;
-use pd_scenario_text::{ScenarioFault, ScenarioFile};
+use pd_scenario::Scenario;
+use pd_scene::{Job, JobOn, Outlet, SceneFault, on_text};
 use std::alloc::Global;
 
-/// Why an edit script wasn't explained to its end.
-#[derive(Clone, Copy, Debug, PartialEq, Eq)]
-pub enum ExplainFault {
-    /// The text has no scenario.
-    Scenario(ScenarioFault),
-    /// There was no memory, or the writer failed.
-    Run(BenchFault),
+// A script, and how it is explained.
+#[derive(Drop)]
+struct Explaining<'a, 'b> {
+    telling: &'a Telling<'b>,
+    script: &'a [u8],
 }
 
-// Explains the script against the scenario of as many ports as the file has.
-macro_rules! explain_by {
-    ($alloc:ident, $file:ident, $telling:ident, $script:ident, $meter:ident, $writer:ident; $($n:literal)*) => {
-        match $file.port_count().map_err(ExplainFault::Scenario)? {
-            $($n => explain_file::<$n, W>($alloc, $file, $telling, $script, $meter, $writer),)*
-            _ => Err(ExplainFault::Scenario(ScenarioFault::Limit)),
-        }
-    };
+impl<'w, W: TextOut> Job<Outlet<'w, W, Meter>> for Explaining<'_, '_> {
+    type Answer = bool;
+
+    ghost needs = { λ j. None };
+
+    ghost does = { λ j n s r old new. SameEnds old new
+        × ExplainsScene j.telling.now.warns j.telling.now.form j.telling.now.file.now j.telling.now.edits.now j.script.now n s r
+        (W.taken old.writer.now) (W.taken new.writer.now) (W.failures old.writer.now) (W.failures new.writer.now) };
+
+    fn port(&self) -> Option<usize> {
+        None
+    }
+}
+
+impl<'w, const N: usize, W: TextOut> JobOn<N, Outlet<'w, W, Meter>> for Explaining<'_, '_> {
+    fn on(
+        &self,
+        alloc: Global,
+        scenario: Scenario<N>,
+        to: &mut Outlet<'w, W, Meter>,
+    ) -> Result<bool, BenchFault>
+        ensures { SameEnds to.old to.new
+            × ExplainsScene self.now.telling.now.warns self.now.telling.now.form self.now.telling.now.file.now
+            self.now.telling.now.edits.now self.now.script.now N scenario.entry result
+            (W.taken to.old.writer.now) (W.taken to.new.writer.now) (W.failures to.old.writer.now) (W.failures to.new.writer.now) }
+    {
+        explain(
+            alloc,
+            self.telling,
+            scenario,
+            self.script,
+            to.meter,
+            to.writer,
+        )
+    }
 }
 
 /// Writes why lines of an edit script are refused, for the scenario of a text, which has 1 to 8 ports: a line for each place at
@@ -38,8 +63,8 @@ macro_rules! explain_by {
 /// whether a line is refused. The text is read once, so what is written without a fault is all of it.
 ///
 /// # Errors
-/// `Scenario` where the text is refused, and nothing is written; `Run` where there was no memory or the writer failed, and some
-/// first bytes may be written.
+/// `Scenario` where the text is refused, and nothing is written; `Job` where there was no memory or the writer failed, and some
+/// first bytes may be written. No port has to be there, so `NoSuchPort` is none of them.
 pub fn explain_text<W: TextOut>(
     alloc: Global,
     text: &[u8],
@@ -47,34 +72,15 @@ pub fn explain_text<W: TextOut>(
     script: &[u8],
     meter: &mut Meter,
     writer: &mut W,
-) -> Result<bool, ExplainFault>
-    ensures text { ExplainsText result text.now telling.now.warns telling.now.form telling.now.file.now telling.now.edits.now
-        script.now (W.taken writer.old) (W.taken writer.new) }
-    ensures counts { CountsExplained result (W.failures writer.old) (W.failures writer.new) }
+) -> Result<bool, SceneFault>
+    ensures { Scene None (λ n s r old new. ExplainsScene telling.now.warns telling.now.form telling.now.file.now telling.now.edits.now
+        script.now n s r (W.taken old) (W.taken new) (W.failures old) (W.failures new)) result text.now writer.old writer.new }
 {
-    let file = ScenarioFile::parse(alloc, text).map_err(ExplainFault::Scenario)?;
-    explain_by!(alloc, file, telling, script, meter, writer; 1 2 3 4 5 6 7 8)
-}
-
-// Explains the script against the scenario of a file of N ports.
-fn explain_file<const N: usize, W: TextOut>(
-    alloc: Global,
-    file: ScenarioFile,
-    telling: &Telling<'_>,
-    script: &[u8],
-    meter: &mut Meter,
-    writer: &mut W,
-) -> Result<bool, ExplainFault>
-    requires from_one { 1 ≤ N }
-    requires to_eight { N ≤ 8 }
-    requires counts { counted (members_of file) ≡ Ok N }
-    ensures text { ForTexts file (λ text. ExplainsText result text telling.now.warns telling.now.form telling.now.file.now
-        telling.now.edits.now script.now (W.taken writer.old) (W.taken writer.new)) }
-    ensures counts { CountsExplained result (W.failures writer.old) (W.failures writer.new) }
-{
-    let scenario = match file.scenario::<N>(alloc) {
-        Ok(scenario) => scenario,
-        Err(fault) => return Err(ExplainFault::Scenario(fault)),
-    };
-    explain(alloc, telling, scenario, script, meter, writer).map_err(ExplainFault::Run)
+    let mut outlet = Outlet { writer, meter };
+    let answer = on_text(alloc, text, &Explaining { telling, script }, &mut outlet);
+    let Outlet {
+        writer: _,
+        meter: _,
+    } = outlet;
+    answer
 }

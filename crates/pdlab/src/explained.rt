@@ -4,7 +4,7 @@ use crate::Ending;
 use crate::fault::{output, tell, tell_unread};
 use crate::script_file::{read_input, read_script};
 use pd_device::{BenchFault, write_all};
-use pd_explain_text::{ExplainFault, Form, Telling, explain_text, push_objects};
+use pd_explain_text::{Form, SceneFault, Telling, explain_text, push_objects};
 use pd_places::explain_places;
 use pd_port::Meter;
 use std::alloc::Global;
@@ -76,7 +76,7 @@ pub fn explained<R: Files + Input + Print + Alloc<A = Global>, E: Print>(
     match explain_text(rt.alloc(), text, &telling, script, &mut meter, &mut out) {
         Ok(false) => Ending::Done,
         Ok(true) => Ending::Refused,
-        Err(ExplainFault::Scenario(_)) => tell_places(rt, errors, &telling, text),
-        Err(ExplainFault::Run(fault)) => tell(errors, fault),
+        Err(SceneFault::Job(fault)) => tell(errors, fault),
+        Err(_) => tell_places(rt, errors, &telling, text),
     }
 }

@@ -6,7 +6,7 @@ use crate::numbers::{FROM, PORT, TO, WrongNumber, number_of};
 use crate::script_file::{read_input, read_script};
 use clap::ArgMatches;
 use pd_device::BenchFault;
-use pd_explain_text::{ExplainFault, Form as TellingForm, Telling, explain_text};
+use pd_explain_text::{Form as TellingForm, SceneFault, Telling, explain_text};
 use pd_port::Meter;
 use pd_scenario_text::ScenarioFault;
 use pd_show::{Choice, Form, show_text};
@@ -59,8 +59,8 @@ pub fn tell_lines<R: Alloc<A = Global>, E: Print>(
     };
     let (mut out, mut meter) = (output(errors), Meter::new());
     match explain_text(rt.alloc(), text, &telling, script, &mut meter, &mut out) {
-        Err(ExplainFault::Scenario(ScenarioFault::Memory)) => Err(BenchFault::Memory),
-        Err(ExplainFault::Run(BenchFault::Memory)) => Err(BenchFault::Memory),
+        Err(SceneFault::Scenario(ScenarioFault::Memory)) => Err(BenchFault::Memory),
+        Err(SceneFault::Job(BenchFault::Memory)) => Err(BenchFault::Memory),
         _ => Ok(()),
     }
 }
