@@ -5,7 +5,7 @@ use Rattle.pd_scenario.specs.Scenarios.{ScenarioData}
 use Rattle.pd_scenario.specs.Plans.{plan_of}
 use Rattle.pd_scenario_text.specs.Reading.{Reads}
 use Rattle.pd_save.specs.Files.{ReadsOtherwise, file_text}
-use Rattle.pd_list.specs.Lines.{Lists}
+use Rattle.pd_save.specs.EditLines.{Lists}
 use Rattle.pd_text.specs.declared.piece.Form.TheVariants.{Words}
 use Rattle.pd_why.specs.Story.{TellsWhy}
 use Rattle.pd_edit_lines.specs.Grammar.{line_of}

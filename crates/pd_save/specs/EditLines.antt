@@ -8,7 +8,7 @@ use Rattle.pd_scenario.specs.declared.named.NamedCable.{NamedCable}
 use Rattle.pd_scenario.specs.declared.named.NamedSink.{NamedSink}
 use Rattle.pd_scenario.specs.declared.event.ScenarioEvent.{ScenarioEvent}
 use Rattle.pd_save.specs.Words.{plug_word, mode_word, rating_number}
-use Rattle.pd_list.specs.Words.{next_word, next_number, supply_words, revision_words, happening_words}
+use Rattle.pd_save.specs.EditWords.{next_word, next_number, supply_words, revision_words, happening_words}
 
 -- budget MW, and end AT
 unfoldable pub top_lines : ScenarioData → List ℕ

@@ -2,9 +2,9 @@
 
 ghost use Rattle.std.specs.Prelude.{◌≡◌, ◌++◌, OnOk, IfOk};
 ghost use Rattle.std.specs.List.Sorted.{IsPermutation};
-ghost use Rattle.pd_list.specs.Lines.{IsInOrder, Lists};
+ghost use Rattle.pd_save.specs.EditLines.{IsInOrder, Lists};
 
-use crate::lines::{push_cables, push_events, push_ports, push_sinks, push_top};
+use crate::edit_lines::{push_cables, push_events, push_ports, push_sinks, push_top};
 use pd_scenario::{Scenario, ScenarioEvent};
 use std::alloc::{AllocError, Global};
 

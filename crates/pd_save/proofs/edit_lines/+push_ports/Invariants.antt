@@ -1,5 +1,5 @@
 use Rattle.std.proofs.Common.{length}
-use Rattle.pd_list.proofs.lines.+push_ports.Given as goal
+use Rattle.pd_save.proofs.edit_lines.+push_ports.Given as goal
 
 abbrev pub decreases-push_ports : goal.decreases-push_ports
 decreases-push_ports l = length l.ports.now

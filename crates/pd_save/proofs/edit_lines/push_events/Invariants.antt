@@ -1,7 +1,7 @@
 use Rattle.std.proofs.Common.{◌≡◌, ◌++◌, take}
 use Rattle.std.specs.List.{flat_map}
-use Rattle.pd_list.specs.Lines.{event_line}
-use Rattle.pd_list.proofs.lines.push_events.Given as goal
+use Rattle.pd_save.specs.EditLines.{event_line}
+use Rattle.pd_save.proofs.edit_lines.push_events.Given as goal
 
 abbrev pub invariant-loop-event : goal.invariant-loop-event
 invariant-loop-event l = l.text.items ≡ l.initial.text.items ++ flat_map event_line (take l.event-index l.events)

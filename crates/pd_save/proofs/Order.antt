@@ -4,7 +4,7 @@ use Rattle.std.specs.Ordering.{nat_cmp, ordering_then, is_lt}
 use Rattle.std.specs.declared.cmp.Ordering.{Ordering}
 use Rattle.std.proofs.lemmas.Bool.Decides.{nat_tests}
 use Rattle.pd_scenario.specs.declared.event.ScenarioEvent.{ScenarioEvent}
-use Rattle.pd_list.specs.Lines.{IsInOrder}
+use Rattle.pd_save.specs.EditLines.{IsInOrder}
 
 abbrev pub place : ScenarioEvent → ℕ × ℕ
 place e = (e.at, e.id)

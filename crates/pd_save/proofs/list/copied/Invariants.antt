@@ -1,5 +1,5 @@
 use Rattle.std.proofs.Common.{◌≡◌, take}
-use Rattle.pd_list.proofs.list.copied.Given as goal
+use Rattle.pd_save.proofs.list.copied.Given as goal
 
 abbrev pub invariant-loop-event : goal.invariant-loop-event
 invariant-loop-event l = l.copies.items ≡ take l.event-index l.events

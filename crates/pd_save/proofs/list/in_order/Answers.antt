@@ -1,7 +1,7 @@
 use Rattle.std.proofs.Common.{◌≡◌, arith, rules}
 use Rattle.std.proofs.lemmas.List.Sorted.{answers_always}
-use Rattle.pd_list.proofs.Order.{place, in_order}
-use Rattle.pd_list.proofs.list.in_order.Goals as goal
+use Rattle.pd_save.proofs.Order.{place, in_order}
+use Rattle.pd_save.proofs.list.in_order.Goals as goal
 
 pub returns-clause-order : goal.returns-clause-order
 returns-clause-order c =

@@ -2,11 +2,11 @@
 
 ghost use Rattle.std.specs.Prelude.{◌≡◌, ◌++◌, ◌+◌, ◌<◌, ◌^◌, OnOk, length};
 ghost use Rattle.std.specs.List.{flat_map};
-ghost use Rattle.pd_list.specs.Lines.{top_lines, port_lines, power_end, fixed_words, port_comment};
-ghost use Rattle.pd_list.specs.Lines.{ports_text, cable_line, sink_line, event_line};
+ghost use Rattle.pd_save.specs.EditLines.{top_lines, port_lines, power_end, fixed_words, port_comment};
+ghost use Rattle.pd_save.specs.EditLines.{ports_text, cable_line, sink_line, event_line};
 
-use crate::words::{push_happening, push_number, push_revision, push_supplies, push_word};
-use pd_save::{mode_word, plug_word, rating_number};
+use crate::edit_words::{push_happening, push_number, push_revision, push_supplies, push_word};
+use crate::{mode_word, plug_word, rating_number};
 use pd_scenario::{NamedCable, NamedSink, Scenario, ScenarioEvent};
 use pd_setup::Settings;
 use std::alloc::AllocError;
