@@ -2,8 +2,8 @@
 use Rattle.std.specs.Prelude.{ℕ, ◌+◌, ◌-◌, ◌*◌, ◌/◌, ◌==◌, ◌&&◌, nat_le, Bool, List, [], ◌∷◌, ◌++◌, take, drop, sum, codes, decimal}
 use Rattle.std.specs.Prelude.{if◌then◌else◌}
 use Rattle.std.specs.List.{flat_map}
-use Rattle.pd_svg.specs.Elements.{Element}
-use Rattle.pd_svg.specs.Shapes.{box_of, path_of, words_at}
+use Rattle.pd_chart.specs.Elements.{Element}
+use Rattle.pd_chart.specs.Shapes.{box_of, path_of, words_at}
 use Rattle.pd_tell.specs.Amounts.{watts}
 use Rattle.pd_chart.specs.declared.curves.Curve.{Curve}
 use Rattle.pd_chart.specs.declared.curves.Curve.TheVariants.{Budget, Contracts, Holds}

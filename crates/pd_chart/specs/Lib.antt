@@ -3,3 +3,5 @@ pub mod Curves
 pub mod Laws
 pub mod Picture
 pub mod Scale
+pub mod Elements
+pub mod Shapes

@@ -2,8 +2,8 @@
 use Rattle.std.specs.Prelude.{ℕ, ◌+◌, ◌-◌, ◌*◌, ◌/◌, min, max, List, [], ◌∷◌, ◌++◌, map, codes, decimal}
 use Rattle.std.specs.List.{flat_map}
 use Rattle.pd_scenario.specs.Plan.{Plan}
-use Rattle.pd_svg.specs.Elements.{Attribute, Element, element_text}
-use Rattle.pd_svg.specs.Shapes.{named, style_of}
+use Rattle.pd_chart.specs.Elements.{Attribute, Element, element_text}
+use Rattle.pd_chart.specs.Shapes.{named, style_of}
 use Rattle.pd_chart.specs.declared.curves.Level.{Level}
 use Rattle.pd_chart.specs.declared.frame.Frame.{Frame}
 use Rattle.pd_chart.specs.declared.look.Look.{Look}

@@ -2,7 +2,7 @@
 
 ghost use Rattle.std.specs.Prelude.{◌≡◌, ◌∷◌, ◌++◌, ◌≤◌, [], OnOk, All};
 ghost use Rattle.std.specs.List.{flat_map};
-ghost use Rattle.pd_svg.specs.Elements.{element_text};
+ghost use Rattle.pd_chart.specs.Elements.{element_text};
 ghost use Rattle.pd_chart.specs.Chart.{area_of, budget_of, closing, curve_text, hold_class, hold_name, is_repeated, key_of};
 ghost use Rattle.pd_chart.specs.Chart.{line_key, line_keys, line_of, line_text, margin_mark, margin_text, margin_words};
 ghost use Rattle.pd_chart.specs.Chart.{outline_of, port_class, port_name, power_line, power_tick};
@@ -11,7 +11,7 @@ ghost use Rattle.pd_chart.specs.Chart.{power_words, step_text, time_line, time_t
 use crate::amounts::push_seconds;
 use crate::frame::y_of;
 use crate::{Curve, Frame, Level};
-use pd_svg::{Area, push_box, push_path, push_words};
+use crate::{Area, push_box, push_path, push_words};
 use pd_tell::{push_number, push_watts};
 use std::alloc::{AllocError, Global};
 

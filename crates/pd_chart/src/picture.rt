@@ -2,7 +2,7 @@
 
 ghost use Rattle.std.specs.Prelude.{◌≡◌, ◌∷◌, ◌++◌, ◌≤◌, OnOk, codes, decimal};
 ghost use Rattle.std.specs.List.{flat_map};
-ghost use Rattle.pd_svg.specs.Elements.{attribute_text, element_text};
+ghost use Rattle.pd_chart.specs.Elements.{attribute_text, element_text};
 ghost use Rattle.pd_chart.specs.Picture.{axes_text, curves_text, elements_of, head_of, keys_text};
 ghost use Rattle.pd_chart.specs.Picture.{least_elements, rules, stacks_text, top_of, whole_width};
 
@@ -12,7 +12,7 @@ use crate::chart::{
 };
 use crate::curves::{greatest, tightest};
 use crate::{Frame, Level};
-use pd_svg::{push_attribute, push_style};
+use crate::{push_attribute, push_style};
 use pd_tell::push_number;
 use std::alloc::{AllocError, Global};
 

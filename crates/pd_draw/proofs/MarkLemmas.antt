@@ -4,7 +4,7 @@ use Rattle.std.specs.Prelude.{true}
 use Rattle.std.specs.List.{flat_map}
 use Rattle.std.proofs.lemmas.List.Concat.{flat_map-append}
 use Rattle.std.proofs.lemmas.List.Sums.{fold-append}
-use Rattle.pd_svg.specs.Elements.{Element, element_text}
+use Rattle.pd_chart.specs.Elements.{Element, element_text}
 use Rattle.pd_draw.specs.declared.lane.Lane.{Lane}
 use Rattle.pd_draw.specs.declared.place.Place.{Place}
 use Rattle.pd_draw.specs.Marks.{Mark, joins, lane_marked, lane_with, mark_elements, marks_elements}

@@ -2,8 +2,8 @@
 use Rattle.std.proofs.Common.{◌≡◌, ℕ, List, [], ◌∷◌, ◌++◌, Option, refl, sym, ap, ◌∙◌, append_assoc}
 use Rattle.std.specs.List.{flat_map}
 use Rattle.std.proofs.lemmas.List.Concat.{flat_map-append}
-use Rattle.pd_svg.specs.Elements.{Element, element_text}
-use Rattle.pd_svg.specs.Shapes.{style_of}
+use Rattle.pd_chart.specs.Elements.{Element, element_text}
+use Rattle.pd_chart.specs.Shapes.{style_of}
 use Rattle.pd_chart.specs.declared.curves.Level.{Level}
 use Rattle.pd_chart.specs.declared.frame.Frame.{Frame}
 use Rattle.pd_chart.specs.Picture.{elements_of}

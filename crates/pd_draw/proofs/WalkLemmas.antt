@@ -3,7 +3,7 @@ use Rattle.std.proofs.Common.{◌≡◌, ℕ, ◌+◌, ◌<◌, ◌≤◌, List,
 use Rattle.std.specs.List.{flat_map}
 use Rattle.std.proofs.lemmas.List.Concat.{flat_map-append}
 use Rattle.std.proofs.lemmas.List.Sums.{fold-append}
-use Rattle.pd_svg.specs.Elements.{element_text}
+use Rattle.pd_chart.specs.Elements.{element_text}
 use Rattle.pd_port.specs.declared.due.Due.{Due}
 use Rattle.pd_scenario.specs.Plan.{IsPlan, Plan, count}
 use Rattle.pd_run.specs.Run.{Move}

@@ -1,7 +1,7 @@
 -- The bands of a lane: whether a port has a contract, and what an engineer calls the groups of states without one.
 use Rattle.std.specs.Prelude.{ℕ, ◌+◌, ◌-◌, ◌==◌, ◌||◌, not, nat_lt, nat_le, Bool, if◌then◌else◌, List, [], ◌∷◌, codes}
-use Rattle.pd_svg.specs.Elements.{Element}
-use Rattle.pd_svg.specs.Shapes.{box_of, words_at}
+use Rattle.pd_chart.specs.Elements.{Element}
+use Rattle.pd_chart.specs.Shapes.{box_of, words_at}
 use Rattle.pd_source.specs.declared.kinds.State as source
 use Rattle.pd_source.specs.declared.kinds.State.TheVariants as state
 use Rattle.pd_show.specs.declared.seen.Glance.{Glance}

@@ -2,7 +2,7 @@
 use Rattle.std.specs.Prelude.{ℕ, ◌-◌, ◌&&◌, nat_le, Bool, if◌then◌else◌, List, [], ◌∷◌, ◌++◌, replicate}
 use Rattle.std.specs.Prelude.{slice_index_or, slice_set, Option, Some, None}
 use Rattle.std.specs.List.{fold}
-use Rattle.pd_svg.specs.Elements.{Element}
+use Rattle.pd_chart.specs.Elements.{Element}
 use Rattle.pd_show.specs.declared.seen.Seen.{Seen}
 use Rattle.pd_show.specs.Choices.{is_of_port}
 use Rattle.pd_show.specs.Since.{start_since, told_at}

@@ -2,8 +2,8 @@
 use Rattle.std.specs.Prelude.{ℕ, ◌+◌, ◌&&◌, nat_le, nat_lt, Bool, true, false, if◌then◌else◌, List, [], ◌∷◌, ◌++◌, map, codes, decimal}
 use Rattle.std.specs.Prelude.{slice_index, slice_set, Option, Some, None}
 use Rattle.std.specs.List.{fold}
-use Rattle.pd_svg.specs.Elements.{Element}
-use Rattle.pd_svg.specs.Shapes.{box_of, path_of, words_at}
+use Rattle.pd_chart.specs.Elements.{Element}
+use Rattle.pd_chart.specs.Shapes.{box_of, path_of, words_at}
 use Rattle.pd_header.specs.Kinds.{kind_of_header, name_of}
 use Rattle.pd_line.specs.declared.notes.Fault.{Fault}
 use Rattle.pd_line.specs.declared.notes.Start.{Start}

@@ -4,8 +4,8 @@ use Rattle.std.specs.List.{flat_map}
 use Rattle.pd_scenario.specs.Plan.{Plan, count}
 use Rattle.pd_run.specs.Run.{Move}
 use Rattle.pd_run.specs.Shown.{SafeRun}
-use Rattle.pd_svg.specs.Elements.{Drawing, Element, drawing_text, element_text}
-use Rattle.pd_svg.specs.Shapes.{box_of, style_of, words_at}
+use Rattle.pd_chart.specs.Elements.{Drawing, Element, drawing_text, element_text}
+use Rattle.pd_chart.specs.Shapes.{box_of, style_of, words_at}
 use Rattle.pd_show.specs.declared.seen.Seen.{Seen}
 use Rattle.pd_show.specs.Seen.{all_seen}
 use Rattle.pd_chart.specs.declared.curves.Level.{Level}

@@ -2,11 +2,11 @@
 
 ghost use Rattle.std.specs.Prelude.{◌≡◌, ◌++◌, OnOk};
 ghost use Rattle.std.specs.List.{flat_map};
-ghost use Rattle.pd_svg.specs.Elements.{element_text};
+ghost use Rattle.pd_chart.specs.Elements.{element_text};
 ghost use Rattle.pd_draw.specs.Bands.{band_elements, band_of, band_words, name_elements, turn_elements};
 
 use crate::{Lane, Phase, Place};
-use pd_svg::{Area, push_box, push_words};
+use pd_chart::{Area, push_box, push_words};
 use std::alloc::AllocError;
 
 /// Draws the band of a lane's phase.

@@ -2,7 +2,7 @@
 
 ghost use Rattle.std.specs.Prelude.{◌≡◌, ◌++◌, ◌≤◌, [], OnOk};
 ghost use Rattle.std.specs.List.{flat_map};
-ghost use Rattle.pd_svg.specs.Elements.{element_text};
+ghost use Rattle.pd_chart.specs.Elements.{element_text};
 ghost use Rattle.pd_show.specs.Choices.{is_of_port};
 ghost use Rattle.pd_show.specs.Since.{told_at};
 ghost use Rattle.pd_draw.specs.Lanes.{has_place, lanes_after, lanes_start, last_elements, place_of, seen_elements};

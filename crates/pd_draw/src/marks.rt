@@ -2,14 +2,14 @@
 
 ghost use Rattle.std.specs.Prelude.{◌≡◌, ◌∷◌, ◌++◌, [], OnOk};
 ghost use Rattle.std.specs.List.{flat_map};
-ghost use Rattle.pd_svg.specs.Elements.{element_text};
+ghost use Rattle.pd_chart.specs.Elements.{element_text};
 ghost use Rattle.pd_draw.specs.Marks.{label_box, label_elements, label_words, lane_marked, mark_elements, mark_of, marks_elements};
 ghost use Rattle.pd_draw.specs.Marks.{tick_of, tick_text, tick_title};
 ghost use Rattle.pd_draw.specs.Places.{row_class};
 
 use crate::place::box_width;
 use crate::{Lane, Place, Row};
-use pd_svg::{Area, push_box, push_path, push_words};
+use pd_chart::{Area, push_box, push_path, push_words};
 use pd_tell::push_number;
 use std::alloc::{AllocError, Global};
 

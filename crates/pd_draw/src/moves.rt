@@ -2,7 +2,7 @@
 
 ghost use Rattle.std.specs.Prelude.{◌≡◌, ◌∷◌, ◌++◌, [], OnOk, map, codes};
 ghost use Rattle.std.specs.List.{flat_map};
-ghost use Rattle.pd_svg.specs.Elements.{element_text};
+ghost use Rattle.pd_chart.specs.Elements.{element_text};
 ghost use Rattle.pd_draw.specs.Lanes.{lane_after, marks_shown, move_elements};
 ghost use Rattle.pd_draw.specs.Marks.{change_marks, event_marks, fault_mark, lane_marked, marks_elements, marks_of, start_label};
 ghost use Rattle.pd_draw.specs.Marks.{start_mark, start_marks};

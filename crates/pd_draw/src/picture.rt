@@ -2,14 +2,14 @@
 
 ghost use Rattle.std.specs.Prelude.{◌≡◌, ◌∷◌, ◌++◌, ◌≤◌, [], OnOk, All};
 ghost use Rattle.std.specs.List.{flat_map};
-ghost use Rattle.pd_svg.specs.Elements.{drawing_text, element_text};
+ghost use Rattle.pd_chart.specs.Elements.{drawing_text, element_text};
 ghost use Rattle.pd_draw.specs.Lanes.{Drawn, last_elements, shown_ports};
 ghost use Rattle.pd_draw.specs.Picture.{bottom_of, lanes_text, names_of, phase_key, phases, picture, row_words, lane_rules};
 
 use crate::place::lane_top;
 use crate::{Lanes, Phase};
 use pd_chart::{Frame, Level, push_chart, push_head, push_port_name};
-use pd_svg::{Area, push_box, push_style, push_words};
+use pd_chart::{Area, push_box, push_style, push_words};
 use std::alloc::{AllocError, Global};
 
 /// How the lanes look.

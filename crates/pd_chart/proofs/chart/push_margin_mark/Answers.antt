@@ -1,6 +1,6 @@
 use Rattle.std.proofs.Common.{◌≡◌, ◌++◌, ◌∙◌, List, ℕ, ap, codes}
 use Rattle.std.proofs.lemmas.Result.{on_ok_weaker}
-use Rattle.pd_svg.specs.Elements.{element_text}
+use Rattle.pd_chart.specs.Elements.{element_text}
 use Rattle.pd_chart.specs.Chart.{line_of, margin_mark}
 use Rattle.pd_chart.specs.Scale.{x_of, y_of}
 use Rattle.pd_chart.proofs.chart.push_margin_mark.Goals as goal

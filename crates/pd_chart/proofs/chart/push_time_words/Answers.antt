@@ -1,7 +1,7 @@
 use Rattle.std.proofs.Common.{rules, ◌≡◌, ◌++◌, ◌∙◌, List, ℕ, [], ap, codes}
 use Rattle.std.proofs.lemmas.Result.{on_ok_weaker}
-use Rattle.pd_svg.specs.Elements.{element_text}
-use Rattle.pd_svg.specs.Shapes.{words_at}
+use Rattle.pd_chart.specs.Elements.{element_text}
+use Rattle.pd_chart.specs.Shapes.{words_at}
 use Rattle.pd_chart.specs.Chart.{time_words}
 use Rattle.pd_chart.specs.Scale.{seconds}
 use Rattle.pd_chart.proofs.chart.push_time_words.Goals as goal

@@ -1,7 +1,7 @@
 use Rattle.std.proofs.Common.{◌≡◌, ◌++◌, ◌∙◌, List, ℕ, ap, append_assoc}
 use Rattle.std.proofs.lemmas.Result.{on_ok_weaker}
-use Rattle.pd_svg.specs.Elements.{element_text}
-use Rattle.pd_svg.specs.Shapes.{style_of}
+use Rattle.pd_chart.specs.Elements.{element_text}
+use Rattle.pd_chart.specs.Shapes.{style_of}
 use Rattle.pd_chart.proofs.PictureLemmas.{elements_text}
 use Rattle.pd_chart.proofs.picture.push_chart.Goals as goal
 

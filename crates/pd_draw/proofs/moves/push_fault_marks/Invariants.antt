@@ -1,6 +1,6 @@
 use Rattle.std.proofs.Common.{◌≡◌, ◌++◌, map, take}
 use Rattle.std.specs.List.{flat_map}
-use Rattle.pd_svg.specs.Elements.{element_text}
+use Rattle.pd_chart.specs.Elements.{element_text}
 use Rattle.pd_draw.specs.Marks.{fault_mark, lane_marked, marks_elements}
 use Rattle.pd_draw.proofs.moves.push_fault_marks.Given as goal
 

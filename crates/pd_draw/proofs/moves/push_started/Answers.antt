@@ -2,7 +2,7 @@ use Rattle.std.proofs.Common.{◌≡◌, ◌++◌, ◌∙◌, List, ap, sym}
 use Rattle.std.specs.Prelude.{true}
 use Rattle.std.specs.List.{flat_map}
 use Rattle.std.proofs.lemmas.List.{append-nil}
-use Rattle.pd_svg.specs.Elements.{Element, element_text}
+use Rattle.pd_chart.specs.Elements.{Element, element_text}
 use Rattle.pd_draw.specs.declared.place.Row.TheVariants.{Packets}
 use Rattle.pd_draw.specs.Marks.{joins, start_mark}
 use Rattle.pd_draw.proofs.MarkLemmas.{joined_elements, joined_lane}

@@ -1,6 +1,6 @@
 use Rattle.std.proofs.Common.{◌≡◌, ◌++◌, take}
 use Rattle.std.specs.List.{flat_map}
-use Rattle.pd_svg.specs.Elements.{element_text}
+use Rattle.pd_chart.specs.Elements.{element_text}
 use Rattle.pd_draw.specs.Picture.{names_of}
 use Rattle.pd_draw.proofs.picture.push_all_names.Given as goal
 

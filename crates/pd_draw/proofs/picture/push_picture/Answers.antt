@@ -1,6 +1,6 @@
 use Rattle.std.proofs.Common.{◌++◌, ◌∙◌, ap}
 use Rattle.std.specs.List.{flat_map}
-use Rattle.pd_svg.specs.Elements.{attribute_text, element_text}
+use Rattle.pd_chart.specs.Elements.{attribute_text, element_text}
 use Rattle.pd_chart.specs.Picture.{elements_of, head_of}
 use Rattle.pd_draw.specs.Picture.{picture}
 use Rattle.pd_draw.proofs.PictureLemmas.{all_text, parts}

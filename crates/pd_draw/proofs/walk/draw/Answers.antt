@@ -1,6 +1,6 @@
 use Rattle.std.proofs.Common.{◌≡◌, ◌-◌, arith, ◌++◌, ◌∷◌, ◌∙◌, [], List, ap, length, sym}
 use Rattle.std.specs.List.{flat_map}
-use Rattle.pd_svg.specs.Elements.{element_text}
+use Rattle.pd_chart.specs.Elements.{element_text}
 use Rattle.pd_run.specs.Run.{Move, shown}
 use Rattle.pd_run.specs.Live.{next_move}
 use Rattle.pd_watch.specs.Watch.{WatchData, after_step}

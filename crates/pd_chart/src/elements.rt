@@ -2,8 +2,8 @@
 
 ghost use Rattle.std.specs.Prelude.{◌≡◌, ◌∷◌, ◌++◌, [], OnOk, codes, decimal};
 ghost use Rattle.std.specs.List.{flat_map};
-ghost use Rattle.pd_svg.specs.Elements.{attribute_text, escaped, escaped_byte, inside_text};
-ghost use Rattle.pd_svg.specs.Shapes.{named, place, size, title};
+ghost use Rattle.pd_chart.specs.Elements.{attribute_text, escaped, escaped_byte, inside_text};
+ghost use Rattle.pd_chart.specs.Shapes.{named, place, size, title};
 
 use itoa::Buffer;
 use std::alloc::AllocError;

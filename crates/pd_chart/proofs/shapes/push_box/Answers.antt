@@ -1,7 +1,7 @@
 use Rattle.std.proofs.Common.{◌≡◌, ◌++◌, ◌∷◌, List, ℕ, [], append_assoc, codes}
 use Rattle.std.proofs.lemmas.Result.{on_ok_weaker}
-use Rattle.pd_svg.specs.Shapes.{box_of}
-use Rattle.pd_svg.proofs.shapes.push_box.Goals as goal
+use Rattle.pd_chart.specs.Shapes.{box_of}
+use Rattle.pd_chart.proofs.shapes.push_box.Goals as goal
 
 joined : (n t t1 t2 t3 t4 t5 c x y w h i k : List ℕ) → t1 ≡ t ++ 60 ∷ (n ++ c) → t2 ≡ t1 ++ (x ++ (y ++ [])) →
     t3 ≡ t2 ++ (w ++ (h ++ [])) → t4 ≡ t3 ++ 62 ∷ i → t5 ≡ t4 ++ k →

@@ -1,8 +1,8 @@
 use Rattle.std.proofs.Common.{◌≡◌, ◌++◌, ◌∷◌, List, ℕ, [], append_assoc, codes}
-use Rattle.pd_svg.specs.Elements.{inside_text}
+use Rattle.pd_chart.specs.Elements.{inside_text}
 use Rattle.std.proofs.lemmas.Result.{on_ok_weaker}
-use Rattle.pd_svg.specs.Shapes.{words_at}
-use Rattle.pd_svg.proofs.shapes.push_words.Goals as goal
+use Rattle.pd_chart.specs.Shapes.{words_at}
+use Rattle.pd_chart.proofs.shapes.push_words.Goals as goal
 
 joined : (n t t1 t2 t3 t4 t5 c x y i k : List ℕ) → t1 ≡ t ++ 60 ∷ (n ++ c) → t2 ≡ t1 ++ (x ++ (y ++ [])) → t3 ≡ t2 ++ 62 ∷ [] →
     t4 ≡ t3 ++ i → t5 ≡ t4 ++ k → t5 ≡ t ++ 60 ∷ (n ++ ((c ++ (x ++ (y ++ []))) ++ 62 ∷ ((i ++ []) ++ k)))

@@ -1,7 +1,7 @@
 -- The elements that a picture is made of. Places and sizes are in tenths of a pixel.
 use Rattle.std.specs.Prelude.{ℕ, List, [], ◌∷◌, ◌++◌, codes, decimal}
-use Rattle.pd_svg.specs.Elements.{Attribute, Drawing, Element, Inside, Title, Words}
-use Rattle.pd_svg.specs.declared.shapes.Area.{Area}
+use Rattle.pd_chart.specs.Elements.{Attribute, Drawing, Element, Inside, Title, Words}
+use Rattle.pd_chart.specs.declared.shapes.Area.{Area}
 
 abbrev pub named : List ℕ → List ℕ → Attribute
 named name value = record { name = name; value = value }

@@ -1,8 +1,8 @@
 //! The elements that a picture is made of. Places and sizes are in tenths of a pixel.
 
 ghost use Rattle.std.specs.Prelude.{◌≡◌, ◌∷◌, ◌++◌, [], OnOk, codes};
-ghost use Rattle.pd_svg.specs.Elements.{element_text, inside_text, attribute_text};
-ghost use Rattle.pd_svg.specs.Shapes.{box_of, path_of, style_of, words_at};
+ghost use Rattle.pd_chart.specs.Elements.{element_text, inside_text, attribute_text};
+ghost use Rattle.pd_chart.specs.Shapes.{box_of, path_of, style_of, words_at};
 
 use crate::elements::{
     push_attribute, push_close, push_escaped, push_open, push_place, push_size, push_title,

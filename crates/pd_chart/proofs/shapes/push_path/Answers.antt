@@ -1,7 +1,7 @@
 use Rattle.std.proofs.Common.{◌≡◌, ◌++◌, ◌∷◌, List, ℕ, [], append_assoc, codes}
 use Rattle.std.proofs.lemmas.Result.{on_ok_weaker}
-use Rattle.pd_svg.specs.Shapes.{path_of}
-use Rattle.pd_svg.proofs.shapes.push_path.Goals as goal
+use Rattle.pd_chart.specs.Shapes.{path_of}
+use Rattle.pd_chart.proofs.shapes.push_path.Goals as goal
 
 joined : (n t t1 t2 t3 t4 c d i k : List ℕ) → t1 ≡ t ++ 60 ∷ (n ++ c) → t2 ≡ t1 ++ d → t3 ≡ t2 ++ 62 ∷ i → t4 ≡ t3 ++ k →
     t4 ≡ t ++ 60 ∷ (n ++ ((c ++ (d ++ [])) ++ 62 ∷ (i ++ k)))

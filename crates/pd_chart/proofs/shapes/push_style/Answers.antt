@@ -1,7 +1,7 @@
 use Rattle.std.proofs.Common.{◌≡◌, ◌++◌, ◌∷◌, List, ℕ, [], append_assoc, codes}
-use Rattle.pd_svg.specs.Elements.{inside_text}
-use Rattle.pd_svg.specs.Shapes.{style_of}
-use Rattle.pd_svg.proofs.shapes.push_style.Goals as goal
+use Rattle.pd_chart.specs.Elements.{inside_text}
+use Rattle.pd_chart.specs.Shapes.{style_of}
+use Rattle.pd_chart.proofs.shapes.push_style.Goals as goal
 
 joined : (t t1 t2 t3 r : List ℕ) → t1 ≡ t ++ codes "<style>" → t2 ≡ t1 ++ r → t3 ≡ t2 ++ codes "</style>\n" →
     t3 ≡ t ++ (codes "<style>" ++ ((r ++ []) ++ codes "</style>\n"))
