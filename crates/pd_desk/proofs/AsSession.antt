@@ -13,7 +13,7 @@ use Rattle.pd_bench.specs.Session.{Replies, Session, BeginsSession, SessionStopp
 use Rattle.pd_bench.specs.Stream.{so_far}
 use Rattle.pd_bench.specs.Traces.{ended}
 use Rattle.pd_bench.proofs.SessionLemmas.{some_answers, Replies-from_answers}
-use Rattle.pd_colon.specs.Commands.{is_colon}
+use Rattle.pd_desk.specs.Commands.{is_colon}
 use Rattle.pd_desk.specs.Desk.{DeskReply, DeskReplies, Becomes, WithShelf, at_first}
 use Rattle.pd_desk.specs.Shelf.{Shelved}
 use Rattle.pd_desk.specs.Ends.{Beside, DeskText, DeskStopped}

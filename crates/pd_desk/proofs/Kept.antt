@@ -11,8 +11,8 @@ use Rattle.pd_edit_lines.specs.Words.{words}
 use Rattle.pd_edit_lines.specs.declared.line.Line.{Line}
 use Rattle.pd_edit_lines.specs.declared.line.Line.TheVariants as lines_read
 use Rattle.pd_edit_lines.specs.declared.fault.EditFault.{EditFault}
-use Rattle.pd_colon.specs.Commands.{is_colon, colon_of, second}
-use Rattle.pd_colon.specs.Reasons.{no_line_text, reasons_of, reasons_text}
+use Rattle.pd_desk.specs.Commands.{is_colon, colon_of, second}
+use Rattle.pd_desk.specs.LineReasons.{no_line_text, reasons_of, reasons_text}
 use Rattle.pd_bench.specs.Pending.{StandsFor}
 use Rattle.pd_bench.proofs.PendingLemmas.{reading-kept, reading-kept_cut, strip-push}
 use Rattle.pd_desk.specs.Desk.{DeskReply, OwnReply, ReplyBy, WithShelf}

@@ -4,3 +4,5 @@ mod Joins
 mod Kept
 mod TakeLine
 mod Told
+mod FoundLines
+mod OwnLines

@@ -15,7 +15,7 @@ use Rattle.pd_bench.specs.Session.{Reply, EditReply, ShowReply, can_show, refuse
 use Rattle.pd_reasons.specs.Reasons.{reason_of}
 use Rattle.std.proofs.KnownBytes.{Appends-nil}
 use Rattle.pd_device.specs.declared.fault.BenchFault.{BenchFault}
-use Rattle.pd_colon.specs.Reasons.{reasons_text}
+use Rattle.pd_desk.specs.LineReasons.{reasons_text}
 use Rattle.pd_desk.specs.Desk.{LineTells, TellsWhyNot}
 use Rattle.pd_desk.specs.Ends.{Beside, ToldAfter}
 use Rattle.pd_desk.specs.Laws.{RefusalsAreTold}

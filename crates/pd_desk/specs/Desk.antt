@@ -17,12 +17,12 @@ use Rattle.pd_bench.specs.declared.tally.Tally.{Tally}
 use Rattle.pd_bench.specs.declared.tally.Outcome.{Outcome}
 use Rattle.pd_bench.specs.declared.tally.Outcome.TheVariants.{Skipped, Accepted, Refused, Shown}
 use Rattle.pd_bench.specs.Session.{Reply, counted, no_lines, refused_text}
-use Rattle.pd_colon.specs.declared.colon.Colon.{Colon}
-use Rattle.pd_colon.specs.declared.colon.Colon.TheVariants as colon
-use Rattle.pd_colon.specs.Commands.{is_colon, colon_of, second}
-use Rattle.pd_colon.specs.Diff.{diff_text}
-use Rattle.pd_colon.specs.Reports.{TellsDiff}
-use Rattle.pd_colon.specs.Reasons.{reasons_text}
+use Rattle.pd_desk.specs.declared.colon.Colon.{Colon}
+use Rattle.pd_desk.specs.declared.colon.Colon.TheVariants as colon
+use Rattle.pd_desk.specs.Commands.{is_colon, colon_of, second}
+use Rattle.pd_desk.specs.Diff.{diff_text}
+use Rattle.pd_desk.specs.Reports.{TellsDiff}
+use Rattle.pd_desk.specs.LineReasons.{reasons_text}
 use Rattle.pd_reasons.specs.Reasons.{reason_of}
 use Rattle.pd_desk.specs.Help.{help_text}
 use Rattle.pd_desk.specs.Reasons.{as_line}

@@ -6,7 +6,7 @@ use Rattle.pd_device.specs.declared.fault.BenchFault.{BenchFault}
 use Rattle.pd_bench.specs.declared.tally.Tally.{Tally}
 use Rattle.pd_bench.specs.declared.tally.Outcome.TheVariants.{Refused}
 use Rattle.pd_bench.specs.Session.{SessionEnds}
-use Rattle.pd_colon.specs.Commands.{is_colon}
+use Rattle.pd_desk.specs.Commands.{is_colon}
 use Rattle.pd_desk.specs.Desk.{LineTells}
 use Rattle.pd_desk.specs.Ends.{Beside, DeskEnds, read_of}
 use Rattle.pd_desk.specs.Shelf.{Shelved}

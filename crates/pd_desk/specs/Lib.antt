@@ -8,3 +8,7 @@ pub mod OwnFaults
 pub mod Reasons
 pub mod Shelf
 pub mod Taking
+pub mod Commands
+pub mod Diff
+pub mod LineReasons
+pub mod Reports

@@ -3,20 +3,28 @@
 
 mod answers;
 mod byte_in;
+mod colon;
 mod desk;
+mod diff;
 mod help;
 pub mod laws;
 mod line_in;
+mod line_reasons;
 mod lines;
 mod live;
 mod outlets;
 mod own;
 mod reasons;
+mod reports;
 mod shelf;
 
 pub use byte_in::ByteIn;
+pub use colon::{Colon, file_of, is_colon};
+pub use diff::push_diff;
+pub use line_reasons::push_reasons;
 pub use live::run_live;
 pub use outlets::Outlets;
 pub use own::OwnFault;
 pub use reasons::tell_reason;
+pub use reports::{run_diff, why_port};
 pub use shelf::Shelf;

@@ -8,7 +8,7 @@ use crate::shown::tell_lines;
 use clap::ArgMatches;
 use pd_device::write_all;
 use pd_port::Meter;
-use pd_why_text::{Form, Question, why_text};
+use pd_why::{Form, Question, why_text};
 use std::alloc::Global;
 use std::rt::Files;
 

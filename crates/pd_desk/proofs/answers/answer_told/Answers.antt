@@ -2,7 +2,7 @@ use Rattle.std.proofs.Common.{[], Ok, refl}
 use Rattle.std.proofs.KnownBytes.{Appends-nil}
 use Rattle.std.proofs.lemmas.Result.{err_from_is_err_and}
 use Rattle.pd_edit_lines.specs.Grammar.{line_of}
-use Rattle.pd_colon.specs.Reasons.{reasons_text}
+use Rattle.pd_desk.specs.LineReasons.{reasons_text}
 use Rattle.pd_desk.proofs.Told.{none_told, refusal_told, same_scenario, some_fault, some_told}
 use Rattle.pd_desk.proofs.answers.answer_told.Goals as goal
 

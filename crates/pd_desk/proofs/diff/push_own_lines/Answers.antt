@@ -1,7 +1,7 @@
 use Rattle.std.proofs.Common.{sym}
 use Rattle.std.specs.Str.Lines.{lines}
-use Rattle.pd_colon.proofs.OwnLines.{more_told, all_told}
-use Rattle.pd_colon.proofs.diff.push_own_lines.Goals as goal
+use Rattle.pd_desk.proofs.OwnLines.{more_told, all_told}
+use Rattle.pd_desk.proofs.diff.push_own_lines.Goals as goal
 
 pub loop-line-preserved : goal.loop-line-preserved
 loop-line-preserved c =

@@ -3,7 +3,7 @@ use Rattle.std.proofs.Common.{◌≡◌, ℕ, List, [], ◌∷◌, ◌++◌, Opt
 use Rattle.std.proofs.lemmas.List.{append-nil}
 use Rattle.std.specs.Str.Lines.{lines}
 use Rattle.pd_edit_lines.specs.Words.{next}
-use Rattle.pd_colon.specs.Diff.{own_line, own_lines}
+use Rattle.pd_desk.specs.Diff.{own_line, own_lines}
 
 next_some : (ls : List (List ℕ)) (line : List ℕ) (more : List (List ℕ)) → Some (line, more) ≡ next ls → ls ≡ line ∷ more
 next_some [] line more e = absurd (cc)

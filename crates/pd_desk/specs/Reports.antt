@@ -8,7 +8,7 @@ use Rattle.pd_run.specs.Shown.{Shows}
 use Rattle.pd_report.specs.ContractLines.{contracts_text}
 use Rattle.pd_report.specs.FaultLines.{faults_text}
 use Rattle.pd_report.specs.Margins.{margins_text}
-use Rattle.pd_colon.specs.Diff.{diff_text}
+use Rattle.pd_desk.specs.Diff.{diff_text}
 
 -- the shows of contracts, faults and margins, one after the other
 unfoldable pub report_text : Plan → List (ℕ × Entry) → List ℕ

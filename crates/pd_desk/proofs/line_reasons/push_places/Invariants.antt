@@ -1,8 +1,8 @@
 use Rattle.std.proofs.Common.{◌≡◌, ◌++◌, take}
 use Rattle.std.specs.List.{flat_map}
 use Rattle.pd_explain.specs.declared.place.Reason.{Reason}
-use Rattle.pd_colon.specs.Reasons.{place_line}
-use Rattle.pd_colon.proofs.reasons.push_places.Given as goal
+use Rattle.pd_desk.specs.LineReasons.{place_line}
+use Rattle.pd_desk.proofs.line_reasons.push_places.Given as goal
 
 abbrev pub invariant-loop-reason : goal.invariant-loop-reason
 invariant-loop-reason g l =

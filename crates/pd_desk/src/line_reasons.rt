@@ -3,7 +3,7 @@
 ghost use Rattle.std.specs.Prelude.{◌≡◌, ◌++◌, OnOk};
 ghost use Rattle.std.specs.List.{flat_map};
 ghost use Rattle.pd_edit.specs.Refusals.{edited};
-ghost use Rattle.pd_colon.specs.Reasons.{edit_reasons, no_line_text, place_line, reasons_text, show_reasons};
+ghost use Rattle.pd_desk.specs.LineReasons.{edit_reasons, no_line_text, place_line, reasons_text, show_reasons};
 
 use pd_edit::apply;
 use pd_edit_lines::{Edit, EditFault, Line, Show};

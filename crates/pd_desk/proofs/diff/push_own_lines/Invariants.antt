@@ -1,7 +1,7 @@
 use Rattle.std.proofs.Common.{◌≡◌, ◌++◌, length}
 use Rattle.std.specs.Str.Lines.{lines}
-use Rattle.pd_colon.specs.Diff.{own_lines}
-use Rattle.pd_colon.proofs.diff.push_own_lines.Given as goal
+use Rattle.pd_desk.specs.Diff.{own_lines}
+use Rattle.pd_desk.proofs.diff.push_own_lines.Given as goal
 
 abbrev pub invariant-loop-line : goal.invariant-loop-line
 invariant-loop-line l =

@@ -3,7 +3,7 @@
 ghost use Rattle.std.specs.Prelude.{◌≡◌, ◌++◌, ℕ, List, OnOk, IfOk, bytes_eq};
 ghost use Rattle.std.specs.List.{list_any};
 ghost use Rattle.std.specs.Str.Lines.{lines};
-ghost use Rattle.pd_colon.specs.Diff.{has_line, own_line, own_lines, diff_text};
+ghost use Rattle.pd_desk.specs.Diff.{has_line, own_line, own_lines, diff_text};
 
 use pd_script::first_line;
 use std::alloc::{AllocError, Global};

@@ -8,7 +8,7 @@ use Rattle.std.proofs.lemmas.List.Sorted.{list_any-IsPermutation}
 use Rattle.std.proofs.lemmas.Bool.Decides.{same_from_decides}
 use Rattle.std.proofs.lemmas.Slice.Eq.{bytes_eq-Decides}
 use Rattle.pd_edit_lines.specs.Words.{next}
-use Rattle.pd_colon.specs.Diff.{has_line}
+use Rattle.pd_desk.specs.Diff.{has_line}
 
 -- a key that is found already changes nothing
 same_found : (t : Bool) (line found : List ℕ) (r : Bool) → bytes_eq line found ≡ t → (line ≡ found → r ≡ true) → r ≡ (t || r)

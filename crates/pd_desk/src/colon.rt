@@ -2,7 +2,7 @@
 
 ghost use Rattle.std.specs.Prelude.{◌≡◌, option_map};
 ghost use Rattle.pd_edit_lines.specs.Words.{words};
-ghost use Rattle.pd_colon.specs.Commands.{alone, asked, asked_by, colon_of, is_colon, save_of, second, why_of};
+ghost use Rattle.pd_desk.specs.Commands.{alone, asked, asked_by, colon_of, is_colon, save_of, second, why_of};
 
 use pd_edit_lines::{next, number};
 

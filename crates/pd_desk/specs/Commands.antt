@@ -2,8 +2,8 @@
 use Rattle.std.specs.Prelude.{ℕ, Bool, true, false, ◌==◌, nat_lt, List, [], ◌∷◌, length, codes, Option, Some, None, option_map, bytes_eq}
 use Rattle.std.specs.Prelude.{if◌then◌else◌}
 use Rattle.pd_edit_lines.specs.Words.{words, number, ◌>>=◌}
-use Rattle.pd_colon.specs.declared.colon.Colon.{Colon}
-use Rattle.pd_colon.specs.declared.colon.Colon.TheVariants as colon
+use Rattle.pd_desk.specs.declared.colon.Colon.{Colon}
+use Rattle.pd_desk.specs.declared.colon.Colon.TheVariants as colon
 
 -- a line that begins with a colon is the desk's own
 abbrev pub is_colon : List ℕ → Bool

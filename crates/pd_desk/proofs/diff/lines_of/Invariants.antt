@@ -2,8 +2,8 @@ use Rattle.std.proofs.Common.{◌≡◌, ℕ, ◌||◌, List, length}
 use Rattle.std.specs.Prelude.{bytes_eq}
 use Rattle.std.specs.List.{list_any}
 use Rattle.std.specs.Str.Lines.{lines}
-use Rattle.pd_colon.specs.Diff.{has_line}
-use Rattle.pd_colon.proofs.diff.lines_of.Given as goal
+use Rattle.pd_desk.specs.Diff.{has_line}
+use Rattle.pd_desk.proofs.diff.lines_of.Given as goal
 
 abbrev pub invariant-loop-line : goal.invariant-loop-line
 invariant-loop-line l =

@@ -2,8 +2,8 @@ use Rattle.std.proofs.Common.{◌≡◌, ◌∙◌, ◌||◌, List, ap, sym, fal
 use Rattle.std.specs.Prelude.{bytes_eq}
 use Rattle.std.specs.List.{list_any}
 use Rattle.std.specs.Str.Lines.{lines}
-use Rattle.pd_colon.proofs.FoundLines.{found_more, found_all}
-use Rattle.pd_colon.proofs.diff.lines_of.Goals as goal
+use Rattle.pd_desk.proofs.FoundLines.{found_more, found_all}
+use Rattle.pd_desk.proofs.diff.lines_of.Goals as goal
 
 pub loop-line-preserved : goal.loop-line-preserved
 loop-line-preserved c = λ line.

@@ -11,7 +11,7 @@ use pd_port::Meter;
 use pd_run::Plan;
 use pd_scenario::Scenario;
 use pd_scene::{Job, JobOn, SceneFault, on_scene};
-use pd_why::{Form, Question, why};
+use crate::{Form, Question, why};
 use std::alloc::{AllocError, Global};
 
 // What is asked, and in which form it is told.

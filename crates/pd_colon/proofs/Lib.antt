@@ -1,2 +1,0 @@
-mod FoundLines
-mod OwnLines

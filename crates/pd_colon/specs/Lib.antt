@@ -1,4 +1,0 @@
-pub mod Commands
-pub mod Diff
-pub mod Reasons
-pub mod Reports
