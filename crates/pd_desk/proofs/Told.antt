@@ -12,7 +12,7 @@ use Rattle.pd_edit_lines.specs.declared.fault.EditFault.TheVariants as edit_faul
 use Rattle.pd_bench.specs.declared.tally.Outcome.{Outcome}
 use Rattle.pd_bench.specs.declared.tally.Outcome.TheVariants.{Skipped, Accepted, Refused, Shown}
 use Rattle.pd_bench.specs.Session.{Reply, EditReply, ShowReply, can_show, refused_text}
-use Rattle.pd_reasons.specs.Reasons.{reason_of}
+use Rattle.pd_hints.specs.Reasons.{reason_of}
 use Rattle.std.proofs.KnownBytes.{Appends-nil}
 use Rattle.pd_device.specs.declared.fault.BenchFault.{BenchFault}
 use Rattle.pd_desk.specs.LineReasons.{reasons_text}

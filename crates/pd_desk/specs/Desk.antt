@@ -23,7 +23,7 @@ use Rattle.pd_desk.specs.Commands.{is_colon, colon_of, second}
 use Rattle.pd_desk.specs.Diff.{diff_text}
 use Rattle.pd_desk.specs.Reports.{TellsDiff}
 use Rattle.pd_desk.specs.LineReasons.{reasons_text}
-use Rattle.pd_reasons.specs.Reasons.{reason_of}
+use Rattle.pd_hints.specs.Reasons.{reason_of}
 use Rattle.pd_desk.specs.Help.{help_text}
 use Rattle.pd_desk.specs.Reasons.{as_line}
 use Rattle.pd_desk.specs.OwnFaults.{own_sentence}

@@ -2,10 +2,10 @@
 
 ghost use Rattle.pd_device.specs.Device.{CountsFailure, Writes};
 ghost use Rattle.pd_desk.specs.Reasons.{as_line};
-ghost use Rattle.pd_reasons.specs.Reasons.{reason_of};
+ghost use Rattle.pd_hints.specs.Reasons.{reason_of};
 
 use pd_device::{BenchFault, TextOut, write_all};
-use pd_reasons::reason_of;
+use pd_hints::reason_of;
 
 /// Writes why something of this number is refused, as a line. A number that no refusal has is passed over.
 ///

@@ -1,6 +1,6 @@
 -- Which word may have been meant where a line stops to be one of an edit script, docs/FORMATS.md, "Hints".
 use Rattle.std.specs.Prelude.{ℕ, ◌&&◌, nat_lt, List, [], ◌∷◌, length, codes, Option, None, Some, if◌then◌else◌}
-use Rattle.pd_near.specs.Slips.{is_slip, nearest, meant_text}
+use Rattle.pd_hints.specs.Slips.{is_slip, nearest, meant_text}
 use Rattle.pd_edit_lines.specs.Grammar.{Words}
 use Rattle.pd_causes.specs.declared.rows.Front.{Front}
 use Rattle.pd_causes.specs.declared.rows.Row.{Row}

@@ -1,7 +1,7 @@
 -- What is said of a place at which a rule is broken: this product's own form, docs/FORMATS.md, "Reasons".
 use Rattle.std.specs.Prelude.{ℕ, ◌-◌, ◌==◌, List, [], ◌∷◌, ◌++◌, length, take, map, codes, decimal, nat_lt, if◌then◌else◌}
 use Rattle.std.specs.List.{flat_map}
-use Rattle.pd_near.specs.Slips.{nearest, meant_text}
+use Rattle.pd_hints.specs.Slips.{nearest, meant_text}
 use Rattle.pd_scenario.specs.declared.limits.Quantity.{Quantity}
 use Rattle.pd_scenario.specs.declared.named.NamedCable.{NamedCable}
 use Rattle.pd_scenario.specs.declared.named.NamedSink.{NamedSink}

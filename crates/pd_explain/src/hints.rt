@@ -1,7 +1,7 @@
 //! Hints: which word or name may have been meant.
 
 ghost use Rattle.std.specs.Prelude.{◌≡◌, ◌++◌, OnOk, find, map, option_map};
-ghost use Rattle.pd_near.specs.Slips.{is_slip, meant_text, nearest};
+ghost use Rattle.pd_hints.specs.Slips.{is_slip, meant_text, nearest};
 ghost use Rattle.pd_scenario.specs.declared.named.NamedCable.{NamedCable as NamedCableData};
 ghost use Rattle.pd_scenario.specs.declared.named.NamedSink.{NamedSink as NamedSinkData};
 ghost use Rattle.pd_edit_lines.specs.Words.{words};
@@ -9,7 +9,7 @@ ghost use Rattle.pd_explain.specs.Hints.{near_keyword, near_slot, near_word, sto
 
 use pd_causes::{Row, Slot, Stop};
 use pd_edit_lines::next;
-use pd_near::{is_slip, nearest, push_meant};
+use pd_hints::{is_slip, nearest, push_meant};
 use pd_scenario::{Name, NamedCable, NamedSink};
 use std::alloc::AllocError;
 

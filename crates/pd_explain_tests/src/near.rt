@@ -1,6 +1,6 @@
 //! Words and their slips, told by hand.
 
-use pd_near::{is_slip, nearest, push_meant};
+use pd_hints::{is_slip, nearest, push_meant};
 use std::test::Fail;
 
 /// Words that were meant, each with a slip of it.

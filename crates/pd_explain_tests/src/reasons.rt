@@ -1,6 +1,6 @@
 //! The numbers of docs/FORMATS.md, and no others, have a sentence.
 
-use pd_reasons::reason_of;
+use pd_hints::reason_of;
 use std::test::Fail;
 
 /// The numbers of a scenario's refusals, of a line's, and of faults.

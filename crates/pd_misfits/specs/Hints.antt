@@ -2,7 +2,7 @@
 use Rattle.std.specs.Prelude.{ℕ, Bool, ◌||◌, List, [], ◌∷◌, ◌++◌, take, find, codes, bytes_eq, Option, Some, None, option_map}
 use Rattle.std.specs.Prelude.{if◌then◌else◌}
 use Rattle.toml.specs.Data.{Data, string, table}
-use Rattle.pd_near.specs.Slips.{is_slip, nearest, meant_text}
+use Rattle.pd_hints.specs.Slips.{is_slip, nearest, meant_text}
 use Rattle.pd_scenario_tables.specs.declared.schema.Version.{Version}
 use Rattle.pd_scenario_tables.specs.declared.schema.Version.TheVariants.{One, Two}
 use Rattle.pd_scenario_tables.specs.declared.schema.EventName.TheVariants.{Unknown}

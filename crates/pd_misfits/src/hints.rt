@@ -6,7 +6,7 @@ ghost use Rattle.pd_misfits.specs.Hints.{bracket_hint, has_home, home_hint, home
 ghost use Rattle.pd_misfits.specs.Hints.{later_homes, near_key, near_rule, other_hint, own_rules, slip_hint, value_hint, word_hint};
 ghost use Rattle.pd_misfits.specs.Hints.{words_of};
 
-use pd_near::{is_slip, nearest, push_meant};
+use pd_hints::{is_slip, nearest, push_meant};
 use pd_scenario_tables::{
     EventName, Form, Key, Rule, ScenarioFault, TableKind, Version, has_key, rules_of,
 };

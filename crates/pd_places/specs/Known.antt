@@ -2,7 +2,7 @@
 use Rattle.std.specs.Prelude.{ℕ, ◌-◌, ◌&&◌, ◌==◌, not, nat_lt, List, [], ◌∷◌, ◌++◌, length, take, codes, decimal, bytes_eq, if◌then◌else◌}
 use Rattle.std.specs.List.{list_any, flat_map}
 use Rattle.toml.specs.Data.{Members}
-use Rattle.pd_near.specs.Slips.{nearest, meant_text}
+use Rattle.pd_hints.specs.Slips.{nearest, meant_text}
 use Rattle.pd_setup.specs.Events.{KindWord}
 use Rattle.pd_setup.specs.declared.event.EventKind.TheVariants.{Attach}
 use Rattle.pd_scenario_tables.specs.declared.schema.Version.{Version}

@@ -1,6 +1,6 @@
 use Rattle.std.proofs.Common.{◌∙◌, sym}
-use Rattle.pd_near.specs.Slips.{is_slip}
-use Rattle.pd_near.proofs.SlipLemmas.{find-map}
+use Rattle.pd_hints.specs.Slips.{is_slip}
+use Rattle.pd_hints.proofs.SlipLemmas.{find-map}
 use Rattle.pd_scenario.specs.declared.named.NamedSink.{NamedSink}
 use Rattle.pd_explain.proofs.hints.push_near_sink.Goals as goal
 

@@ -1,0 +1,2 @@
+pub mod SlipLemmas
+mod HaveReasons

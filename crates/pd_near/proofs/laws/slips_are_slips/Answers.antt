@@ -1,5 +1,0 @@
-use Rattle.pd_near.proofs.SlipLemmas as lemmas
-use Rattle.pd_near.proofs.laws.slips_are_slips.Goals as goal
-
-pub returns : goal.returns
-returns c = lemmas.slips_are_slips

@@ -1,5 +1,0 @@
-use Rattle.pd_reasons.proofs.HaveReasons.{each_has}
-use Rattle.pd_reasons.proofs.laws.each_has_a_reason.Goals as goal
-
-pub returns : goal.returns
-returns c = each_has
