@@ -5,7 +5,7 @@ ghost use Rattle.std.specs.List.{list_any};
 ghost use Rattle.std.specs.Str.Lines.{lines};
 ghost use Rattle.pd_desk.specs.Diff.{has_line, own_line, own_lines, diff_text};
 
-use pd_script::first_line;
+use pd_scene::first_line;
 use std::alloc::{AllocError, Global};
 use std::collections::HashSet;
 

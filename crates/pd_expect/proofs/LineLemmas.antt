@@ -4,7 +4,7 @@ use Rattle.std.proofs.lemmas.List.{append-nil}
 use Rattle.std.specs.Str.Lines.{lines}
 use Rattle.pd_scenario.specs.Scenarios.{ScenarioData}
 use Rattle.pd_edit_lines.specs.Words.{next}
-use Rattle.pd_script.specs.Script.{at_line}
+use Rattle.pd_scene.specs.Script.{at_line}
 use Rattle.pd_expect.specs.Tests.{Answer, IsAnswer, Tests, no_test}
 use Rattle.pd_expect.specs.Named.{named_by, or_else, scenario_name}
 use Rattle.pd_expect.specs.declared.tally.TestTally.{TestTally}

@@ -6,7 +6,7 @@ use Rattle.pd_scenario.specs.Plans.{plan_of}
 use Rattle.pd_scenario.specs.Scenarios.{ScenarioData}
 use Rattle.pd_explain.specs.Sentences.{sentence}
 use Rattle.pd_explain.specs.declared.place.Place.TheVariants as place
-use Rattle.pd_script.specs.Script.{after_line, at_line, line_text, reason_line}
+use Rattle.pd_scene.specs.Script.{after_line, at_line, line_text, reason_line}
 use Rattle.pd_expect.specs.Details.{details}
 use Rattle.pd_test_lines.specs.Lines.{test_line}
 use Rattle.pd_expect.specs.Losses.{IsLoss}

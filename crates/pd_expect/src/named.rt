@@ -5,7 +5,7 @@ ghost use Rattle.std.specs.Str.Lines.{lines};
 ghost use Rattle.pd_expect.specs.Named.{begins, behind, file_in, is_apart, named_by, scenario_name, script_lines, trim, trim_end};
 ghost use Rattle.pd_expect.specs.Named.{trim_start, without_mark};
 
-use pd_script::first_line;
+use pd_scene::first_line;
 
 /// The byte order mark of UTF-8.
 const MARK: &[u8] = &[0xEF, 0xBB, 0xBF];

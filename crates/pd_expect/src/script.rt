@@ -5,7 +5,7 @@ ghost use Rattle.std.specs.Str.Lines.{lines};
 ghost use Rattle.pd_scenario.specs.Plans.{plan_of};
 ghost use Rattle.pd_explain.specs.Sentences.{sentence};
 ghost use Rattle.pd_explain.specs.declared.place.Place.TheVariants.{Port as port_place};
-ghost use Rattle.pd_script.specs.Script.{reason_line};
+ghost use Rattle.pd_scene.specs.Script.{reason_line};
 ghost use Rattle.pd_expect.specs.Details.{details};
 ghost use Rattle.pd_expect.specs.Named.{script_lines};
 ghost use Rattle.pd_expect.specs.Sentences.{last_time, late_time, port_of, unknown_port};
@@ -23,7 +23,7 @@ use pd_explain::{Place, is_port, push_sentence};
 use pd_port::Meter;
 use pd_run::Runner;
 use pd_scenario::Scenario;
-use pd_script::{at_line, explain_line, first_line};
+use pd_scene::{at_line, explain_line, first_line};
 use pd_tell::push_number;
 use pd_test_lines::{Expectation, Lost, Span, TestLine};
 use std::alloc::{AllocError, Global};
@@ -46,7 +46,7 @@ fn unknown_port(ports: usize, port: Option<u64>) -> Option<u64>
 }
 
 /// Writes that no port has a number.
-#[tactic(auto, unfolding(pd_script::specs::Script::reason_line))]
+#[tactic(auto, unfolding(pd_scene::specs::Script::reason_line))]
 fn push_no_port<const N: usize>(
     text: &mut Vec<u8>,
     at: &[u8],

@@ -1,6 +1,6 @@
 //! Lines of scripts are cut off the front.
 
-use pd_script::first_line;
+use pd_scene::first_line;
 use std::test::Fail;
 
 /// Texts, each with its first line and what stands behind it.

@@ -4,9 +4,9 @@ use Rattle.std.proofs.lemmas.List.{append-nil}
 use Rattle.std.specs.Str.Lines.{lines}
 use Rattle.pd_scenario.specs.Scenarios.{ScenarioData}
 use Rattle.pd_edit_lines.specs.Words.{next}
-use Rattle.pd_script.specs.Script.{after_line, at_line, followed, line_text}
-use Rattle.pd_script.specs.Made.{line_made, made}
-use Rattle.pd_script.specs.declared.made.MadeEdit.{MadeEdit}
+use Rattle.pd_scene.specs.Script.{after_line, at_line, followed, line_text}
+use Rattle.pd_scene.specs.Made.{line_made, made}
+use Rattle.pd_scene.specs.declared.made.MadeEdit.{MadeEdit}
 use Rattle.pd_explain_text.specs.Told.{TellsEnd, line_told, named, script_told, told_in}
 use Rattle.pd_explain_text.specs.declared.form.Form.{Form}
 use Rattle.pd_explain_text.proofs.ObjectLines.{next_some, next_none}

@@ -6,9 +6,9 @@ use Rattle.pd_device.specs.Device.{WrotePart, one_more}
 use Rattle.pd_device.specs.declared.fault.BenchFault.{BenchFault}
 use Rattle.pd_device.specs.declared.fault.BenchFault.TheVariants.{ReadFailed, WriteFailed, Memory, ReaderTooLong}
 use Rattle.pd_scenario.specs.Scenarios.{ScenarioData}
-use Rattle.pd_script.specs.Script.{after_line, at_line, followed, line_text}
-use Rattle.pd_script.specs.Made.{made}
-use Rattle.pd_script.specs.declared.made.MadeEdit.{MadeEdit}
+use Rattle.pd_scene.specs.Script.{after_line, at_line, followed, line_text}
+use Rattle.pd_scene.specs.Made.{made}
+use Rattle.pd_scene.specs.declared.made.MadeEdit.{MadeEdit}
 use Rattle.pd_warn.specs.declared.warning.Warning.{Warning}
 use Rattle.pd_warn.specs.Warnings.{AreWarnings}
 use Rattle.pd_warn_text.specs.Sentences.{warnings_text}

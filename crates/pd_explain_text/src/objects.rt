@@ -5,7 +5,7 @@ ghost use Rattle.std.specs.Str.Lines.{lines};
 ghost use Rattle.pd_explain_text.specs.Objects.{objects_text};
 
 use pd_json::push_object;
-use pd_script::first_line;
+use pd_scene::first_line;
 use std::alloc::AllocError;
 
 /// Writes each line of what is told as a JSON object. The lines have no name of a file before their first colon: where the

@@ -2,15 +2,15 @@
 
 ghost use Rattle.std.specs.Prelude.{◌≡◌, ◌++◌, ◌||◌, nat_lt, length, IfOk, OnOk};
 ghost use Rattle.std.specs.Str.Lines.{lines};
-ghost use Rattle.pd_script.specs.Made.{line_made, made};
-ghost use Rattle.pd_script.specs.Script.{after_line, followed};
+ghost use Rattle.pd_scene.specs.Made.{line_made, made};
+ghost use Rattle.pd_scene.specs.Script.{after_line, followed};
 ghost use Rattle.pd_explain_text.specs.Told.{CountsTold, Tells, TellsEnd, TellsLines, line_told};
 
 use crate::form::{Telling, named, told_in};
 use pd_device::{BenchFault, TextOut, write_all};
 use pd_port::Meter;
 use pd_scenario::Scenario;
-use pd_script::{MadeEdit, at_line, first_line, note_line};
+use pd_scene::{MadeEdit, at_line, first_line, note_line};
 use pd_warn_text::push_warnings;
 use std::alloc::{AllocError, Global};
 

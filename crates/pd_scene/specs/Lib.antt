@@ -1,2 +1,4 @@
 pub mod Outlet
 pub mod Scene
+pub mod Script
+pub mod Made

@@ -6,7 +6,7 @@ use Rattle.pd_device.specs.declared.fault.BenchFault.TheVariants.{Memory}
 use Rattle.pd_scenario.specs.Limits.{is_port}
 use Rattle.pd_scenario.specs.Scenarios.{ScenarioData}
 use Rattle.pd_scenario_text.specs.Texts.{IsRefused, IsScenarioText}
-use Rattle.pd_script.specs.Script.{followed}
+use Rattle.pd_scene.specs.Script.{followed}
 use Rattle.pd_scene.specs.declared.scene.SceneFault.{SceneFault}
 use Rattle.pd_scene.specs.declared.scene.SceneFault.TheVariants as fault
 

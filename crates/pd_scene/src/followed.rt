@@ -6,7 +6,7 @@ use crate::job::{Job, JobOn};
 use crate::scene::{SceneFault, on_text};
 use pd_device::BenchFault;
 use pd_scenario::Scenario;
-use pd_script::follow;
+use crate::follow;
 use std::alloc::Global;
 
 // A job that is done on the scenario as an edit script leaves it.

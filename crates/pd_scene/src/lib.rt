@@ -1,14 +1,22 @@
 //! Scenes: the scenario that a text is, as an edit script leaves it, handed to one job.
 #![tactic(auto)]
 
+mod follow;
 mod followed;
 mod job;
+mod lines;
+mod made;
 mod outlet;
 mod scene;
+mod script;
 
+pub use follow::follow;
 pub use followed::on_scene;
 pub use job::{Job, JobOn};
+pub use lines::first_line;
+pub use made::{MadeEdit, note_line};
 pub use outlet::Outlet;
 pub use pd_device::BenchFault;
 pub use pd_scenario_text::ScenarioFault;
 pub use scene::{SceneFault, on_text};
+pub use script::{at_line, explain_line};

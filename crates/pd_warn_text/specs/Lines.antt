@@ -2,7 +2,7 @@
 use Rattle.std.specs.Prelude.{ℕ, Bool, false, ◌==◌, List, find, reverse, Option, None, Some, option_map, bytes_eq}
 use Rattle.pd_edit_lines.specs.declared.edit.Edit.{Edit}
 use Rattle.pd_edit_lines.specs.declared.edit.Edit.TheVariants.{Insert, Move, Change, Cable, Sink}
-use Rattle.pd_script.specs.declared.made.MadeEdit.{MadeEdit}
+use Rattle.pd_scene.specs.declared.made.MadeEdit.{MadeEdit}
 use Rattle.pd_warn.specs.declared.warning.Warning.{Warning}
 use Rattle.pd_warn.specs.declared.warning.Warning.TheVariants.{AfterEnd, UnusedCable, UnusedSink, SmallShare, Ignored, Unmet}
 

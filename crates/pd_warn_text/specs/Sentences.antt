@@ -2,7 +2,7 @@
 use Rattle.std.specs.Prelude.{ℕ, List, ◌∷◌, ◌++◌, codes, decimal, Option, None, Some}
 use Rattle.std.specs.List.{flat_map}
 use Rattle.pd_tell.specs.Amounts.{watts}
-use Rattle.pd_script.specs.declared.made.MadeEdit.{MadeEdit}
+use Rattle.pd_scene.specs.declared.made.MadeEdit.{MadeEdit}
 use Rattle.pd_warn.specs.declared.warning.Warning.{Warning}
 use Rattle.pd_warn.specs.declared.warning.Warning.TheVariants.{AfterEnd, UnusedCable, UnusedSink, SmallShare, Ignored, Unmet}
 use Rattle.pd_warn.specs.declared.warning.Why.{Why}

@@ -1,7 +1,7 @@
 -- What a scenario is warned of, as the edits of a script leave it.
 use Rattle.std.specs.Prelude.{◌≡◌, ℕ, List, ◌++◌}
 use Rattle.pd_scenario.specs.Scenarios.{ScenarioData}
-use Rattle.pd_script.specs.declared.made.MadeEdit.{MadeEdit}
+use Rattle.pd_scene.specs.declared.made.MadeEdit.{MadeEdit}
 use Rattle.pd_warn.specs.declared.warning.Warning.{Warning}
 use Rattle.pd_warn.specs.Warnings.{AreWarnings}
 use Rattle.pd_warn_text.specs.Sentences.{warnings_text}

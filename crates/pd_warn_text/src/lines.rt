@@ -1,12 +1,12 @@
 //! Which line of an edit script what is warned of was made by.
 
 ghost use Rattle.std.specs.Prelude.{◌≡◌, find, reverse};
-ghost use Rattle.pd_script.specs.declared.made.MadeEdit.{MadeEdit as MadeEditData};
+ghost use Rattle.pd_scene.specs.declared.made.MadeEdit.{MadeEdit as MadeEditData};
 ghost use Rattle.pd_warn_text.specs.Lines.{last_line, sets, sets_cable, sets_event, sets_sink};
 
 use pd_edit_lines::Edit;
 use pd_scenario::Name;
-use pd_script::MadeEdit;
+use pd_scene::MadeEdit;
 use pd_warn::Warning;
 
 /// Whether an edit puts in, moves or changes the event of an id.

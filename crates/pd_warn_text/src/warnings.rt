@@ -9,7 +9,7 @@ use crate::lines::last_line;
 use crate::sentences::{push_place, push_warning};
 use pd_port::Meter;
 use pd_scenario::Scenario;
-use pd_script::MadeEdit;
+use pd_scene::MadeEdit;
 use pd_warn::{Warning, warnings};
 use std::alloc::{AllocError, Global};
 

@@ -1,5 +1,5 @@
 use Rattle.std.proofs.Common.{codes, [], ◌∷◌}
-use Rattle.pd_script.specs.Script.{reason_line}
+use Rattle.pd_scene.specs.Script.{reason_line}
 use Rattle.pd_expect.proofs.JoinLemmas.{joined_front}
 use Rattle.pd_expect.proofs.script.push_no_port.Goals as goal
 

@@ -1,7 +1,7 @@
 use Rattle.std.proofs.Common.{inl, inr, ap, ◌∙◌, ◌++◌}
 use Rattle.std.specs.Str.Lines.{lines}
 use Rattle.std.proofs.lemmas.Result.{err_from_is_err_and}
-use Rattle.pd_script.specs.Made.{made}
+use Rattle.pd_scene.specs.Made.{made}
 use Rattle.pd_explain_text.proofs.ScriptLines.{ends_as}
 use Rattle.pd_explain_text.proofs.Written.{behind, torn_behind, whole_part}
 use Rattle.pd_explain_text.proofs.script.explain.Goals as goal

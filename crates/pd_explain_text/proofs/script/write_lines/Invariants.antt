@@ -1,7 +1,7 @@
 use Rattle.std.proofs.Common.{◌≡◌, ◌+◌, ◌≤◌, ◌++◌, length}
 use Rattle.std.specs.Str.Lines.{lines}
-use Rattle.pd_script.specs.Script.{followed}
-use Rattle.pd_script.specs.Made.{made}
+use Rattle.pd_scene.specs.Script.{followed}
+use Rattle.pd_scene.specs.Made.{made}
 use Rattle.pd_explain_text.specs.Told.{script_told}
 use Rattle.pd_explain_text.proofs.Written.{Progress}
 use Rattle.pd_explain_text.proofs.script.write_lines.Given as goal

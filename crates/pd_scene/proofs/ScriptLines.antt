@@ -3,7 +3,7 @@ use Rattle.std.proofs.Common.{◌≡◌, ℕ, List, [], ◌∷◌, refl, sym, ap
 use Rattle.std.specs.Str.Lines.{lines}
 use Rattle.pd_scenario.specs.Scenarios.{ScenarioData}
 use Rattle.pd_edit_lines.specs.Words.{next}
-use Rattle.pd_script.specs.Script.{after_line, followed}
+use Rattle.pd_scene.specs.Script.{after_line, followed}
 
 next_some : (ls : List (List ℕ)) (line : List ℕ) (more : List (List ℕ)) → Some (line, more) ≡ next ls → ls ≡ line ∷ more
 next_some [] line more e = absurd (cc)

@@ -2,8 +2,8 @@
 
 ghost use Rattle.std.specs.Prelude.{◌≡◌, ◌++◌, OnOk};
 ghost use Rattle.pd_edit.specs.Refusals.{edited};
-ghost use Rattle.pd_script.specs.Script.{after_line, edit_text, kept_or, line_text};
-ghost use Rattle.pd_script.specs.Made.{edit_made, line_made};
+ghost use Rattle.pd_scene.specs.Script.{after_line, edit_text, kept_or, line_text};
+ghost use Rattle.pd_scene.specs.Made.{edit_made, line_made};
 
 use crate::script::{push_no_line, push_refused, push_show};
 use pd_edit::apply;

@@ -1,6 +1,6 @@
 use Rattle.std.proofs.Common.{◌≡◌, ◌++◌, take}
-use Rattle.pd_script.specs.Script.{reasons_text}
-use Rattle.pd_script.proofs.script.push_reasons.Given as goal
+use Rattle.pd_scene.specs.Script.{reasons_text}
+use Rattle.pd_scene.proofs.script.push_reasons.Given as goal
 
 abbrev pub invariant-loop-reason : goal.invariant-loop-reason
 invariant-loop-reason g l =

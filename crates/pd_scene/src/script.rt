@@ -6,9 +6,9 @@ ghost use Rattle.pd_edit.specs.Refusals.{edited};
 ghost use Rattle.pd_explain.specs.Places.{reasons as reasons_of};
 ghost use Rattle.pd_explain.specs.Sentences.{sentence};
 ghost use Rattle.pd_explain.specs.Stops.{syntax_text};
-ghost use Rattle.pd_script.specs.Script.{at_line, reason_line, reason_text, reasons_text, edit_text, show_text, kept_or, line_text};
-ghost use Rattle.pd_script.specs.Script.{after_line, front_text, most_places, more_words, more_line, more_text};
-ghost use Rattle.pd_script.specs.Script.{first_reasons_text};
+ghost use Rattle.pd_scene.specs.Script.{at_line, reason_line, reason_text, reasons_text, edit_text, show_text, kept_or, line_text};
+ghost use Rattle.pd_scene.specs.Script.{after_line, front_text, most_places, more_words, more_line, more_text};
+ghost use Rattle.pd_scene.specs.Script.{first_reasons_text};
 
 use pd_content::push_number;
 use pd_edit::apply;

@@ -1,6 +1,6 @@
 use Rattle.std.proofs.Common.{arith}
-use Rattle.pd_script.proofs.CutLines.{positive, last_line, cut_line}
-use Rattle.pd_script.proofs.lines.first_line.Goals as goal
+use Rattle.pd_scene.proofs.CutLines.{positive, last_line, cut_line}
+use Rattle.pd_scene.proofs.lines.first_line.Goals as goal
 
 pub returns-in-empty-clause-lines : goal.returns-in-empty-clause-lines
 returns-in-empty-clause-lines c =

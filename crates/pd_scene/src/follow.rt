@@ -2,7 +2,7 @@
 
 ghost use Rattle.std.specs.Prelude.{◌≡◌, OnOk};
 ghost use Rattle.std.specs.Str.Lines.{lines};
-ghost use Rattle.pd_script.specs.Script.{after_line, followed};
+ghost use Rattle.pd_scene.specs.Script.{after_line, followed};
 
 use crate::lines::first_line;
 use pd_edit::apply;

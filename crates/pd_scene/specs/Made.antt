@@ -7,8 +7,8 @@ use Rattle.pd_edit_lines.specs.declared.edit.Edit.{Edit}
 use Rattle.pd_edit_lines.specs.declared.line.Line.{Line}
 use Rattle.pd_edit_lines.specs.declared.line.Line.TheVariants as line_read
 use Rattle.pd_edit.specs.Refusals.{edited}
-use Rattle.pd_script.specs.declared.made.MadeEdit.{MadeEdit}
-use Rattle.pd_script.specs.Script.{after_line}
+use Rattle.pd_scene.specs.declared.made.MadeEdit.{MadeEdit}
+use Rattle.pd_scene.specs.Script.{after_line}
 
 -- an edit of a line, where it isn't refused
 abbrev pub edit_made : ℕ → Edit → Result ScenarioData EditFault → List MadeEdit
