@@ -3,3 +3,5 @@ pub mod Refusals
 pub mod SessionLemmas
 pub mod TakenOut
 pub mod Traces
+pub mod Paid
+pub mod Told

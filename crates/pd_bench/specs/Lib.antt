@@ -4,3 +4,4 @@ pub mod Pending
 pub mod Session
 pub mod Stream
 pub mod Traces
+pub mod Texts

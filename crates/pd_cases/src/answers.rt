@@ -2,12 +2,12 @@
 
 ghost use Rattle.std.specs.Prelude.{IsTrue, IfSome};
 ghost use Rattle.pd_scenario_text.specs.Texts.{IsRefusedBy};
-ghost use Rattle.pd_run_text.specs.Texts.{IsAnswered};
+ghost use Rattle.pd_bench.specs.Texts.{IsAnswered};
 
 use crate::cases::Case;
 use pd_device::Output;
 use pd_port::Meter;
-use pd_run_text::{check_text, run_kept, run_plain};
+use pd_bench::{check_text, run_kept, run_plain};
 use std::alloc::Global;
 
 // The steps of a session that writes what is expected.

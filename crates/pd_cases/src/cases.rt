@@ -1,6 +1,6 @@
 //! The files of a case.
 
-use pd_run_text::read_whole;
+use pd_bench::read_whole;
 use std::alloc::Global;
 use std::rt::Files;
 use std::{fs, io};

@@ -2,7 +2,7 @@
 
 use pd_device::Output;
 use pd_port::Meter;
-use pd_run_text::{RunFault, read_whole, run_plain};
+use pd_bench::{RunFault, read_whole, run_plain};
 use std::alloc::Global;
 use std::io;
 use std::rt::Files;

@@ -4,8 +4,8 @@ use Rattle.pd_scenario.specs.Scenarios.{ScenarioData}
 use Rattle.pd_device.specs.declared.fault.BenchFault.{BenchFault}
 use Rattle.pd_bench.specs.declared.tally.Tally.{Tally}
 use Rattle.pd_bench.specs.Session.{CountsFault}
-use Rattle.pd_run_text.specs.declared.texts.RunFault.{RunFault}
-use Rattle.pd_run_text.specs.declared.texts.RunFault.TheVariants as faults
+use Rattle.pd_bench.specs.declared.texts.RunFault.{RunFault}
+use Rattle.pd_bench.specs.declared.texts.RunFault.TheVariants as faults
 use Rattle.pd_scenario_text.specs.Texts.{IsRefused, IsScenarioText}
 use Rattle.pd_desk.specs.Ends.{Beside, DeskEnds}
 use Rattle.pd_desk.specs.Shelf.{Shelved}

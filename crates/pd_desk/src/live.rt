@@ -14,7 +14,7 @@ use pd_device::{TextIn, TextOut};
 use pd_keep::Kept;
 use pd_port::Meter;
 use pd_run::Runner;
-use pd_run_text::RunFault;
+use pd_bench::RunFault;
 use pd_scenario_text::{ScenarioFault, ScenarioFile};
 use std::alloc::Global;
 

@@ -3,7 +3,7 @@
 use crate::Ending;
 use crate::fault::tell;
 use pd_device::BenchFault;
-use pd_run_text::{check_text, read_whole};
+use pd_bench::{check_text, read_whole};
 use std::alloc::Global;
 use std::rt::Files;
 

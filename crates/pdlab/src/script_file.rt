@@ -1,6 +1,6 @@
 //! Files by their names, and standard input, whose name is `-`.
 
-use pd_run_text::read_whole;
+use pd_bench::read_whole;
 use std::alloc::Global;
 use std::io;
 use std::io::Read;

@@ -8,7 +8,7 @@ use pd_device::{BenchFault, write_all};
 use pd_expect::{TestReport, TestTally, scenario_name, test_text};
 use pd_explain_text::push_objects;
 use pd_port::Meter;
-use pd_run_text::read_whole;
+use pd_bench::read_whole;
 use std::alloc::{AllocError, Global};
 use std::rt::Files;
 

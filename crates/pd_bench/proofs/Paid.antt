@@ -10,10 +10,10 @@ use Rattle.pd_device.specs.declared.fault.BenchFault.{BenchFault}
 use Rattle.pd_bench.specs.declared.tally.Tally.{Tally}
 use Rattle.pd_bench.specs.Session.{Session, SessionDone}
 use Rattle.pd_bench.specs.Cost.{SessionCosts, SessionPaid}
-use Rattle.pd_run_text.specs.declared.texts.RunFault.{RunFault}
-use Rattle.pd_run_text.specs.declared.texts.RunFault.TheVariants as faults
+use Rattle.pd_bench.specs.declared.texts.RunFault.{RunFault}
+use Rattle.pd_bench.specs.declared.texts.RunFault.TheVariants as faults
 use Rattle.pd_scenario_text.specs.Texts.{IsScenarioText}
-use Rattle.pd_run_text.specs.Texts.{IsPaidAnswer, RunCosts}
+use Rattle.pd_bench.specs.Texts.{IsPaidAnswer, RunCosts}
 
 module _ (costs : Costs) (n : ℕ) (text edits : List ℕ) (s : ScenarioData) (before after : ℕ) where
   paid_answer : (tally : Tally) (left' taken taken' : Option (List ℕ)) → IsScenarioText text n s

@@ -6,10 +6,10 @@ use Rattle.pd_device.specs.declared.fault.BenchFault.{BenchFault}
 use Rattle.pd_device.specs.declared.fault.BenchFault.TheVariants.{ReadFailed, WriteFailed, Memory, ReaderTooLong}
 use Rattle.pd_bench.specs.declared.tally.Tally.{Tally}
 use Rattle.pd_bench.specs.Session.{SessionEnds, WritesSession, CountsFault}
-use Rattle.pd_run_text.specs.declared.texts.RunFault.{RunFault}
-use Rattle.pd_run_text.specs.declared.texts.RunFault.TheVariants as faults
+use Rattle.pd_bench.specs.declared.texts.RunFault.{RunFault}
+use Rattle.pd_bench.specs.declared.texts.RunFault.TheVariants as faults
 use Rattle.pd_scenario_text.specs.Texts.{IsScenarioText}
-use Rattle.pd_run_text.specs.Texts.{WritesAnswer, RunsText}
+use Rattle.pd_bench.specs.Texts.{WritesAnswer, RunsText}
 
 no_read : (fault : BenchFault) (writes writes' : ℕ) → CountsFault {X = Tally} (Err fault) 0 0 writes writes' → fault ≢ ReadFailed
 no_read ReadFailed writes writes' h e = let more : 0 ≡ 1 = h.0 in absurd (omega (arith, more))

@@ -1,6 +1,6 @@
 use Rattle.std.proofs.lemmas.Result.{err_from_is_err_and}
 use Rattle.pd_scenario_text.proofs.Read.{refused}
-use Rattle.pd_run_text.proofs.check.check_as.Goals as goal
+use Rattle.pd_bench.proofs.check.check_as.Goals as goal
 
 pub returns-in_err-_scenario : goal.returns-in_err-_scenario
 returns-in_err-_scenario g c =

@@ -9,8 +9,8 @@ use Rattle.pd_bench.specs.declared.tally.Tally.{Tally}
 use Rattle.pd_run.specs.Cost.{Costs}
 use Rattle.pd_bench.specs.Session.{Session, SessionEnds}
 use Rattle.pd_bench.specs.Cost.{SessionCosts}
-use Rattle.pd_run_text.specs.declared.texts.RunFault.{RunFault}
-use Rattle.pd_run_text.specs.declared.texts.RunFault.TheVariants as faults
+use Rattle.pd_bench.specs.declared.texts.RunFault.{RunFault}
+use Rattle.pd_bench.specs.declared.texts.RunFault.TheVariants as faults
 
 -- out is what a session over these edits writes, for the scenario of the text
 pub record IsAnswer (text edits out : List ℕ) (tally : Tally) : Type 0 where

@@ -6,9 +6,9 @@ ghost use Rattle.pd_scenario_text.specs.File.{members_of};
 ghost use Rattle.pd_run.specs.Cost.{CostsAllMoves};
 ghost use Rattle.pd_keep.specs.Cost.{CostsFreshMoves};
 ghost use Rattle.pd_scenario_text.specs.Texts.{ForTexts};
-ghost use Rattle.pd_run_text.specs.Texts.{CountsWrites, RunCosts, RunsText};
+ghost use Rattle.pd_bench.specs.Texts.{CountsWrites, RunCosts, RunsText};
 
-use pd_bench::{Tally, session};
+use crate::{Tally, session};
 use pd_device::{BenchFault, SliceIn, TextOut};
 use pd_keep::Kept;
 use pd_port::Meter;

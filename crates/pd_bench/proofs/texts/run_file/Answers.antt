@@ -1,8 +1,8 @@
 use Rattle.std.proofs.Common.{refl}
-use Rattle.pd_run_text.proofs.Paid.{run_costs}
+use Rattle.pd_bench.proofs.Paid.{run_costs}
 use Rattle.pd_scenario_text.proofs.Read.{accepted, refused}
-use Rattle.pd_run_text.proofs.Told.{runs_text}
-use Rattle.pd_run_text.proofs.texts.run_file.Goals as goal
+use Rattle.pd_bench.proofs.Told.{runs_text}
+use Rattle.pd_bench.proofs.texts.run_file.Goals as goal
 
 pub returns-in-Err-clause-text : goal.returns-in-Err-clause-text
 returns-in-Err-clause-text g c =

@@ -1,2 +1,0 @@
-pub mod Paid
-pub mod Told
