@@ -11,8 +11,8 @@ use Rattle.pd_trials.specs.Words.{makers_words}
 use Rattle.pd_expect.specs.Sentences.{Moves, starts}
 use Rattle.pd_expect.specs.declared.found.Found.{Found}
 use Rattle.pd_expect.specs.declared.found.Found.TheVariants as found
-use Rattle.pd_test_lines.specs.declared.lines.Expectation.{Expectation}
-use Rattle.pd_test_lines.specs.declared.lines.Expectation.TheVariants as expect
+use Rattle.pd_expect.specs.declared.lines.Expectation.{Expectation}
+use Rattle.pd_expect.specs.declared.lines.Expectation.TheVariants as expect
 use Rattle.pd_expect.specs.declared.near.Near.{Near}
 use Rattle.pd_expect.specs.declared.near.Sign.{Sign}
 use Rattle.pd_expect.specs.declared.near.Sign.TheVariants as sign

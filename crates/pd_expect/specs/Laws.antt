@@ -5,7 +5,7 @@ use Rattle.pd_scenario.specs.Plan.{Plan}
 use Rattle.pd_report.specs.LeastMargin.{margin_at}
 use Rattle.pd_expect.specs.Sentences.{IsFound, is_met}
 use Rattle.pd_expect.specs.declared.found.Found.{Found}
-use Rattle.pd_test_lines.specs.declared.lines.Expectation.TheVariants as expect
+use Rattle.pd_expect.specs.declared.lines.Expectation.TheVariants as expect
 
 -- An expectation of a margin is met exactly where at the end of each instant, up to the end, so much is left of the budget.
 abbrev pub MarginsAreMet : Type 0

@@ -8,3 +8,4 @@ pub mod Sentences
 pub mod Tests
 pub mod Texts
 pub mod Words
+pub mod Lines

@@ -13,7 +13,7 @@ use Rattle.pd_trials.specs.declared.choice.Choice.{Choice}
 use Rattle.pd_trials.specs.declared.choice.Loss.TheVariants as harm
 use Rattle.pd_trials.specs.declared.packets.Target.{Target}
 use Rattle.pd_trials.specs.declared.variant.Obstacle.{Obstacle}
-use Rattle.pd_test_lines.specs.declared.lines.Lost.{Lost}
+use Rattle.pd_expect.specs.declared.lines.Lost.{Lost}
 use Rattle.pd_expect.specs.declared.loss.LoseFault.{LoseFault}
 use Rattle.pd_expect.specs.declared.loss.LoseFault.TheVariants as fault
 

@@ -15,12 +15,12 @@ use Rattle.pd_report.specs.FaultLines.{fault_words}
 use Rattle.pd_report.specs.LeastMargin.{IsLeastMargin}
 use Rattle.pd_report.specs.Margins.{change_on, up_to}
 use Rattle.pd_trials.specs.Summaries.{left_by, mishaps_of}
-use Rattle.pd_test_lines.specs.Lines.{is_within, quoted}
+use Rattle.pd_expect.specs.Lines.{is_within, quoted}
 use Rattle.pd_expect.specs.declared.found.Found.{Found}
 use Rattle.pd_expect.specs.declared.found.Found.TheVariants as found
-use Rattle.pd_test_lines.specs.declared.lines.Expectation.{Expectation}
-use Rattle.pd_test_lines.specs.declared.lines.Expectation.TheVariants as expect
-use Rattle.pd_test_lines.specs.declared.span.Span.{Span}
+use Rattle.pd_expect.specs.declared.lines.Expectation.{Expectation}
+use Rattle.pd_expect.specs.declared.lines.Expectation.TheVariants as expect
+use Rattle.pd_expect.specs.declared.span.Span.{Span}
 
 abbrev pub Moves : Type 0
 Moves = List (ℕ × Entry)

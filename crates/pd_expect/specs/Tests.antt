@@ -8,15 +8,15 @@ use Rattle.pd_explain.specs.Sentences.{sentence}
 use Rattle.pd_explain.specs.declared.place.Place.TheVariants as place
 use Rattle.pd_scene.specs.Script.{after_line, at_line, line_text, reason_line}
 use Rattle.pd_expect.specs.Details.{details}
-use Rattle.pd_test_lines.specs.Lines.{test_line}
+use Rattle.pd_expect.specs.Lines.{test_line}
 use Rattle.pd_expect.specs.Losses.{IsLoss}
 use Rattle.pd_expect.specs.Sentences.{IsFound, is_met, last_time, late_time, port_of, unknown_port}
 use Rattle.pd_expect.specs.Words.{empty_range_line, failure_line, late_line, loss_line, no_test_line, time_word}
 use Rattle.pd_expect.specs.declared.found.Found.{Found}
-use Rattle.pd_test_lines.specs.declared.lines.Expectation.{Expectation}
-use Rattle.pd_test_lines.specs.declared.lines.Lost.{Lost}
-use Rattle.pd_test_lines.specs.declared.lines.TestLine.{TestLine}
-use Rattle.pd_test_lines.specs.declared.lines.TestLine.TheVariants as line_is
+use Rattle.pd_expect.specs.declared.lines.Expectation.{Expectation}
+use Rattle.pd_expect.specs.declared.lines.Lost.{Lost}
+use Rattle.pd_expect.specs.declared.lines.TestLine.{TestLine}
+use Rattle.pd_expect.specs.declared.lines.TestLine.TheVariants as line_is
 use Rattle.pd_expect.specs.declared.loss.LoseFault.{LoseFault}
 use Rattle.pd_expect.specs.declared.tally.TestTally.{TestTally}
 

@@ -8,9 +8,9 @@ use Rattle.pd_expect.specs.declared.found.Found.{Found}
 use Rattle.pd_expect.specs.declared.found.Found.TheVariants as found
 use Rattle.pd_expect.specs.declared.loss.LoseFault.{LoseFault}
 use Rattle.pd_expect.specs.declared.loss.LoseFault.TheVariants as fault
-use Rattle.pd_test_lines.specs.declared.lines.Expectation.{Expectation}
-use Rattle.pd_test_lines.specs.declared.lines.Expectation.TheVariants as expect
-use Rattle.pd_test_lines.specs.declared.span.Span.{Span}
+use Rattle.pd_expect.specs.declared.lines.Expectation.{Expectation}
+use Rattle.pd_expect.specs.declared.lines.Expectation.TheVariants as expect
+use Rattle.pd_expect.specs.declared.span.Span.{Span}
 use Rattle.pd_expect.specs.declared.tally.TestTally.{TestTally}
 
 -- a contract, as in the show of contracts

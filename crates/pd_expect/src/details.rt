@@ -7,7 +7,7 @@ use crate::found::Found;
 use crate::near::{Sign, nearest, push_near, push_until};
 use crate::notes::{notes_of, push_first, push_others};
 use pd_run::Runner;
-use pd_test_lines::Expectation;
+use crate::Expectation;
 use pd_trials::{makers_of, push_makers};
 use std::alloc::{AllocError, Global};
 

@@ -2,7 +2,7 @@
 
 ghost use Rattle.std.specs.Prelude.{◌≡◌};
 ghost use Rattle.pd_scenario.specs.Plans.{plan_of};
-ghost use Rattle.pd_test_lines.specs.Lines.{quoted};
+ghost use Rattle.pd_expect.specs.Lines.{quoted};
 ghost use Rattle.pd_expect.specs.Sentences.{IsFound, is_met, is_none, is_such, last_time, port_of, words_of};
 ghost use Rattle.pd_expect.specs.Words.{time_word};
 
@@ -12,7 +12,7 @@ use pd_objects::Contract;
 use pd_report::{Margin, least_margin};
 use pd_run::Runner;
 use pd_scenario::Scenario;
-use pd_test_lines::{Expectation, Span, quoted};
+use crate::{Expectation, Span, quoted};
 use pd_trials::summary_of;
 
 /// What a run has of what is expected.

@@ -11,7 +11,7 @@ use pd_device::BenchFault;
 use pd_port::Meter;
 use pd_run::Runner;
 use pd_scenario::Scenario;
-use pd_test_lines::Lost;
+use crate::Lost;
 use pd_trials::{Choice, Loss, Obstacle, Target, chosen, is_hit, variant_of};
 use std::alloc::Global;
 

@@ -11,7 +11,7 @@ ghost use Rattle.pd_expect.specs.Named.{script_lines};
 ghost use Rattle.pd_expect.specs.Sentences.{last_time, late_time, port_of, unknown_port};
 ghost use Rattle.pd_expect.specs.Tests.{AnswersAs, Expects, ExpectsInTime, IsAnswer, Judges, Loses, Tests, answered, no_test, one_refused};
 ghost use Rattle.pd_expect.specs.Words.{empty_range_line, failure_line, late_line, no_test_line, time_word};
-ghost use Rattle.pd_test_lines.specs.declared.lines.TestLine.TheVariants.{Edit as line_is_edit};
+ghost use Rattle.pd_expect.specs.declared.lines.TestLine.TheVariants.{Edit as line_is_edit};
 
 use crate::details::details;
 use crate::found::{Found, found_in, is_met, last_time, port_of, time_word};
@@ -25,7 +25,7 @@ use pd_run::Runner;
 use pd_scenario::Scenario;
 use pd_scene::{at_line, explain_line, first_line};
 use pd_tell::push_number;
-use pd_test_lines::{Expectation, Lost, Span, TestLine};
+use crate::{Expectation, Lost, Span, TestLine};
 use std::alloc::{AllocError, Global};
 
 /// What is said of the lines of a test script, and how they count.

@@ -13,7 +13,7 @@ use itoa::Buffer;
 use pd_edit_lines::next;
 use pd_objects::Contract;
 use pd_tell::push_number;
-use pd_test_lines::Span;
+use crate::Span;
 use pd_trials::push_obstacle;
 use std::alloc::AllocError;
 

@@ -1,8 +1,7 @@
-//! Whether a word is nearly another, and what is said where it is.
+//! Hints: a sentence for each number of a refusal or a fault, and the word that was likelier meant.
 #![tactic(auto)]
 
 pub mod laws;
-pub mod reason_laws;
 mod reasons;
 mod slip;
 

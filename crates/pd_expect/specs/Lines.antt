@@ -16,12 +16,12 @@ use Rattle.pd_header.specs.declared.side.Side.{Side}
 use Rattle.pd_header.specs.declared.side.Side.TheVariants.{Source, Sink, Plug}
 use Rattle.pd_header.specs.Kinds.{name_of, control_messages, data_messages}
 use Rattle.pd_edit_lines.specs.Words.{words, number, next, number_at, ◌>>=◌}
-use Rattle.pd_test_lines.specs.declared.lines.Expectation.{Expectation}
-use Rattle.pd_test_lines.specs.declared.lines.Expectation.TheVariants as expect
-use Rattle.pd_test_lines.specs.declared.lines.Lost.{Lost}
-use Rattle.pd_test_lines.specs.declared.lines.TestLine.{TestLine}
-use Rattle.pd_test_lines.specs.declared.lines.TestLine.TheVariants as line_is
-use Rattle.pd_test_lines.specs.declared.span.Span.{Span}
+use Rattle.pd_expect.specs.declared.lines.Expectation.{Expectation}
+use Rattle.pd_expect.specs.declared.lines.Expectation.TheVariants as expect
+use Rattle.pd_expect.specs.declared.lines.Lost.{Lost}
+use Rattle.pd_expect.specs.declared.lines.TestLine.{TestLine}
+use Rattle.pd_expect.specs.declared.lines.TestLine.TheVariants as line_is
+use Rattle.pd_expect.specs.declared.span.Span.{Span}
 
 abbrev pub Words : Type 0
 Words = List (List ℕ)

@@ -3,10 +3,10 @@
 ghost use Rattle.std.specs.Prelude.{◌≡◌, bytes_eq, option_map};
 ghost use Rattle.pd_edit_lines.specs.Words.{next, number_at, words};
 ghost use Rattle.pd_header.specs.Kinds.{name_of};
-ghost use Rattle.pd_test_lines.specs.Lines.{after_word, alone, contract_of, expect_line, expectation_named, expectation_of, fault_of};
-ghost use Rattle.pd_test_lines.specs.Lines.{faults_of, is_comment, is_over, kind_at, kind_named, line_named, lose_line, lost_of};
-ghost use Rattle.pd_test_lines.specs.Lines.{empty_span, first_span, if_empty};
-ghost use Rattle.pd_test_lines.specs.Lines.{margin_of, no_contract_of, optional_span, packet_of, quoted, side_named, span_at, test_line};
+ghost use Rattle.pd_expect.specs.Lines.{after_word, alone, contract_of, expect_line, expectation_named, expectation_of, fault_of};
+ghost use Rattle.pd_expect.specs.Lines.{faults_of, is_comment, is_over, kind_at, kind_named, line_named, lose_line, lost_of};
+ghost use Rattle.pd_expect.specs.Lines.{empty_span, first_span, if_empty};
+ghost use Rattle.pd_expect.specs.Lines.{margin_of, no_contract_of, optional_span, packet_of, quoted, side_named, span_at, test_line};
 
 use crate::span::{Span, cut};
 use pd_edit_lines::{next, number};

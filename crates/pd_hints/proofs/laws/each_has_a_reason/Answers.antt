@@ -1,5 +1,5 @@
 use Rattle.pd_hints.proofs.HaveReasons.{each_has}
-use Rattle.pd_hints.proofs.reason_laws.each_has_a_reason.Goals as goal
+use Rattle.pd_hints.proofs.laws.each_has_a_reason.Goals as goal
 
 pub returns : goal.returns
 returns c = each_has

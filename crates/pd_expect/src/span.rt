@@ -2,7 +2,7 @@
 
 ghost use Rattle.std.specs.Prelude.{◌≡◌, ◌==◌, ◌<◌, IfSome, length, option_map};
 ghost use Rattle.std.specs.List.{position_from};
-ghost use Rattle.pd_test_lines.specs.Lines.{any_span, behind_dot, cut, is_within, span_of, two_ends};
+ghost use Rattle.pd_expect.specs.Lines.{any_span, behind_dot, cut, is_within, span_of, two_ends};
 
 use pd_edit_lines::number;
 
