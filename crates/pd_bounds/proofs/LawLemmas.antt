@@ -16,7 +16,7 @@ use Rattle.pd_objects.specs.Supply.{SupplyData}
 use Rattle.pd_objects.specs.declared.query.Answer.{Answer}
 use Rattle.pd_objects.specs.declared.query.Query.{Query}
 use Rattle.pd_objects.specs.declared.query.Query.TheVariants as query
-use Rattle.pd_table.proofs.FirstRow.{and-left, and-right}
+use Rattle.pd_timers.proofs.FirstRow.{and-left, and-right}
 use Rattle.pd_ledger.specs.Offer.{answer_of}
 use Rattle.pd_source.specs.declared.kinds.Stimulus.{Stimulus}
 use Rattle.pd_source.specs.Record.{SourceData, off}

@@ -1,6 +1,6 @@
 -- Laws of the plug's policy engine.
 use Rattle.std.specs.Prelude.{◌≡◌, ℕ, true, List, [], ◌∷◌, Option}
-use Rattle.pd_table.specs.Table.{are_numbered_from}
+use Rattle.pd_timers.specs.Table.{are_numbered_from}
 use Rattle.pd_timers.specs.Deadlines.{SetsLater}
 use Rattle.pd_identity.specs.declared.Cable.{Cable}
 use Rattle.pd_plug.specs.declared.kinds.Act.{Act}

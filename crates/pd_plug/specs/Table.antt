@@ -5,9 +5,9 @@ use Rattle.std.specs.List.{list_any}
 use Rattle.pd_timers.specs.declared.Timer.{Timer}
 use Rattle.pd_timers.specs.declared.Timer.TheVariants as timer
 use Rattle.pd_timers.specs.Timers.{place}
-use Rattle.pd_table.specs.Table as tables
-pub use Rattle.pd_table.specs.Table.{row}
-use Rattle.pd_table.specs.Table.{is_among, without, first_row}
+use Rattle.pd_timers.specs.Table as tables
+pub use Rattle.pd_timers.specs.Table.{row}
+use Rattle.pd_timers.specs.Table.{is_among, without, first_row}
 use Rattle.pd_identity.specs.declared.Cable.{Cable}
 use Rattle.pd_identity.specs.declared.CablePlug.{CablePlug}
 use Rattle.pd_identity.specs.declared.CablePlug.TheVariants as plug

@@ -1,7 +1,7 @@
 -- The table read state by state is the table.
 use Rattle.std.proofs.Common.{◌≡◌, Bool, ◌&&◌, refl, ap, sym, ◌∙◌}
-use Rattle.pd_table.specs.ByState.{first_deeds}
-use Rattle.pd_table.proofs.ByState.{deeds_by_state as first_by_state}
+use Rattle.pd_timers.specs.ByState.{first_deeds}
+use Rattle.pd_timers.proofs.ByState.{deeds_by_state as first_by_state}
 use Rattle.pd_sink.specs.declared.kinds.State.{State}
 use Rattle.pd_sink.specs.declared.kinds.State.TheVariants as state
 use Rattle.pd_sink.specs.declared.kinds.Stimulus.{Stimulus}

@@ -12,7 +12,7 @@ use Rattle.pd_sink.specs.declared.kinds.Act.TheVariants as act
 use Rattle.pd_sink.specs.declared.kinds.Deed.{Deed}
 use Rattle.pd_sink.specs.declared.kinds.Deed.TheVariants as deed
 use Rattle.pd_sink.specs.Record.{SinkRecord}
-use Rattle.pd_table.proofs.FirstRow.{first_row-all}
+use Rattle.pd_timers.proofs.FirstRow.{first_row-all}
 use Rattle.pd_sink.specs.Table.{Row, Guard, HardResetsLeft, Next, Stay, To, RQ, RD, SR, HR, holds, table, anything_else, fits, row_of}
 use Rattle.pd_sink.specs.Table.{deeds_of_row}
 use Rattle.pd_sink.specs.Acts.{after, wants, send, sending_of, asked_in, is_mismatch, all_wants, fault_count}

@@ -4,8 +4,8 @@ use Rattle.std.proofs.Common.{◌≡◌, ℕ, Bool, true, false, not, ◌&&◌, 
 use Rattle.std.proofs.Common.{refl, sym, ap, ◌∙◌, subst}
 use Rattle.std.specs.List.{list_all}
 use Rattle.pd_setup.specs.Sinks.{SinkData}
-use Rattle.pd_table.specs.Table.{first_row}
-use Rattle.pd_table.proofs.FirstRow.{and-left, and-right}
+use Rattle.pd_timers.specs.Table.{first_row}
+use Rattle.pd_timers.proofs.FirstRow.{and-left, and-right}
 use Rattle.pd_sink.specs.declared.kinds.State.{State}
 use Rattle.pd_sink.specs.declared.kinds.State.TheVariants as state
 use Rattle.pd_sink.specs.declared.kinds.Stimulus.{Stimulus}

@@ -1,6 +1,6 @@
 -- The sink's state table read state by state, as the code goes through it. It says the same as the table.
 use Rattle.std.specs.Prelude.{Bool, ◌&&◌, List}
-use Rattle.pd_table.specs.ByState.{rows_with, first_deeds}
+use Rattle.pd_timers.specs.ByState.{rows_with, first_deeds}
 use Rattle.pd_sink.specs.declared.kinds.State.{State}
 use Rattle.pd_sink.specs.declared.kinds.State.TheVariants as state
 use Rattle.pd_sink.specs.declared.kinds.Stimulus.{Stimulus}

@@ -2,7 +2,7 @@
 use Rattle.std.specs.Prelude.{◌≡◌, ◌↔◌, ℕ, ◌*◌, ◌%◌, ◌<◌, ◌≤◌, min, Bool, true, if◌then◌else◌, List, Contains, length, IfSome}
 use Rattle.pd_symbols.specs.Words.{field}
 use Rattle.pd_timers.specs.Deadlines.{SetsLater}
-use Rattle.pd_table.specs.Table.{are_numbered_from}
+use Rattle.pd_timers.specs.Table.{are_numbered_from}
 use Rattle.pd_sink.specs.declared.kinds.Stimulus.{Stimulus}
 use Rattle.pd_sink.specs.declared.rule.Offered.{Offered}
 use Rattle.pd_sink.specs.declared.rule.Asked.{Asked}

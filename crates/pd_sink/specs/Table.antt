@@ -8,9 +8,9 @@ use Rattle.pd_timers.specs.declared.Timer.{Timer}
 use Rattle.pd_timers.specs.declared.Timer.TheVariants as timer
 use Rattle.pd_timers.specs.declared.sink_deadlines.SinkTimer.TheVariants as sink_timer
 use Rattle.pd_timers.specs.Timers.{place}
-use Rattle.pd_table.specs.Table as tables
-pub use Rattle.pd_table.specs.Table.{row}
-use Rattle.pd_table.specs.Table.{is_among, without, first_row}
+use Rattle.pd_timers.specs.Table as tables
+pub use Rattle.pd_timers.specs.Table.{row}
+use Rattle.pd_timers.specs.Table.{is_among, without, first_row}
 use Rattle.pd_setup.specs.declared.sink.SinkMode.{SinkMode}
 use Rattle.pd_setup.specs.declared.sink.SinkMode.TheVariants as mode
 use Rattle.pd_sink.specs.declared.kinds.State.{State}

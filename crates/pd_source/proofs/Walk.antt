@@ -1,8 +1,8 @@
 -- What holds of each row of the table holds of the row that is taken.
 use Rattle.std.proofs.Common.{◌≡◌, Bool, true, false, not, ◌&&◌, if◌then◌else◌, List, [], ◌∷◌, ◌++◌, refl}
 use Rattle.std.specs.List.{list_all}
-use Rattle.pd_table.proofs.FirstRow.{first_row-all}
-pub use Rattle.pd_table.proofs.FirstRow.{and-left, and-right}
+use Rattle.pd_timers.proofs.FirstRow.{first_row-all}
+pub use Rattle.pd_timers.proofs.FirstRow.{and-left, and-right}
 use Rattle.pd_source.specs.declared.kinds.State.{State}
 use Rattle.pd_source.specs.declared.kinds.Heard.{Heard}
 use Rattle.pd_source.specs.declared.kinds.Deed.{Deed}

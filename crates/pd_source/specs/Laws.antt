@@ -3,7 +3,7 @@ use Rattle.std.specs.Prelude.{◌≡◌, ℕ, ◌≤◌, ◌*◌, ◌%◌, max, 
 use Rattle.arrayvec.specs.ArrayVec.{ArrayVec}
 use Rattle.pd_symbols.specs.Words.{field}
 use Rattle.pd_timers.specs.Deadlines.{SetsLater}
-use Rattle.pd_table.specs.Table.{are_numbered_from}
+use Rattle.pd_timers.specs.Table.{are_numbered_from}
 use Rattle.pd_objects.specs.declared.query.Answer.{Answer}
 use Rattle.pd_objects.specs.declared.query.Query.TheVariants as query
 use Rattle.pd_objects.specs.Answers.{IsAllowed}

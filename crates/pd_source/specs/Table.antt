@@ -12,9 +12,9 @@ use Rattle.std.specs.Cmp.Lexicographic.{pointwise}
 use Rattle.pd_timers.specs.declared.Timer.{Timer}
 use Rattle.pd_timers.specs.declared.Timer.TheVariants as timer
 use Rattle.pd_timers.specs.Timers.{place}
-use Rattle.pd_table.specs.Table as tables
-pub use Rattle.pd_table.specs.Table.{row}
-use Rattle.pd_table.specs.Table.{is_among, without, first_row}
+use Rattle.pd_timers.specs.Table as tables
+pub use Rattle.pd_timers.specs.Table.{row}
+use Rattle.pd_timers.specs.Table.{is_among, without, first_row}
 use Rattle.pd_objects.specs.declared.query.Answer.{Answer}
 use Rattle.pd_objects.specs.declared.query.Answer.TheVariants as answer
 use Rattle.pd_identity.specs.declared.identity.Reply.{Reply}

@@ -1,6 +1,6 @@
 -- A state table read state by state, as the code goes through it.
 use Rattle.std.specs.Prelude.{ℕ, Bool, filter, if◌then◌else◌, List, [], ◌∷◌}
-use Rattle.pd_table.specs.Table.{Row, is_among}
+use Rattle.pd_timers.specs.Table.{Row, is_among}
 
 -- of some rows those that a state has, in order
 abbrev pub rows_with : {S C G N D : Type 0} → (S → ℕ) → S → List (Row S C G N D) → List (Row S C G N D)

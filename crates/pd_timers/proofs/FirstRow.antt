@@ -1,7 +1,7 @@
 -- What holds of each row of a table holds of the first that fits.
 use Rattle.std.proofs.Common.{◌≡◌, Bool, true, false, ◌&&◌, if◌then◌else◌, List, [], ◌∷◌, refl}
 use Rattle.std.specs.List.{list_all}
-use Rattle.pd_table.specs.Table.{first_row}
+use Rattle.pd_timers.specs.Table.{first_row}
 
 pub and-left : (b c : Bool) → b && c ≡ true → b ≡ true
 and-left true c h = refl

@@ -1,8 +1,8 @@
 -- The first row of a table that fits is the first of the rows that its state has.
 use Rattle.std.proofs.Common.{◌≡◌, Bool, true, false, ◌&&◌, if◌then◌else◌, List, [], ◌∷◌, refl}
 use Rattle.std.specs.Prelude.{filter}
-use Rattle.pd_table.specs.Table.{first_row}
-use Rattle.pd_table.specs.ByState.{first_deeds}
+use Rattle.pd_timers.specs.Table.{first_row}
+use Rattle.pd_timers.specs.ByState.{first_deeds}
 
 module _ {R D : Type 0} (deeds : R → List D) (test : R → Bool) where
   -- one row more, by whether the state has it, and by what else it asks

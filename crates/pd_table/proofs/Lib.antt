@@ -1,2 +1,0 @@
-pub mod FirstRow
-pub mod ByState
