@@ -6,8 +6,8 @@ use Rattle.pd_port.specs.declared.entry.ContractChange.{ContractChange}
 use Rattle.pd_port.specs.declared.entry.Entry.{Entry}
 use Rattle.pd_scenario.specs.NextChange.{IsNextChange}
 use Rattle.pd_scenario.specs.Plan.{Plan, force}
-use Rattle.pd_changes.specs.ByTime.{IsByTime}
-use Rattle.pd_changes.specs.Places.{StandsAt}
+use Rattle.pd_scenario.specs.ByTime.{IsByTime}
+use Rattle.pd_scenario.specs.Places.{StandsAt}
 use Rattle.pd_report.specs.Margins.{most_ports, power_left, power_on, contracts_at, instant_text, margin_text}
 use Rattle.pd_report.specs.declared.walk.Standing.{Standing}
 use Rattle.pd_report.specs.declared.walk.Walk.{Walk}

@@ -8,7 +8,7 @@ ghost use Rattle.pd_scenario.specs.Plans.{plan_of};
 
 use crate::margin_lines::{end_instant, pass, see_entry};
 use crate::walk::Walk;
-use pd_changes::{FEW, NO_CHANGE, has_few_changes, put_in_order};
+use pd_scenario::{FEW, NO_CHANGE, has_few_changes, put_in_order};
 use pd_run::Runner;
 use pd_scenario::{MOST_EVENTS, Scenario};
 

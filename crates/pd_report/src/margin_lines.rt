@@ -12,7 +12,7 @@ ghost use Rattle.pd_scenario.specs.Plans.{plan_of};
 
 use crate::page::{MOST, PAGE};
 use crate::walk::{WIDTH, Walk};
-use pd_changes::{FEW, NO_CHANGE, has_few_changes, put_in_order};
+use pd_scenario::{FEW, NO_CHANGE, has_few_changes, put_in_order};
 use pd_device::{BenchFault, Text, TextOut, write_all, write_text};
 use pd_run::{Note, Runner};
 use pd_scenario::{MOST_EVENTS, Scenario};

@@ -2,15 +2,15 @@
 
 ghost use Rattle.std.specs.Prelude.{◌≡◌, ◌+◌, ◌-◌, ◌*◌, ◌<◌, ◌≤◌, ◌++◌, ◌^◌, List, ℕ, [], length, sum, take, decimal, codes, replicate};
 ghost use Rattle.std.specs.Prelude.{IfSome, unwrap_or};
-ghost use Rattle.pd_changes.specs.Places.{AreInOrder, StandsAt};
+ghost use Rattle.pd_scenario.specs.Places.{AreInOrder, StandsAt};
 ghost use Rattle.pd_report.specs.LeastMargin.{margin_of};
 ghost use Rattle.pd_report.specs.Margins.{margin_text, power_left};
 ghost use Rattle.pd_report.specs.Walk.{GoesOnTo, KnowsBudget, line_after, noted_walk, standing_of};
-ghost use Rattle.pd_changes.specs.ByTime.{IsByTime};
+ghost use Rattle.pd_scenario.specs.ByTime.{IsByTime};
 ghost use Rattle.pd_scenario.specs.Plan.{Plan};
 ghost use Rattle.pd_scenario.specs.Plans.{plan_of};
 
-use pd_changes::{budget_at, next_at, passed};
+use pd_scenario::{budget_at, next_at, passed};
 use pd_device::Text;
 use pd_port::ContractChange;
 use pd_scenario::{BudgetChange, Scenario};

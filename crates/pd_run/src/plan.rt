@@ -7,7 +7,7 @@ ghost use Rattle.pd_scenario.specs.Plans.{plan_of};
 ghost use Rattle.pd_run.specs.Start.{start_of};
 
 use crate::beside::{same_changes, same_events};
-use pd_changes::Changes;
+use pd_scenario::Changes;
 use pd_port::Port;
 use pd_scenario::{BudgetChange, Scenario};
 use pd_setup::{Event, Settings};

@@ -6,3 +6,6 @@ pub mod Lists
 pub mod Ordered
 pub mod Plans
 pub mod Sorted
+pub mod ByTime
+pub mod Ids
+pub mod Places

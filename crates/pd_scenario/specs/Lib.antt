@@ -8,3 +8,5 @@ pub mod Plans
 pub mod Scenarios
 pub mod Script
 pub mod Words
+pub mod ByTime
+pub mod Places

@@ -2,6 +2,8 @@
 #![tactic(auto)]
 
 mod budget;
+mod by_time;
+mod changes;
 mod event;
 mod floors;
 pub mod laws;
@@ -14,6 +16,8 @@ mod scripts;
 mod words;
 
 pub use budget::BudgetChange;
+pub use by_time::{FEW, NO_CHANGE, budget_at, has_few_changes, next_at, passed, put_in_order};
+pub use changes::Changes;
 pub use event::{ScenarioEvent, ScenarioEventKind, ScenarioHappening, copy_kind};
 pub use floors::{are_funded, least_budget};
 pub use limits::{FIRST_MV, MOST_EVENTS, MOST_NAMES, Quantity};

@@ -1,5 +1,5 @@
 use Rattle.std.proofs.Common.{Some, refl, ap, ◌∙◌, arith}
-use Rattle.pd_changes.proofs.Places.{force-first, later-first}
+use Rattle.pd_scenario.proofs.Places.{force-first, later-first}
 use Rattle.pd_report.proofs.walk.Walk.go_on.Goals as goal
 
 pub returns : goal.returns

@@ -1,3 +1,0 @@
-pub mod ByTime
-pub mod Ids
-pub mod Places

@@ -1,2 +1,0 @@
-pub mod ByTime
-pub mod Places
