@@ -3,3 +3,7 @@ pub mod Keywords
 pub mod Kinds
 pub mod Numbers
 pub mod Words
+pub mod Laws
+pub mod Slots
+pub mod Stops
+pub mod Table

@@ -1,7 +1,7 @@
 -- The first of what may follow of which a word is a slip, a row at a time.
 use Rattle.std.proofs.Common.{◌≡◌, ℕ, ◌+◌, ◌<◌, List, [], ◌∷◌, length, drop, get_or, refl, sym, ap, ◌∙◌, Option, Some, None, ◌≤◌}
 use Rattle.std.proofs.lemmas.List.{at_drop_more, at_drop_all}
-use Rattle.pd_causes.specs.declared.rows.Row.{Row}
+use Rattle.pd_edit_lines.specs.declared.rows.Row.{Row}
 use Rattle.pd_explain.specs.Hints.{near_slot, near_word, or_later}
 
 first_row : (word : List ℕ) (row : Row) (rows : List Row)

@@ -2,12 +2,12 @@
 use Rattle.std.specs.Prelude.{ℕ, ◌&&◌, nat_lt, List, [], ◌∷◌, length, codes, Option, None, Some, if◌then◌else◌}
 use Rattle.pd_hints.specs.Slips.{is_slip, nearest, meant_text}
 use Rattle.pd_edit_lines.specs.Grammar.{Words}
-use Rattle.pd_causes.specs.declared.rows.Front.{Front}
-use Rattle.pd_causes.specs.declared.rows.Row.{Row}
-use Rattle.pd_causes.specs.declared.slot.Slot.{Slot}
-use Rattle.pd_causes.specs.declared.slot.Slot.TheVariants as slot
-use Rattle.pd_causes.specs.Slots.{keyword_of}
-use Rattle.pd_causes.specs.Table.{rows}
+use Rattle.pd_edit_lines.specs.declared.rows.Front.{Front}
+use Rattle.pd_edit_lines.specs.declared.rows.Row.{Row}
+use Rattle.pd_edit_lines.specs.declared.slot.Slot.{Slot}
+use Rattle.pd_edit_lines.specs.declared.slot.Slot.TheVariants as slot
+use Rattle.pd_edit_lines.specs.Slots.{keyword_of}
+use Rattle.pd_edit_lines.specs.Table.{rows}
 
 abbrev pub plug_words : List (List ℕ)
 plug_words = codes "none" ∷ codes "ack" ∷ codes "nak" ∷ codes "busy" ∷ codes "silent" ∷ []

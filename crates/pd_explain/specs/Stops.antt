@@ -4,12 +4,12 @@ use Rattle.std.specs.Prelude.{if◌then◌else◌}
 use Rattle.std.specs.List.{flat_map}
 use Rattle.pd_edit_lines.specs.Words.{words}
 use Rattle.pd_edit_lines.specs.Grammar.{Words}
-use Rattle.pd_causes.specs.declared.rows.Front.{Front}
-use Rattle.pd_causes.specs.declared.rows.Front.TheVariants as front
-use Rattle.pd_causes.specs.declared.rows.Row.{Row}
-use Rattle.pd_causes.specs.Slots.{text_of}
-use Rattle.pd_causes.specs.Stops.{stop_from}
-use Rattle.pd_causes.specs.Table.{rows}
+use Rattle.pd_edit_lines.specs.declared.rows.Front.{Front}
+use Rattle.pd_edit_lines.specs.declared.rows.Front.TheVariants as front
+use Rattle.pd_edit_lines.specs.declared.rows.Row.{Row}
+use Rattle.pd_edit_lines.specs.Slots.{text_of}
+use Rattle.pd_edit_lines.specs.Stops.{stop_from}
+use Rattle.pd_edit_lines.specs.Table.{rows}
 use Rattle.pd_explain.specs.Hints.{stop_hint}
 
 -- a line may end behind such a beginning

@@ -3,14 +3,14 @@
 ghost use Rattle.std.specs.Prelude.{◌≡◌, ◌≤◌, ◌++◌, OnOk, length, map};
 ghost use Rattle.std.specs.List.{flat_map};
 ghost use Rattle.pd_edit_lines.specs.Words.{words};
-ghost use Rattle.pd_causes.specs.Slots.{text_of};
-ghost use Rattle.pd_causes.specs.declared.rows.Row.{Row as RowData};
+ghost use Rattle.pd_edit_lines.specs.Slots.{text_of};
+ghost use Rattle.pd_edit_lines.specs.declared.rows.Row.{Row as RowData};
 ghost use Rattle.pd_explain.specs.Stops.{may_end, choices, expected_text, visible, found_text, stop_text, syntax_text, row_text};
 ghost use Rattle.pd_explain.specs.Stops.{end_text, too_long_text, word_place};
 
 use crate::hints::push_stop_hint;
 use crate::texts::{push_between, push_number};
-use pd_causes::{Front, Row, Stop, stop_of};
+use pd_edit_lines::{Front, Row, Stop, stop_of};
 use pd_edit_lines::next;
 use std::alloc::AllocError;
 

@@ -1,6 +1,6 @@
 //! Lines that are none, each with what may stand where it stops.
 
-use pd_causes::stop_of;
+use pd_edit_lines::stop_of;
 use std::test::Fail;
 
 /// A line, what is left of it, and how that which may stand there is told first.

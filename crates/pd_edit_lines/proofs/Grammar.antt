@@ -30,15 +30,15 @@ use Rattle.pd_edit_lines.specs.declared.line.Show.{Show}
 use Rattle.pd_edit_lines.specs.declared.line.Show.TheVariants as shows
 use Rattle.pd_edit_lines.specs.declared.line.Line.{Line}
 use Rattle.pd_edit_lines.specs.declared.line.Line.TheVariants as lines
-use Rattle.pd_causes.specs.declared.rows.Front.{Front}
-use Rattle.pd_causes.specs.declared.rows.Front.TheVariants as front
-use Rattle.pd_causes.specs.declared.rows.Row.{Row}
-use Rattle.pd_causes.specs.declared.slot.Slot.{Slot}
-use Rattle.pd_causes.specs.declared.slot.Slot.TheVariants as slot
-use Rattle.pd_causes.specs.Laws.{TableIsGrammar, ends_well, is_of_table}
-use Rattle.pd_causes.specs.Slots.{fits}
-use Rattle.pd_causes.specs.Stops.{next_front, stop_from}
-use Rattle.pd_causes.specs.Table.{may_end, rows, ◌⇒◌}
+use Rattle.pd_edit_lines.specs.declared.rows.Front.{Front}
+use Rattle.pd_edit_lines.specs.declared.rows.Front.TheVariants as front
+use Rattle.pd_edit_lines.specs.declared.rows.Row.{Row}
+use Rattle.pd_edit_lines.specs.declared.slot.Slot.{Slot}
+use Rattle.pd_edit_lines.specs.declared.slot.Slot.TheVariants as slot
+use Rattle.pd_edit_lines.specs.Laws.{TableIsGrammar, ends_well, is_of_table}
+use Rattle.pd_edit_lines.specs.Slots.{fits}
+use Rattle.pd_edit_lines.specs.Stops.{next_front, stop_from}
+use Rattle.pd_edit_lines.specs.Table.{may_end, rows, ◌⇒◌}
 
 -- ---- tests
 

@@ -3,10 +3,10 @@ use Rattle.std.specs.Prelude.{◌≡◌, ℕ, Bool, false, ◌&&◌, ◌||◌, n
 use Rattle.std.specs.Result.{is_ok}
 use Rattle.pd_edit_lines.specs.Words.{words}
 use Rattle.pd_edit_lines.specs.Grammar.{Words, are_spaces, is_comment, line_of}
-use Rattle.pd_causes.specs.declared.rows.Front.{Front}
-use Rattle.pd_causes.specs.declared.rows.Front.TheVariants as front
-use Rattle.pd_causes.specs.Stops.{stop_from}
-use Rattle.pd_causes.specs.Table.{may_end}
+use Rattle.pd_edit_lines.specs.declared.rows.Front.{Front}
+use Rattle.pd_edit_lines.specs.declared.rows.Front.TheVariants as front
+use Rattle.pd_edit_lines.specs.Stops.{stop_from}
+use Rattle.pd_edit_lines.specs.Table.{may_end}
 
 -- no word is left, and the line may end there
 abbrev pub ends_well : Front × Words → Bool

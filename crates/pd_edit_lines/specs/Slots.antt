@@ -3,8 +3,8 @@ use Rattle.std.specs.Prelude.{ℕ, List, [], codes, Bool, is_some, bytes_eq}
 use Rattle.pd_scenario.specs.Names.{is_name}
 use Rattle.pd_scenario.specs.Words.{mode_of, plug_of}
 use Rattle.pd_edit_lines.specs.Words.{number}
-use Rattle.pd_causes.specs.declared.slot.Slot.{Slot}
-use Rattle.pd_causes.specs.declared.slot.Slot.TheVariants as slot
+use Rattle.pd_edit_lines.specs.declared.slot.Slot.{Slot}
+use Rattle.pd_edit_lines.specs.declared.slot.Slot.TheVariants as slot
 
 -- the word that stands for itself; of another form none
 abbrev pub keyword_of : Slot → List ℕ

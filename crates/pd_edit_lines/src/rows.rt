@@ -1,7 +1,7 @@
 //! How a line goes on: what may stand behind its first words, and how it goes on behind that.
 
 ghost use Rattle.std.specs.Prelude.{◌≡◌, ◌≤◌, length};
-ghost use Rattle.pd_causes.specs.Table.{may_end, rows};
+ghost use Rattle.pd_edit_lines.specs.Table.{may_end, rows};
 
 use crate::Slot;
 

@@ -1,8 +1,8 @@
 use Rattle.std.proofs.Common.{◌≡◌, length}
 use Rattle.pd_edit_lines.specs.Words.{words}
-use Rattle.pd_causes.specs.Stops.{stop_from}
-use Rattle.pd_causes.specs.declared.rows.Front.TheVariants.{Start}
-use Rattle.pd_causes.proofs.stop.stop_of.Given as goal
+use Rattle.pd_edit_lines.specs.Stops.{stop_from}
+use Rattle.pd_edit_lines.specs.declared.rows.Front.TheVariants.{Start}
+use Rattle.pd_edit_lines.proofs.stop.stop_of.Given as goal
 
 abbrev pub invariant-loop-word : goal.invariant-loop-word
 invariant-loop-word l = stop_from l.front (words l.rest) ≡ stop_from Start (words l.line)

@@ -1,9 +1,9 @@
 //! What may stand at a place of a line: a word, or a word of some form.
 
 ghost use Rattle.std.specs.Prelude.{◌≡◌};
-ghost use Rattle.pd_causes.specs.Slots.{fits, keyword_of, text_of};
+ghost use Rattle.pd_edit_lines.specs.Slots.{fits, keyword_of, text_of};
 
-use pd_edit_lines::number;
+use crate::number;
 use pd_scenario::{is_name, mode_of, plug_of};
 
 /// What may stand at a place of a line. The words of docs/FORMATS.md in small letters stand for themselves, those in

@@ -1,10 +1,10 @@
 -- Where a line stops to be one of an edit script.
 use Rattle.std.specs.Prelude.{ℕ, List, [], ◌∷◌, find, Option, option_map, unwrap_or}
 use Rattle.pd_edit_lines.specs.Grammar.{Words}
-use Rattle.pd_causes.specs.declared.rows.Front.{Front}
-use Rattle.pd_causes.specs.declared.rows.Row.{Row}
-use Rattle.pd_causes.specs.Slots.{fits}
-use Rattle.pd_causes.specs.Table.{rows}
+use Rattle.pd_edit_lines.specs.declared.rows.Front.{Front}
+use Rattle.pd_edit_lines.specs.declared.rows.Row.{Row}
+use Rattle.pd_edit_lines.specs.Slots.{fits}
+use Rattle.pd_edit_lines.specs.Table.{rows}
 
 -- the beginning that one more word makes, where the word may stand there
 abbrev pub next_front : Front → List ℕ → Option Front

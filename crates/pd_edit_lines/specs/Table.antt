@@ -1,10 +1,10 @@
 -- How a line of an edit script goes on, a row for each beginning: the table of lines in docs/FORMATS.md, "Edit script".
 use Rattle.std.specs.Prelude.{Bool, true, false, List, [], ◌∷◌}
-use Rattle.pd_causes.specs.declared.slot.Slot.{Slot}
-use Rattle.pd_causes.specs.declared.slot.Slot.TheVariants as slot
-use Rattle.pd_causes.specs.declared.rows.Front.{Front}
-use Rattle.pd_causes.specs.declared.rows.Front.TheVariants as front
-use Rattle.pd_causes.specs.declared.rows.Row.{Row}
+use Rattle.pd_edit_lines.specs.declared.slot.Slot.{Slot}
+use Rattle.pd_edit_lines.specs.declared.slot.Slot.TheVariants as slot
+use Rattle.pd_edit_lines.specs.declared.rows.Front.{Front}
+use Rattle.pd_edit_lines.specs.declared.rows.Front.TheVariants as front
+use Rattle.pd_edit_lines.specs.declared.rows.Row.{Row}
 
 -- a word that may follow, and the beginning that it makes
 infix 20 ◌⇒◌

@@ -1,14 +1,14 @@
 //! Where a line stops to be one of an edit script.
 
 ghost use Rattle.std.specs.Prelude.{◌≡◌};
-ghost use Rattle.pd_causes.specs.Table.{rows};
+ghost use Rattle.pd_edit_lines.specs.Table.{rows};
 ghost use Rattle.pd_edit_lines.specs.Words.{words};
-ghost use Rattle.pd_causes.specs.Stops.{next_front, stop_from};
-ghost use Rattle.pd_causes.specs.declared.rows.Front.TheVariants as fronts;
+ghost use Rattle.pd_edit_lines.specs.Stops.{next_front, stop_from};
+ghost use Rattle.pd_edit_lines.specs.declared.rows.Front.TheVariants as fronts;
 
 use crate::rows::rows;
 use crate::{Front, Row};
-use pd_edit_lines::next;
+use crate::next;
 
 /// Where a line stops: the words before it begin a line that goes on by one of these rows, and the first word of what is
 /// left, if there is one, fits none of them.

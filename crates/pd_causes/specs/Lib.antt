@@ -1,4 +1,0 @@
-pub mod Laws
-pub mod Slots
-pub mod Stops
-pub mod Table
