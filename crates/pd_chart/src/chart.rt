@@ -10,8 +10,7 @@ ghost use Rattle.pd_chart.specs.Chart.{power_words, step_text, time_line, time_t
 
 use crate::amounts::push_seconds;
 use crate::frame::y_of;
-use crate::{Curve, Frame, Level};
-use crate::{Area, push_box, push_path, push_words};
+use crate::{Area, Curve, Frame, Level, push_box, push_path, push_words};
 use pd_tell::{push_number, push_watts};
 use std::alloc::{AllocError, Global};
 

@@ -11,8 +11,7 @@ use crate::chart::{
     push_outlines, push_power_ticks, push_time_ticks,
 };
 use crate::curves::{greatest, tightest};
-use crate::{Frame, Level};
-use crate::{push_attribute, push_style};
+use crate::{Frame, Level, push_attribute, push_style};
 use pd_tell::push_number;
 use std::alloc::{AllocError, Global};
 

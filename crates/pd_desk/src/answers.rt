@@ -13,8 +13,7 @@ ghost use Rattle.pd_desk.specs.Ends.{GoesOut, ToldAfter, beside};
 
 use crate::desk::{Desk, answer_session};
 use crate::own::own_text;
-use crate::{Outlets, Shelf, tell_reason};
-use crate::{is_colon, push_reasons};
+use crate::{Outlets, Shelf, is_colon, push_reasons, tell_reason};
 use pd_device::{BenchFault, TextOut, write_all};
 use pd_edit_lines::EditFault;
 use pd_port::Meter;

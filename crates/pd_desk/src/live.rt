@@ -9,12 +9,11 @@ ghost use Rattle.pd_desk.specs.Live.{LiveCounts, LiveEnds};
 
 use crate::lines::desk_session;
 use crate::{Outlets, Shelf};
-use pd_bench::Tally;
+use pd_bench::{RunFault, Tally};
 use pd_device::{TextIn, TextOut};
 use pd_keep::Kept;
 use pd_port::Meter;
 use pd_run::Runner;
-use pd_bench::RunFault;
 use pd_scenario_text::{ScenarioFault, ScenarioFile};
 use std::alloc::Global;
 

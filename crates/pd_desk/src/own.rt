@@ -16,14 +16,12 @@ ghost use Rattle.pd_desk.specs.OwnFaults.{own_sentence};
 ghost use Rattle.pd_desk.specs.Shelf.{IsPut};
 ghost use Rattle.pd_desk.specs.declared.own.OwnFault.TheVariants.{Memory as memory};
 
-use crate::Shelf;
+use crate::{Colon, Shelf, file_of, push_diff, run_diff, why_port};
 use crate::desk::Desk;
 use crate::help::help_text;
-use crate::{Colon, file_of, push_diff, run_diff, why_port};
-use pd_save::list_scenario;
+use pd_save::{SaveFault, list_scenario, scenario_text};
 use pd_port::Meter;
 use pd_run::Runner;
-use pd_save::{SaveFault, scenario_text};
 use pd_scenario::Scenario;
 use pd_why::Question;
 use std::alloc::{AllocError, Global};

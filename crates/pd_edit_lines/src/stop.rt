@@ -7,8 +7,7 @@ ghost use Rattle.pd_edit_lines.specs.Stops.{next_front, stop_from};
 ghost use Rattle.pd_edit_lines.specs.declared.rows.Front.TheVariants as fronts;
 
 use crate::rows::rows;
-use crate::{Front, Row};
-use crate::next;
+use crate::{Front, Row, next};
 
 /// Where a line stops: the words before it begin a line that goes on by one of these rows, and the first word of what is
 /// left, if there is one, fits none of them.

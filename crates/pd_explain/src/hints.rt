@@ -7,8 +7,7 @@ ghost use Rattle.pd_scenario.specs.declared.named.NamedSink.{NamedSink as NamedS
 ghost use Rattle.pd_edit_lines.specs.Words.{words};
 ghost use Rattle.pd_explain.specs.Hints.{near_keyword, near_slot, near_word, stop_hint};
 
-use pd_edit_lines::{Row, Slot, Stop};
-use pd_edit_lines::next;
+use pd_edit_lines::{Row, Slot, Stop, next};
 use pd_hints::{is_slip, nearest, push_meant};
 use pd_scenario::{Name, NamedCable, NamedSink};
 use std::alloc::AllocError;

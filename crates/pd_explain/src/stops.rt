@@ -10,8 +10,7 @@ ghost use Rattle.pd_explain.specs.Stops.{end_text, too_long_text, word_place};
 
 use crate::hints::push_stop_hint;
 use crate::texts::{push_between, push_number};
-use pd_edit_lines::{Front, Row, Stop, stop_of};
-use pd_edit_lines::next;
+use pd_edit_lines::{Front, Row, Stop, next, stop_of};
 use std::alloc::AllocError;
 
 /// The most bytes of a line that isn't skipped.

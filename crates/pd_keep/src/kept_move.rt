@@ -17,8 +17,7 @@ use crate::rank::{Rank, number_due};
 use crate::spare::SpareLists;
 use pd_objects::Answer;
 use pd_port::{Due, Entry, Port, What};
-use pd_run::{Marks, Note, Plan, SharedBudget, next_marked};
-use pd_steps::{SharedPort, SharedStep, SpareSteps};
+use pd_run::{Marks, Note, Plan, SharedBudget, SharedPort, SharedStep, SpareSteps, next_marked};
 use std::alloc::{AllocError, Global};
 use std::marker::Model;
 

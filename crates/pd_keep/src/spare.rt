@@ -3,8 +3,7 @@
 ghost use Rattle.std.specs.Prelude.{◌≡◌, []};
 
 use crate::kept_move::{Brief, KeptMove, Place};
-use pd_run::Marks;
-use pd_steps::SpareSteps;
+use pd_run::{Marks, SpareSteps};
 use std::alloc::Global;
 use std::mem;
 

@@ -13,3 +13,5 @@ pub mod Sound
 pub mod Start
 pub mod StepsLeft
 pub mod UpTo
+pub mod Stepped
+pub mod Timed

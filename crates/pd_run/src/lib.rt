@@ -10,6 +10,11 @@ mod plain;
 mod plan;
 mod runner;
 mod shared_budget;
+mod shared_port;
+mod shared_step;
+mod spare_steps;
+mod stepped;
+mod timed_port;
 
 pub use beside::{Agreement, Beside};
 pub use live::{Asked, Live};
@@ -18,3 +23,6 @@ pub use plain::Plain;
 pub use plan::Plan;
 pub use runner::Runner;
 pub use shared_budget::SharedBudget;
+pub use shared_port::SharedPort;
+pub use shared_step::SharedStep;
+pub use spare_steps::SpareSteps;

@@ -16,15 +16,14 @@ ghost use Rattle.pd_run.specs.Shown.{SafeRun};
 ghost use Rattle.pd_run.specs.Start.{no_port};
 ghost use Rattle.pd_run.specs.StepsLeft.{steps_left};
 ghost use Rattle.pd_run.specs.UpTo.{IsUpTo, AreAfter, had_by};
-ghost use Rattle.pd_steps.specs.Stepped.{step_of};
+ghost use Rattle.pd_run.specs.Stepped.{step_of};
 
-use crate::Plan;
+use crate::{Plan, SharedPort, SharedStep, SpareSteps};
 use crate::had::had_by;
 use crate::shared_budget::gives;
 use pd_ledger::Ledger;
 use pd_objects::{Answer, Query};
 use pd_port::{Due, Entry, Meter, Port, What};
-use pd_steps::{SharedPort, SharedStep, SpareSteps};
 use std::alloc::{AllocError, Global};
 use std::marker::Model;
 

@@ -7,11 +7,10 @@ ghost use Rattle.pd_scenario.specs.Plans.{plan_of};
 ghost use Rattle.pd_run.specs.Start.{start_of};
 
 use crate::beside::{same_changes, same_events};
-use pd_scenario::Changes;
+use pd_scenario::{BudgetChange, Changes, Scenario};
 use pd_port::Port;
-use pd_scenario::{BudgetChange, Scenario};
 use pd_setup::{Event, Settings};
-use pd_steps::SharedPort;
+use crate::SharedPort;
 use std::alloc::{AllocError, Global};
 use std::marker::Model;
 

@@ -6,12 +6,11 @@ ghost use Rattle.pd_run.specs.Held.{AreHeld, HoldsOn};
 ghost use Rattle.pd_run.specs.Run.{Move, IsAnswered};
 ghost use Rattle.pd_run.specs.UpTo.{AreAfter};
 
-use crate::Plan;
+use crate::{Plan, SharedPort};
 use crate::live::holds_of;
 use pd_ledger::Ledger;
 use pd_objects::{Answer, Query};
 use pd_port::Entry;
-use pd_steps::SharedPort;
 use std::alloc::{AllocError, Global};
 use std::marker::Model;
 

@@ -2,7 +2,7 @@ use Rattle.std.proofs.Common.{◌≡◌, ◌-◌, ◌∙◌}
 use Rattle.pd_port.specs.Port as ports
 use Rattle.pd_port.specs.Port.{PortData}
 use Rattle.pd_run.specs.Live.{LiveData, port_at}
-use Rattle.pd_steps.specs.Stepped.{step_of}
+use Rattle.pd_run.specs.Stepped.{step_of}
 use Rattle.pd_keep.specs.Kept.{KeptData, kept_of}
 use Rattle.pd_keep.proofs.one_span.step.Goals as goal
 

@@ -5,7 +5,7 @@ ghost use Rattle.std.specs.Option.{option_copied};
 ghost use Rattle.pd_port.specs.Meter.{raised};
 ghost use Rattle.pd_port.specs.Port.{due as the_due, ask, record_after, entry_of, hold};
 ghost use Rattle.pd_port.specs.OwnDue.{told_due};
-ghost use Rattle.pd_steps.specs.Timed.{asks_at, own_due};
+ghost use Rattle.pd_run.specs.Timed.{asks_at, own_due};
 
 use pd_objects::{Answer, Query};
 use pd_port::{Due, Entry, Event, Meter, OwnDue, Port, What};
@@ -27,7 +27,7 @@ impl Model for TimedPort {
     ghost use Rattle.std.proofs.Common.{sym};
     ghost use Rattle.pd_port.specs.Port.{PortData, hold as held};
     ghost use Rattle.pd_port.specs.OwnDue.{told_due};
-    ghost use Rattle.pd_steps.specs.Timed.{own_due, own_of, own_is, asks_at};
+    ghost use Rattle.pd_run.specs.Timed.{own_due, own_of, own_is, asks_at};
 
     ghost Value = { PortData };
 

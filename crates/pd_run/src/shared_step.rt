@@ -19,7 +19,7 @@ pub struct SharedStep {
 }
 
 impl Model for SharedStep {
-    ghost use Rattle.pd_steps.specs.Stepped.{StepData};
+    ghost use Rattle.pd_run.specs.Stepped.{StepData};
 
     ghost Value = { StepData };
 

@@ -4,7 +4,7 @@ ghost use Rattle.std.specs.Prelude.{◌≡◌, ◌↔◌, ◌≤◌, IfOk, OnOk,
 ghost use Rattle.std.specs.Option.{option_copied};
 ghost use Rattle.pd_port.specs.Meter.{raised};
 ghost use Rattle.pd_port.specs.Port.{due as the_due, ask, record_after, hold};
-ghost use Rattle.pd_steps.specs.Stepped.{step_of};
+ghost use Rattle.pd_run.specs.Stepped.{step_of};
 
 use crate::stepped::Stepped;
 use crate::timed_port::TimedPort;

@@ -1,2 +1,0 @@
-pub mod Stepped
-pub mod Timed
