@@ -6,8 +6,8 @@ use Rattle.pd_objects.specs.declared.contract.Contract.{Contract}
 use Rattle.pd_port.specs.declared.entry.ContractChange.{ContractChange}
 use Rattle.pd_port.specs.declared.entry.Entry.{Entry}
 use Rattle.pd_report.specs.Margins.{change_on, up_to}
-use Rattle.pd_trials.specs.Summaries.{left_by}
-use Rattle.pd_trials.proofs.WalkLemmas.{left_then}
+use Rattle.pd_sweep.specs.Summaries.{left_by}
+use Rattle.pd_sweep.proofs.WalkLemmas.{left_then}
 use Rattle.pd_expect.specs.Along.{stands_after}
 use Rattle.pd_expect.specs.Sentences.{Moves, contract_at}
 

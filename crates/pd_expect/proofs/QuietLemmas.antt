@@ -14,7 +14,7 @@ use Rattle.pd_port.specs.declared.entry.Entry.{Entry}
 use Rattle.pd_report.specs.FaultLines.{fault_words}
 use Rattle.pd_run.specs.declared.note.Note.TheVariants as note
 use Rattle.pd_run.specs.Notes.{Leaves}
-use Rattle.pd_trials.specs.Summaries.{left_by}
+use Rattle.pd_sweep.specs.Summaries.{left_by}
 use Rattle.pd_expect.specs.Along.{stands_after}
 use Rattle.pd_expect.specs.Sentences.{has_fault, has_packet, starts}
 

@@ -2,7 +2,7 @@
 use Rattle.std.specs.Prelude.{ℕ, ◌==◌, ◌&&◌, nat_le, Option, if◌then◌else◌}
 use Rattle.pd_objects.specs.declared.contract.Contract.{Contract}
 use Rattle.pd_port.specs.declared.entry.Entry.{Entry}
-use Rattle.pd_trials.specs.Summaries.{left_by}
+use Rattle.pd_sweep.specs.Summaries.{left_by}
 
 -- an entry of the port up to a time may change its contract
 abbrev pub stands_after : ℕ → ℕ → Option Contract → ℕ × Entry → Option Contract

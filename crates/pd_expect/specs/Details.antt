@@ -5,9 +5,9 @@ use Rattle.std.specs.List.{flat_map, filter_map, last_or}
 use Rattle.pd_line.specs.declared.notes.Fault.{Fault}
 use Rattle.pd_port.specs.declared.entry.Entry.{Entry}
 use Rattle.pd_report.specs.FaultLines.{fault_words}
-use Rattle.pd_trials.specs.Choices.{is_of_port}
-use Rattle.pd_trials.specs.Summaries.{makers_at}
-use Rattle.pd_trials.specs.Words.{makers_words}
+use Rattle.pd_sweep.specs.Choices.{is_of_port}
+use Rattle.pd_sweep.specs.Summaries.{makers_at}
+use Rattle.pd_sweep.specs.Words.{makers_words}
 use Rattle.pd_expect.specs.Sentences.{Moves, starts}
 use Rattle.pd_expect.specs.declared.found.Found.{Found}
 use Rattle.pd_expect.specs.declared.found.Found.TheVariants as found

@@ -6,13 +6,13 @@ use Rattle.pd_run.specs.Shown.{Shows}
 use Rattle.pd_scenario.specs.Plans.{plan_of}
 use Rattle.pd_scenario.specs.Scenarios.{ScenarioData}
 use Rattle.pd_scenario.specs.declared.event.ScenarioEvent.{ScenarioEvent}
-use Rattle.pd_trials.specs.Choices.{chosen}
-use Rattle.pd_trials.specs.Trials.{is_hit}
-use Rattle.pd_trials.specs.Variants.{variant}
-use Rattle.pd_trials.specs.declared.choice.Choice.{Choice}
-use Rattle.pd_trials.specs.declared.choice.Loss.TheVariants as harm
-use Rattle.pd_trials.specs.declared.packets.Target.{Target}
-use Rattle.pd_trials.specs.declared.variant.Obstacle.{Obstacle}
+use Rattle.pd_sweep.specs.Choices.{chosen}
+use Rattle.pd_sweep.specs.Trials.{is_hit}
+use Rattle.pd_sweep.specs.Variants.{variant}
+use Rattle.pd_sweep.specs.declared.choice.Choice.{Choice}
+use Rattle.pd_sweep.specs.declared.choice.Loss.TheVariants as harm
+use Rattle.pd_sweep.specs.declared.packets.Target.{Target}
+use Rattle.pd_sweep.specs.declared.variant.Obstacle.{Obstacle}
 use Rattle.pd_expect.specs.declared.lines.Lost.{Lost}
 use Rattle.pd_expect.specs.declared.loss.LoseFault.{LoseFault}
 use Rattle.pd_expect.specs.declared.loss.LoseFault.TheVariants as fault

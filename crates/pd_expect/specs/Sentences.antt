@@ -14,7 +14,7 @@ use Rattle.pd_scenario.specs.Plan.{Plan}
 use Rattle.pd_report.specs.FaultLines.{fault_words}
 use Rattle.pd_report.specs.LeastMargin.{IsLeastMargin}
 use Rattle.pd_report.specs.Margins.{change_on, up_to}
-use Rattle.pd_trials.specs.Summaries.{left_by, mishaps_of}
+use Rattle.pd_sweep.specs.Summaries.{left_by, mishaps_of}
 use Rattle.pd_expect.specs.Lines.{is_within, quoted}
 use Rattle.pd_expect.specs.declared.found.Found.{Found}
 use Rattle.pd_expect.specs.declared.found.Found.TheVariants as found

@@ -1,7 +1,7 @@
 //! The contract of a port at the end of an instant.
 
 ghost use Rattle.std.specs.Prelude.{◌≡◌, ◌<◌, MatchOption, length, slice_get};
-ghost use Rattle.pd_trials.specs.Summaries.{left_by};
+ghost use Rattle.pd_sweep.specs.Summaries.{left_by};
 ghost use Rattle.pd_expect.specs.Along.{stands_after};
 ghost use Rattle.pd_expect.specs.Sentences.{contract_at};
 

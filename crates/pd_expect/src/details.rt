@@ -8,7 +8,7 @@ use crate::near::{Sign, nearest, push_near, push_until};
 use crate::notes::{notes_of, push_first, push_others};
 use pd_run::Runner;
 use crate::Expectation;
-use pd_trials::{makers_of, push_makers};
+use pd_sweep::{makers_of, push_makers};
 use std::alloc::{AllocError, Global};
 
 /// Writes the ports whose contracts are made at the instant at which the least is left.

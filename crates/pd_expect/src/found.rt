@@ -13,7 +13,7 @@ use pd_report::{Margin, least_margin};
 use pd_run::Runner;
 use pd_scenario::Scenario;
 use crate::{Expectation, Span, quoted};
-use pd_trials::summary_of;
+use pd_sweep::summary_of;
 
 /// What a run has of what is expected.
 #[derive(Clone, Copy, Debug)]

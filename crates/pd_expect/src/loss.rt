@@ -2,9 +2,9 @@
 
 ghost use Rattle.std.specs.Prelude.{◌≡◌, IfErr, IfOk, OnOk, option_map, List};
 ghost use Rattle.pd_device.specs.declared.fault.BenchFault.TheVariants.{Memory as no_memory};
-ghost use Rattle.pd_trials.specs.declared.packets.Target.{Target as TargetData};
-ghost use Rattle.pd_trials.specs.Variants.{variant};
-ghost use Rattle.pd_trials.specs.declared.choice.Loss.TheVariants.{Lost as harm_lost};
+ghost use Rattle.pd_sweep.specs.declared.packets.Target.{Target as TargetData};
+ghost use Rattle.pd_sweep.specs.Variants.{variant};
+ghost use Rattle.pd_sweep.specs.declared.choice.Loss.TheVariants.{Lost as harm_lost};
 ghost use Rattle.pd_expect.specs.Losses.{IsLoss, LosesIn, choice_of, lost_packet, nth_of};
 
 use pd_device::BenchFault;
@@ -12,7 +12,7 @@ use pd_port::Meter;
 use pd_run::Runner;
 use pd_scenario::Scenario;
 use crate::Lost;
-use pd_trials::{Choice, Loss, Obstacle, Target, chosen, is_hit, variant_of};
+use pd_sweep::{Choice, Loss, Obstacle, Target, chosen, is_hit, variant_of};
 use std::alloc::Global;
 
 /// Why a packet isn't lost.

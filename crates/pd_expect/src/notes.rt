@@ -1,7 +1,7 @@
 //! The faults of a run, and the first of them as words.
 
 ghost use Rattle.std.specs.Prelude.{◌≡◌, ◌<◌, ◌++◌, IfOk, MatchOption, OnOk, length, map, slice_get, take};
-ghost use Rattle.pd_trials.specs.Choices.{is_of_port};
+ghost use Rattle.pd_sweep.specs.Choices.{is_of_port};
 ghost use Rattle.pd_expect.specs.Details.{first_notes, listed, more_words, most_notes, note_of, note_words, notes_at, notes_of};
 ghost use Rattle.pd_expect.specs.Details.{but_words, no_other_words, other_word, others_words};
 

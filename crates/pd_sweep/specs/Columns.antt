@@ -1,9 +1,9 @@
 -- The summary of a sweep as a JSON object.
 use Rattle.std.specs.Prelude.{ℕ, List, [], ◌++◌, codes, decimal, Option, Some, None}
 use Rattle.pd_tell.specs.Members.{number_member}
-use Rattle.pd_trials.specs.declared.tally.Lowest.{Lowest}
-use Rattle.pd_trials.specs.declared.tally.Tally.{Tally}
-use Rattle.pd_trials.specs.declared.tally.Worst.{Worst}
+use Rattle.pd_sweep.specs.declared.tally.Lowest.{Lowest}
+use Rattle.pd_sweep.specs.declared.tally.Tally.{Tally}
+use Rattle.pd_sweep.specs.declared.tally.Worst.{Worst}
 use Rattle.pd_sweep.specs.Objects.{instant_members, packet_members}
 
 -- how many packets were lost, and how many of the runs end with other contracts

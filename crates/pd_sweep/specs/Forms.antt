@@ -1,10 +1,10 @@
 -- The three forms of a sweep.
 use Rattle.std.specs.Prelude.{ℕ, List, [], ◌++◌, Option}
-use Rattle.pd_trials.specs.Tallies.{tally_words}
-use Rattle.pd_trials.specs.Words.{trial_line}
-use Rattle.pd_trials.specs.declared.findings.Findings.{Findings}
-use Rattle.pd_trials.specs.declared.tally.Tally.{Tally}
-use Rattle.pd_trials.specs.declared.trial.Trial.{Trial}
+use Rattle.pd_sweep.specs.Tallies.{tally_words}
+use Rattle.pd_sweep.specs.Words.{trial_line}
+use Rattle.pd_sweep.specs.declared.findings.Findings.{Findings}
+use Rattle.pd_sweep.specs.declared.tally.Tally.{Tally}
+use Rattle.pd_sweep.specs.declared.trial.Trial.{Trial}
 use Rattle.pd_sweep.specs.Columns.{tally_object}
 use Rattle.pd_sweep.specs.Objects.{trial_object}
 use Rattle.pd_sweep.specs.Rows.{first_names, last_names, trial_row}

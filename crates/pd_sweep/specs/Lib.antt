@@ -6,3 +6,11 @@ pub mod Objects
 pub mod Rows
 pub mod Sweeps
 pub mod Texts
+pub mod Along
+pub mod Choices
+pub mod Laws
+pub mod Summaries
+pub mod Tallies
+pub mod Trials
+pub mod Variants
+pub mod Words

@@ -7,16 +7,16 @@ use Rattle.pd_objects.specs.declared.contract.Contract.{Contract}
 use Rattle.pd_edit_lines.specs.Numbers.{number_of}
 use Rattle.pd_tell.specs.Members.{number_member, text_member}
 use Rattle.pd_tell.specs.Words.{side_words}
-use Rattle.pd_trials.specs.Words.{are_same, is_same, listed}
-use Rattle.pd_trials.specs.declared.findings.Findings.{Findings}
-use Rattle.pd_trials.specs.declared.makers.Makers.{Makers}
-use Rattle.pd_trials.specs.declared.packets.Target.{Target}
-use Rattle.pd_trials.specs.declared.summary.Summary.{Summary}
-use Rattle.pd_trials.specs.declared.trial.Outcome.{Outcome}
-use Rattle.pd_trials.specs.declared.trial.Outcome.TheVariants.{Ran, Missed, Disturbed, Barred}
-use Rattle.pd_trials.specs.declared.trial.Trial.{Trial}
-use Rattle.pd_trials.specs.declared.variant.Obstacle.{Obstacle}
-use Rattle.pd_trials.specs.declared.variant.Obstacle.TheVariants.{NoId, Refused}
+use Rattle.pd_sweep.specs.Words.{are_same, is_same, listed}
+use Rattle.pd_sweep.specs.declared.findings.Findings.{Findings}
+use Rattle.pd_sweep.specs.declared.makers.Makers.{Makers}
+use Rattle.pd_sweep.specs.declared.packets.Target.{Target}
+use Rattle.pd_sweep.specs.declared.summary.Summary.{Summary}
+use Rattle.pd_sweep.specs.declared.trial.Outcome.{Outcome}
+use Rattle.pd_sweep.specs.declared.trial.Outcome.TheVariants.{Ran, Missed, Disturbed, Barred}
+use Rattle.pd_sweep.specs.declared.trial.Trial.{Trial}
+use Rattle.pd_sweep.specs.declared.variant.Obstacle.{Obstacle}
+use Rattle.pd_sweep.specs.declared.variant.Obstacle.TheVariants.{NoId, Refused}
 use Rattle.pd_sweep.specs.Names.{set_name, signed_text, truth}
 
 -- ---- members, each behind a comma

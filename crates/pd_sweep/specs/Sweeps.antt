@@ -9,15 +9,15 @@ use Rattle.pd_port.specs.declared.entry.Entry.{Entry}
 use Rattle.pd_run.specs.Shown.{Shows}
 use Rattle.pd_scenario.specs.Plans.{plan_of}
 use Rattle.pd_scenario.specs.Scenarios.{ScenarioData}
-use Rattle.pd_trials.specs.Choices.{chosen}
-use Rattle.pd_trials.specs.Summaries.{AreFindings}
-use Rattle.pd_trials.specs.Tallies.{tally_of}
-use Rattle.pd_trials.specs.Trials.{IsTrial}
-use Rattle.pd_trials.specs.declared.choice.Campaign.{Campaign}
-use Rattle.pd_trials.specs.declared.findings.Findings.{Findings}
-use Rattle.pd_trials.specs.declared.tally.Tally.{Tally}
-use Rattle.pd_trials.specs.declared.packets.Target.{Target}
-use Rattle.pd_trials.specs.declared.trial.Trial.{Trial}
+use Rattle.pd_sweep.specs.Choices.{chosen}
+use Rattle.pd_sweep.specs.Summaries.{AreFindings}
+use Rattle.pd_sweep.specs.Tallies.{tally_of}
+use Rattle.pd_sweep.specs.Trials.{IsTrial}
+use Rattle.pd_sweep.specs.declared.choice.Campaign.{Campaign}
+use Rattle.pd_sweep.specs.declared.findings.Findings.{Findings}
+use Rattle.pd_sweep.specs.declared.tally.Tally.{Tally}
+use Rattle.pd_sweep.specs.declared.packets.Target.{Target}
+use Rattle.pd_sweep.specs.declared.trial.Trial.{Trial}
 use Rattle.pd_sweep.specs.Forms.{head, tally_text, trial_text}
 use Rattle.pd_sweep.specs.declared.form.Form.{Form}
 

@@ -2,8 +2,8 @@
 use Rattle.std.specs.Prelude.{ℕ, List, Result, Option}
 use Rattle.pd_device.specs.declared.fault.BenchFault.{BenchFault}
 use Rattle.pd_scenario.specs.Scenarios.{ScenarioData}
-use Rattle.pd_trials.specs.declared.choice.Campaign.{Campaign}
-use Rattle.pd_trials.specs.declared.tally.Tally.{Tally}
+use Rattle.pd_sweep.specs.declared.choice.Campaign.{Campaign}
+use Rattle.pd_sweep.specs.declared.tally.Tally.{Tally}
 use Rattle.pd_sweep.specs.Sweeps.{CountsSweep, Sweeps}
 use Rattle.pd_sweep.specs.declared.form.Form.{Form}
 

@@ -11,7 +11,7 @@ use pd_port::Meter;
 use pd_run::Runner;
 use pd_scenario::Scenario;
 use pd_scene::{Job, JobOn, SceneFault, on_scene};
-use pd_trials::{Choice, chosen};
+use crate::{Choice, chosen};
 use std::alloc::Global;
 
 // Which packets are counted.

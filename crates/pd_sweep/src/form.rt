@@ -6,7 +6,7 @@ ghost use Rattle.pd_sweep.specs.Forms.{head, tally_text, trial_text};
 use crate::columns::push_tally_object;
 use crate::objects::push_trial_object;
 use crate::rows::push_trial_row;
-use pd_trials::{Findings, Tally, Trial, push_tally, push_trial};
+use crate::{Findings, Tally, Trial, push_tally, push_trial};
 use std::alloc::AllocError;
 
 /// The form in which a sweep is told.

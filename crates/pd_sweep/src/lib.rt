@@ -1,18 +1,42 @@
 //! Each packet of a run lost in turn, and what that leads to: lines of words, JSON objects, or comma-separated values.
 #![tactic(auto)]
 
+mod choice;
 mod columns;
 mod count;
+mod findings;
 mod form;
+mod hit;
+mod laws;
+mod makers;
 mod names;
 mod objects;
+mod packets;
 mod rows;
+mod summary;
+mod tally;
 mod texts;
+mod trial;
+mod variant;
 mod walk;
+mod words;
 
+pub use choice::{Campaign, Choice, Loss};
 pub use count::packet_count;
+pub use findings::Findings;
 pub use form::Form;
+pub use hit::is_hit;
+pub use laws::hits_are_true;
+pub use makers::{Makers, makers_of};
+pub use packets::{Target, chosen};
 pub use pd_scene::SceneFault;
-pub use pd_trials::{Campaign, Choice, Loss, Tally};
+pub use summary::{Mishaps, Standing, Summary, summary_of};
+pub use tally::{Lowest, Tally, Worst, push_tally};
 pub use texts::sweep_text;
+pub use trial::{Outcome, Trial, try_packet};
+pub use variant::{Obstacle, row_variant_of, variant_of};
 pub use walk::sweep;
+pub use words::{
+    are_same, is_same, push_contracts, push_listed, push_makers, push_obstacle, push_trial,
+    push_wide,
+};

@@ -4,7 +4,7 @@ ghost use Rattle.std.specs.Prelude.{◌≡◌, ◌++◌, OnOk};
 ghost use Rattle.pd_sweep.specs.Names.{set_name, signed_text, truth};
 
 use pd_symbols::Channel;
-use pd_trials::push_wide;
+use crate::push_wide;
 use std::alloc::AllocError;
 
 pub(crate) fn truth(holds: bool) -> &'static [u8]

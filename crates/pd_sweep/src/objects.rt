@@ -12,7 +12,7 @@ use pd_header::{header_id, header_kind};
 use pd_objects::Contract;
 use pd_symbols::Channel;
 use pd_tell::{push_number, push_number_member, push_text_member, side_text};
-use pd_trials::{
+use crate::{
     Findings, Makers, Obstacle, Outcome, Summary, Target, Trial, are_same, is_same, push_listed,
 };
 use std::alloc::AllocError;

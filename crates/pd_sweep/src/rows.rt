@@ -10,7 +10,7 @@ use pd_header::{header_id, header_kind};
 use pd_objects::Contract;
 use pd_symbols::Channel;
 use pd_tell::{push_number, side_text};
-use pd_trials::{
+use crate::{
     Findings, Makers, Obstacle, Outcome, Summary, Target, Trial, are_same, push_contracts,
     push_listed,
 };

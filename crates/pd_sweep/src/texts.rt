@@ -11,7 +11,7 @@ use pd_port::Meter;
 use pd_run::Runner;
 use pd_scenario::Scenario;
 use pd_scene::{Job, JobOn, Outlet, SceneFault, on_scene};
-use pd_trials::{Campaign, Tally};
+use crate::{Campaign, Tally};
 use std::alloc::Global;
 
 // Which packets are lost, and how that is told.

@@ -12,7 +12,7 @@ use pd_device::{BenchFault, TextOut, write_all};
 use pd_port::Meter;
 use pd_run::Runner;
 use pd_scenario::Scenario;
-use pd_trials::{Campaign, Findings, Tally, Trial, chosen, try_packet};
+use crate::{Campaign, Findings, Tally, Trial, chosen, try_packet};
 use std::alloc::{AllocError, Global};
 
 /// The line of a trial.

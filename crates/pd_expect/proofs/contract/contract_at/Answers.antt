@@ -1,7 +1,7 @@
 use Rattle.std.proofs.Common.{◌≤◌, length, None, ◌∙◌, arith}
 use Rattle.pd_run.specs.declared.note.Note.TheVariants as note
 use Rattle.pd_expect.specs.Along.{stands_after}
-use Rattle.pd_trials.proofs.FoldLemmas.{fold_end, fold_start, fold_step}
+use Rattle.pd_sweep.proofs.FoldLemmas.{fold_end, fold_start, fold_step}
 use Rattle.pd_expect.proofs.ContractLemmas.{contract_walked}
 use Rattle.pd_expect.proofs.QuietLemmas.{quiet_contract}
 use Rattle.pd_expect.proofs.contract.contract_at.Goals as goal

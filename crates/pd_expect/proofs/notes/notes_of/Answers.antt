@@ -1,5 +1,5 @@
 use Rattle.pd_expect.specs.Details.{notes_at}
-use Rattle.pd_trials.proofs.FoldLemmas.{flat_more}
+use Rattle.pd_sweep.proofs.FoldLemmas.{flat_more}
 use Rattle.pd_expect.proofs.notes.notes_of.Goals as goal
 
 pub loop-index-preserved : goal.loop-index-preserved

@@ -1,5 +1,5 @@
 use Rattle.std.proofs.Common.{codes}
-use Rattle.pd_trials.proofs.JoinLemmas.{joined_six}
+use Rattle.pd_sweep.proofs.TrialLemmas.{joined_six}
 use Rattle.pd_expect.specs.Words.{empty_range_line}
 use Rattle.pd_expect.proofs.words.push_empty_range.Goals as goal
 

@@ -1,5 +1,5 @@
 use Rattle.std.proofs.Common.{codes, [], ◌∷◌, ◌∙◌, ap, ◌++◌}
-use Rattle.pd_trials.proofs.JoinLemmas.{joined_seven}
+use Rattle.pd_sweep.proofs.TrialLemmas.{joined_seven}
 use Rattle.pd_expect.specs.Words.{failure_line}
 use Rattle.pd_expect.proofs.words.push_failure.Goals as goal
 

@@ -1,5 +1,5 @@
 use Rattle.std.proofs.Common.{codes, [], ◌∷◌}
-use Rattle.pd_trials.proofs.JoinLemmas.{joined_seven}
+use Rattle.pd_sweep.proofs.TrialLemmas.{joined_seven}
 use Rattle.pd_expect.proofs.words.push_known.Goals as goal
 
 pub returns : goal.returns

@@ -1,5 +1,5 @@
 use Rattle.std.proofs.Common.{codes}
-use Rattle.pd_trials.proofs.JoinLemmas.{joined_six, joined_three}
+use Rattle.pd_sweep.proofs.TrialLemmas.{joined_six, joined_three}
 use Rattle.pd_expect.specs.Words.{late_line}
 use Rattle.pd_expect.proofs.words.push_late.Goals as goal
 

@@ -1,5 +1,5 @@
 use Rattle.std.proofs.Common.{codes, [], ◌∷◌}
-use Rattle.pd_trials.proofs.JoinLemmas.{joined_three}
+use Rattle.pd_sweep.proofs.TrialLemmas.{joined_three}
 use Rattle.pd_expect.specs.Words.{no_packet_words}
 use Rattle.pd_expect.proofs.words.push_no_packet.Goals as goal
 

@@ -1,5 +1,5 @@
 use Rattle.std.proofs.Common.{◌++◌, ◌∙◌, ap, codes, [], ◌∷◌}
-use Rattle.pd_trials.proofs.JoinLemmas.{joined_four}
+use Rattle.pd_sweep.proofs.TrialLemmas.{joined_four}
 use Rattle.pd_expect.specs.Words.{no_test_line}
 use Rattle.pd_expect.proofs.words.push_no_test.Goals as goal
 

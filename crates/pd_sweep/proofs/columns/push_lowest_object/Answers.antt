@@ -1,5 +1,5 @@
 use Rattle.std.proofs.Common.{codes}
-use Rattle.pd_trials.proofs.JoinLemmas.{joined_five}
+use Rattle.pd_sweep.proofs.TrialLemmas.{joined_five}
 use Rattle.pd_sweep.proofs.columns.push_lowest_object.Goals as goal
 
 pub returns : goal.returns

@@ -1,6 +1,6 @@
 use Rattle.std.proofs.Common.{codes}
 use Rattle.std.proofs.lemmas.Result.{on_ok_weaker}
-use Rattle.pd_trials.proofs.JoinLemmas.{joined_four}
+use Rattle.pd_sweep.proofs.TrialLemmas.{joined_four}
 use Rattle.pd_sweep.specs.Columns.{lowest_member}
 use Rattle.pd_sweep.proofs.columns.push_members.Goals as goal
 

@@ -1,5 +1,5 @@
 use Rattle.std.proofs.Common.{codes}
-use Rattle.pd_trials.proofs.JoinLemmas.{joined_three}
+use Rattle.pd_sweep.proofs.TrialLemmas.{joined_three}
 use Rattle.pd_sweep.specs.Columns.{tally_object}
 use Rattle.pd_sweep.proofs.columns.push_tally_object.Goals as goal
 

@@ -1,5 +1,5 @@
 use Rattle.std.proofs.Common.{codes}
-use Rattle.pd_trials.proofs.JoinLemmas.{joined_three}
+use Rattle.pd_sweep.proofs.TrialLemmas.{joined_three}
 use Rattle.pd_sweep.specs.Objects.{changes_member}
 use Rattle.pd_sweep.proofs.objects.push_changes_member.Goals as goal
 

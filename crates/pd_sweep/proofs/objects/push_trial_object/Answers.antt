@@ -1,5 +1,5 @@
 use Rattle.std.proofs.Common.{codes}
-use Rattle.pd_trials.proofs.JoinLemmas.{joined_four}
+use Rattle.pd_sweep.proofs.TrialLemmas.{joined_four}
 use Rattle.pd_sweep.specs.Objects.{trial_object}
 use Rattle.pd_sweep.proofs.objects.push_trial_object.Goals as goal
 

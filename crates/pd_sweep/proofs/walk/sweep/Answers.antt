@@ -1,7 +1,7 @@
 use Rattle.std.proofs.Common.{◌≡◌, ◌+◌, ◌++◌, ◌∷◌, ◌∙◌, [], inr, ap, sym, take, arith}
 use Rattle.std.proofs.lemmas.List.{take_more}
 use Rattle.std.proofs.lemmas.Result.{err_from_is_err_and}
-use Rattle.pd_trials.specs.declared.packets.Target.{Target}
+use Rattle.pd_sweep.specs.declared.packets.Target.{Target}
 use Rattle.pd_sweep.proofs.SweepLemmas.{began_closing, began_head, began_so_far, began_torn}
 use Rattle.pd_sweep.proofs.SweepLemmas.{progress_more, progress_none, wrote}
 use Rattle.pd_sweep.proofs.walk.sweep.Goals as goal

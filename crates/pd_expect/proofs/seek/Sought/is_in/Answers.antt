@@ -3,7 +3,7 @@ use Rattle.pd_port.specs.declared.entry.Entry.{Entry}
 use Rattle.pd_run.specs.declared.note.Note.TheVariants as note
 use Rattle.pd_run.specs.Notes.{Leaves}
 use Rattle.pd_expect.specs.Sentences.{has_packet}
-use Rattle.pd_trials.proofs.FoldLemmas.{fold_start, fold_step, fold_end}
+use Rattle.pd_sweep.proofs.FoldLemmas.{fold_start, fold_step, fold_end}
 use Rattle.pd_expect.proofs.QuietLemmas.{quiet_packet}
 use Rattle.pd_expect.proofs.SeekLemmas.{any_is, found_stays, looked, or_passes, quiet}
 use Rattle.pd_expect.proofs.seek.Sought.is_in.Goals as goal

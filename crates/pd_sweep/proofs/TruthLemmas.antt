@@ -1,0 +1,461 @@
+-- A packet that is hit has taken the disturbance of an event that was put in for it.
+use Rattle.std.proofs.Common.{◌≡◌, ◌≢◌, ◌⊎◌, ℕ, zero, suc, ◌+◌, ◌-◌, ◌<◌, Bool, true, false, cond, not, List, [], ◌∷◌, ◌++◌, length, map}
+use Rattle.std.proofs.Common.{get_or, set, drop, fold, Option, Some, None, Result, Ok, Err, refl, sym, ap, ◌∙◌, subst, inl, inr, ⊎_elim}
+use Rattle.std.proofs.Common.{arith}
+use Rattle.std.specs.Prelude.{◌==◌, ◌&&◌, ◌||◌, Contains, MatchBool, find}
+use Rattle.std.specs.List.{AllByRecursion}
+use Rattle.std.proofs.lemmas.Bool.{and_parts, cases_Bool, cases_eq, eq-eqb, eqb-true, ne_eqb, not-true}
+use Rattle.std.proofs.lemmas.List.{get_or-replicate, get_or-set_other, get_or-set_same, length-replicate, length-set}
+use Rattle.std.proofs.lemmas.Option.{same_Some}
+use Rattle.pd_symbols.specs.declared.channel.Channel.{Channel}
+use Rattle.pd_symbols.specs.declared.channel.Channel.TheVariants.{Sop, SopPrime}
+use Rattle.pd_header.specs.declared.side.Side.{Side}
+use Rattle.pd_header.specs.declared.side.Side.TheVariants.{Source, Sink, Plug}
+use Rattle.pd_packet.specs.Contents.{Contents}
+use Rattle.pd_packet.specs.declared.fate.Fate.{Fate}
+use Rattle.pd_setup.specs.Events.{EventData, PortEventKind}
+use Rattle.pd_setup.specs.declared.event.EventKind.TheVariants.{Detach, Lose, Damage}
+use Rattle.pd_setup.specs.declared.event.Happening.{Happening}
+use Rattle.pd_setup.specs.declared.event.Happening.TheVariants as happens
+use Rattle.pd_line.specs.declared.notes.Start.{Start}
+use Rattle.pd_line.specs.declared.notes.Start.TheVariants as start
+use Rattle.pd_port.specs.declared.due.What.{What}
+use Rattle.pd_port.specs.declared.due.What.TheVariants as what
+use Rattle.pd_port.specs.declared.entry.Entry.{Entry}
+use Rattle.pd_scenario.specs.declared.named.NamedCable.{NamedCable}
+use Rattle.pd_scenario.specs.declared.named.NamedSink.{NamedSink}
+use Rattle.pd_scenario.specs.declared.event.ScenarioEvent.{ScenarioEvent}
+use Rattle.pd_scenario.specs.declared.event.ScenarioHappening.{ScenarioHappening}
+use Rattle.pd_scenario.specs.declared.event.ScenarioHappening.TheVariants.{OnPort, Budget}
+use Rattle.pd_scenario.specs.Events.{ScenarioEventKind}
+use Rattle.pd_scenario.specs.Plan.{Plan, count}
+use Rattle.pd_scenario.specs.Plans.{plan_of}
+use Rattle.pd_scenario.specs.Scenarios.{ScenarioData, has_id}
+use Rattle.pd_scenario.specs.Script.{resolved, seen_by}
+use Rattle.pd_scenario.proofs.Lists.{cases, none}
+use Rattle.pd_edit.specs.Edits.{inserted_event, outcome}
+use Rattle.pd_edit.specs.Refusals.{answered, edited, refusals, refuses}
+use Rattle.pd_edit_lines.specs.declared.edit.Edit.{Edit}
+use Rattle.pd_edit_lines.specs.declared.edit.EditHappening.TheVariants as edit
+use Rattle.pd_edit_lines.specs.declared.fault.EditFault.{EditFault}
+use Rattle.pd_run.specs.Order.{EachAfter}
+use Rattle.pd_run.specs.Run.{GoesOn, Move, Run, shown}
+use Rattle.pd_run.proofs.Cut.{EachAfter-back, EachAfter-front}
+use Rattle.pd_report.proofs.MarginLemmas.{all-append, all-drop}
+use Rattle.pd_watch.specs.declared.watch.Disturber.{Disturber}
+use Rattle.pd_watch.specs.Watch.{WatchData, after_entry, after_happening, after_kind, after_start, after_step, after_steps, after_what}
+use Rattle.pd_watch.specs.Watch.{all_at_rest, at_rest, disturber_of, first_of, id_of, is_disturbed, is_ignored, taken_by, watch_at}
+use Rattle.pd_watch.proofs.Watched.{step_length, takers_are_named}
+use Rattle.pd_sweep.specs.Laws.{HitsAreTrue, IsHit, RanHit}
+use Rattle.pd_sweep.specs.Summaries.{AreFindings}
+use Rattle.pd_sweep.specs.Trials.{IsOfVariant, IsRunOf, hit_from, hits, is_packet, is_put_in, set_place, side_place, watched_on}
+use Rattle.pd_sweep.specs.Variants.{free_id, goes_on, insertion, kind_of, least_id, refused_as, row_variant, variant, with_id}
+use Rattle.pd_sweep.specs.declared.choice.Campaign.{Campaign}
+use Rattle.pd_sweep.specs.declared.choice.Loss.{Loss}
+use Rattle.pd_sweep.specs.declared.findings.Findings.{Findings}
+use Rattle.pd_sweep.specs.declared.packets.Target.{Target}
+use Rattle.pd_sweep.specs.declared.trial.Outcome.{Outcome}
+use Rattle.pd_sweep.specs.declared.trial.Outcome.TheVariants.{Ran, Missed, Disturbed, Barred}
+use Rattle.pd_sweep.specs.declared.trial.Trial.{Trial}
+use Rattle.pd_sweep.specs.declared.variant.Obstacle.{Obstacle}
+use Rattle.pd_sweep.proofs.HitLemmas.{IsOf, event_of}
+
+-- ---- the events of a variant
+
+-- an event of the variant is one of the scenario's, or was put in
+abbrev IsOldOrNew : ScenarioData → Loss → Target → ScenarioEvent → Type 0
+IsOldOrNew c harm t e = Contains c.events e ⊎ (e ≡ inserted_event e.id t.at (edit.OnPort t.port (kind_of harm)))
+
+last_or_before : {X : Type 0} (xs : List X) (x e : X) → Contains (xs ++ x ∷ []) e → Contains xs e ⊎ (x ≡ e)
+last_or_before [] x e h = elim (cases x e [] h) [ inl is ↦ inr is | inr more ↦ absurd (none e more) ]
+last_or_before (y ∷ ys) x e h =
+    elim (cases y e (ys ++ x ∷ []) h) [
+      | inl is ↦ inl (0, omega arith, is)
+      | inr more ↦ elim (last_or_before ys x e more) [
+        | inl before ↦ inl (suc before.0, (let k = before.1 in omega arith), before.2)
+        | inr last ↦ inr last
+      ]
+    ]
+
+module _ (n : ℕ) (harm : Loss) (t : Target) where
+  of_answer : (o : Option EditFault) (c new v : ScenarioData) → refused_as (answered o new) ≡ Ok v → new ≡ v
+  of_answer None c new v h = cc
+  of_answer (Some fault) c new v h = absurd (cc)
+
+  of_id : (o : Option ℕ) (c v : ScenarioData) (e : ScenarioEvent) → with_id n c harm t o ≡ Ok v → Contains v.events e
+      → IsOldOrNew c harm t e
+  unfolding edited
+  of_id None c v e h there = absurd (cc)
+  of_id (Some id) c v e h there =
+      let one : ScenarioEvent = inserted_event id t.at (edit.OnPort t.port (kind_of harm)) in
+      let is = of_answer (find (λ fault. refuses fault n c (insertion harm t id)) refusals) c (outcome c (insertion harm t id)) v h in
+      let in_all : Contains (c.events ++ one ∷ []) e =
+      subst (λ l. Contains l e) (sym (ap (λ (x : ScenarioData). x.events) is)) there in
+      elim (last_or_before c.events one e in_all) [
+        | inl old ↦ inl old
+        | inr last ↦
+            let same_id : id ≡ e.id = ap (λ (x : ScenarioEvent). x.id) last in
+            inr (sym last ∙ ap (λ k. inserted_event k t.at (edit.OnPort t.port (kind_of harm))) same_id)
+      ]
+
+  one_put_in : (c v : ScenarioData) (e : ScenarioEvent) → variant n c harm t ≡ Ok v → Contains v.events e → IsOldOrNew c harm t e
+  unfolding variant
+  one_put_in c v e h there = of_id (free_id c.events (least_id c.events t.port t.at - 1)) c v e h there
+
+  of_row : (behind : ℕ) (c v : ScenarioData) (e : ScenarioEvent) (r : Result ScenarioData Obstacle) → variant n c harm t ≡ r
+      → goes_on r (λ more. row_variant behind n more harm t) ≡ Ok v
+      → ((more : ScenarioData) → row_variant behind n more harm t ≡ Ok v → IsOldOrNew more harm t e) → IsOldOrNew c harm t e
+  of_row behind c v e (Ok more) is h rest =
+      elim (rest more h) [ inl old ↦ one_put_in c more e is old | inr new ↦ inr new ]
+  of_row behind c v e (Err obstacle) is h rest = absurd (cc)
+
+  row_put_in : (behind : ℕ) (c v : ScenarioData) (e : ScenarioEvent) → row_variant behind n c harm t ≡ Ok v → Contains v.events e
+      → IsOldOrNew c harm t e
+  unfolding row_variant
+  row_put_in zero c v e h there = one_put_in c v e h there
+  row_put_in (suc behind) c v e h there =
+      of_row behind c v e (variant n c harm t) refl h (λ more k. row_put_in behind more v e k there)
+
+known_id : (es : List ScenarioEvent) (e : ScenarioEvent) → Contains es e → has_id es e.id ≡ true
+known_id [] e h = absurd (none e h)
+known_id (x ∷ es) e h =
+    elim (cases x e es h) [
+      | inl is ↦ ap (λ b. b || has_id es e.id) (eq-eqb x.id e.id (ap (λ (y : ScenarioEvent). y.id) is))
+      | inr later ↦ ap (λ b. (x.id == e.id) || b) (known_id es e later) ∙ or_true (x.id == e.id)
+    ]
+  where
+    or_true : (b : Bool) → (b || true) ≡ true
+    or_true true = refl
+    or_true false = refl
+
+-- ---- what waits is of the variant's events
+
+-- an event of the variant has the id
+record IsOfEvent (v : ScenarioData) (id : ℕ) : Type 0 where
+  event : ScenarioEvent
+  there : Contains v.events event
+  id_is : event.id ≡ id
+
+abbrev AreOfEvents : ScenarioData → List Disturber → Type 0
+AreOfEvents v ds = AllByRecursion (λ (d : Disturber). IsOfEvent v d.id) ds
+
+module _ (v : ScenarioData) (w : WatchData) (are : AreOfEvents v w.waiting) where
+  kind_of_event : (at id : ℕ) (kind : PortEventKind) → IsOfEvent v id → AreOfEvents v (after_kind w at id kind).waiting
+  kind_of_event at id Detach is = tt
+  kind_of_event at id Lose is = all-append (λ (d : Disturber). IsOfEvent v d.id) w.waiting (_ ∷ []) are (is, tt)
+  kind_of_event at id (Damage harm) is = all-append (λ (d : Disturber). IsOfEvent v d.id) w.waiting (_ ∷ []) are (is, tt)
+  kind_of_event at id _ is = are
+
+  happening_of_event : (at : ℕ) (ignored : Bool) (h : Happening)
+      → ((id : ℕ) (kind : PortEventKind) → h ≡ happens.Port id kind → IsOfEvent v id)
+      → AreOfEvents v (after_happening w at ignored h).waiting
+  happening_of_event at true h is = are
+  happening_of_event at false (happens.Port id kind) is = kind_of_event at id kind (is id kind refl)
+  happening_of_event at false happens.Budget is = are
+
+  what_of_event : (at : ℕ) (ignored : Bool) (x : What)
+      → ((e : EventData) (id : ℕ) (kind : PortEventKind) → x ≡ what.Event e → e.happening ≡ happens.Port id kind → IsOfEvent v id)
+      → AreOfEvents v (after_what w at ignored x).waiting
+  what_of_event at ignored (what.Event e) is = happening_of_event at ignored e.happening (λ id kind h. is e id kind refl h)
+  what_of_event at ignored what.Line is = are
+  what_of_event at ignored (what.Timer side timer) is = are
+
+  drop_of_event : (b : Bool) → AreOfEvents v (cond b (record w { waiting = drop 1 w.waiting }) w).waiting
+  drop_of_event true = all-drop (λ (d : Disturber). IsOfEvent v d.id) w.waiting 1 are
+  drop_of_event false = are
+
+  start_of_event : (s : Option Start) → AreOfEvents v (after_start w s).waiting
+  start_of_event None = are
+  start_of_event (Some (start.HardReset side)) = are
+  start_of_event (Some (start.Packet side packet fate)) = drop_of_event (is_disturbed fate)
+
+-- the id of an event of the port
+id_if : (b : Bool) (cables : List NamedCable) (sinks : List NamedSink) (id other : ℕ) (kind : ScenarioEventKind) (k : PortEventKind)
+    → cond b (Some (happens.Port id (resolved cables sinks kind))) None ≡ Some (happens.Port other k) → id ≡ other
+id_if true cables sinks id other kind k h = cc
+id_if false cables sinks id other kind k h = absurd (cc)
+
+seen_id : (cables : List NamedCable) (sinks : List NamedSink) (port id other : ℕ) (s : ScenarioHappening) (k : PortEventKind)
+    → seen_by cables sinks port id s ≡ Some (happens.Port other k) → id ≡ other
+seen_id cables sinks port id other (OnPort p kind) k h = id_if (p == port) cables sinks id other kind k h
+seen_id cables sinks port id other (Budget mw) k h = absurd (cc)
+
+module _ (v : ScenarioData) where
+  -- what falls due is an event of the variant
+  of_variant : (past : List Move) (m : Move) → GoesOn (plan_of v) past m → (e : EventData) (id : ℕ) (kind : PortEventKind)
+      → m.entry.due.what ≡ what.Event e → e.happening ≡ happens.Port id kind → IsOfEvent v id
+  of_variant past m goes e id kind is h =
+      let of = (event_of v past m e goes is).0 in
+      record {
+        event = of.event;
+        there = of.there;
+        id_is = seen_id v.cables v.sinks (m.port + 1) of.event.id id of.event.happening kind (of.is ∙ ap Some h);
+      }
+
+  first_waits : (w : WatchData) (past : List Move) (m : Move) → GoesOn (plan_of v) past m → AreOfEvents v w.waiting
+      → AreOfEvents v (after_what w m.entry.at (is_ignored m.entry) m.entry.due.what).waiting
+  first_waits w past m goes are =
+      what_of_event v w are m.entry.at (is_ignored m.entry) m.entry.due.what
+      (λ e id kind is h. of_variant past m goes e id kind is h)
+
+  entry_of_event : (w : WatchData) (past : List Move) (m : Move) → GoesOn (plan_of v) past m → AreOfEvents v w.waiting
+      → AreOfEvents v (after_entry w m.entry).waiting
+  unfolding after_entry
+  entry_of_event w past m goes are =
+      start_of_event v (after_what w m.entry.at (is_ignored m.entry) m.entry.due.what) (first_waits w past m goes are) m.entry.start
+
+  on_of_event : (b : Bool) (w : WatchData) (past : List Move) (m : Move) → GoesOn (plan_of v) past m → AreOfEvents v w.waiting
+      → AreOfEvents v (cond b (after_entry w m.entry) w).waiting
+  on_of_event true w past m goes are = entry_of_event w past m goes are
+  on_of_event false w past m goes are = are
+
+  along_of_event : (t : Target) (w : WatchData) (past ms : List Move) → EachAfter (GoesOn (plan_of v)) past ms → AreOfEvents v w.waiting
+      → AreOfEvents v (fold (watched_on t) w (map shown ms)).waiting
+  along_of_event t w past [] goes are = are
+  along_of_event t w past (m ∷ ms) goes are =
+      along_of_event t (watched_on t w (shown m)) (past ++ m ∷ []) ms goes.1 (on_of_event (m.port + 1 == t.port) w past m goes.0 are)
+
+  taken_of_event : (ds : List Disturber) (b : Bool) (d : Disturber) → AreOfEvents v ds → cond b (first_of ds) None ≡ Some d
+      → IsOfEvent v d.id
+  taken_of_event [] true d are h = absurd (cc)
+  taken_of_event [] false d are h = absurd (cc)
+  taken_of_event (x ∷ ds) true d are h = subst (λ (y : Disturber). IsOfEvent v y.id) (same_Some x d h) are.0
+  taken_of_event (x ∷ ds) false d are h = absurd (cc)
+
+  start_taken : (z : WatchData) (s : Option Start) (d : Disturber) → AreOfEvents v z.waiting → taken_by z s ≡ Some d → IsOfEvent v d.id
+  start_taken z None d are h = absurd (cc)
+  start_taken z (Some (start.HardReset side)) d are h = absurd (cc)
+  start_taken z (Some (start.Packet side packet fate)) d are h = taken_of_event z.waiting (is_disturbed fate) d are h
+
+  disturber_of_event : (w : WatchData) (past : List Move) (m : Move) (d : Disturber) → GoesOn (plan_of v) past m
+      → AreOfEvents v w.waiting → disturber_of w m.entry ≡ Some d → IsOfEvent v d.id
+  unfolding disturber_of
+  disturber_of_event w past m d goes are h =
+      start_taken (after_what w m.entry.at (is_ignored m.entry) m.entry.due.what) m.entry.start d (first_waits w past m goes are) h
+
+-- ---- where it is hit
+
+-- one of the moves hits it
+record HitAt (events : List ScenarioEvent) (t : Target) (w : WatchData) (ms : List Move) : Type 0 where
+  past : List Move
+  move : Move
+  later : List Move
+  moves_are : ms ≡ past ++ move ∷ later
+  hit : hits events t (fold (watched_on t) w (map shown past)) (shown move) ≡ true
+
+hit_at : (events : List ScenarioEvent) (t : Target) (w : WatchData) (ms : List Move) → hit_from events t w (map shown ms) ≡ true
+    → HitAt events t w ms
+hit_at events t w [] h = absurd (cc)
+hit_at events t w (m ∷ ms) h =
+    elim (cases_Bool (hits events t w (shown m))) [
+      | inl here ↦ record { past = []; move = m; later = ms; moves_are = refl; hit = here }
+      | inr not_here ↦
+          let rest = hit_at events t (watched_on t w (shown m)) ms
+          (sym (ap (λ b. b || hit_from events t (watched_on t w (shown m)) (map shown ms)) not_here) ∙ h) in
+          record {
+            past = m ∷ rest.past;
+            move = rest.move;
+            later = rest.later;
+            moves_are = ap (λ l. m ∷ l) rest.moves_are;
+            hit = rest.hit;
+          }
+    ]
+
+-- what is watched of the port alone is what is watched of it among all ports
+watch_number : (ws : List WatchData) (p : ℕ) → watch_at ws (p + 1) ≡ get_or ws p at_rest
+watch_number ws p = let e : (p + 1) - 1 ≡ p = omega arith in ap (λ n. get_or ws n at_rest) e
+
+module _ (t : Target) (p : ℕ) (port : t.port ≡ p + 1) where
+  step_same : (ws : List WatchData) (m : Move) → p < length ws
+      → watch_at (after_step ws (shown m)) (p + 1) ≡ watched_on t (watch_at ws (p + 1)) (shown m)
+  unfolding after_step
+  step_same ws m known =
+      let place : (m.port + 1) - 1 ≡ m.port = omega arith in
+      let new : WatchData = after_entry (watch_at ws (m.port + 1)) m.entry in
+      ⊎_elim
+      (λ (same : m.port + 1 ≡ t.port).
+      let here : m.port ≡ p = omega arith in
+      watch_number (set ws ((m.port + 1) - 1) new) p ∙ ap (λ i. get_or (set ws i new) p at_rest) (place ∙ here)
+      ∙ get_or-set_same ws p new at_rest known
+      ∙ ap (λ i. after_entry (watch_at ws (i + 1)) m.entry) here
+      ∙ sym (ap (λ b. cond b (after_entry (watch_at ws (p + 1)) m.entry) (watch_at ws (p + 1))) (eq-eqb (m.port + 1) t.port same)))
+      (λ (other : m.port + 1 ≢ t.port).
+      let beside : p ≢ (m.port + 1) - 1 = λ e. other (omega arith) in
+      watch_number (set ws ((m.port + 1) - 1) new) p ∙ get_or-set_other ws ((m.port + 1) - 1) p new at_rest beside
+      ∙ sym (watch_number ws p)
+      ∙ sym (ap (λ b. cond b (after_entry (watch_at ws (p + 1)) m.entry) (watch_at ws (p + 1))) (ne_eqb (m.port + 1) t.port other)))
+      (cases_eq (m.port + 1) t.port)
+
+  steps_same : (ws : List WatchData) (w : WatchData) (ms : List Move) → p < length ws → watch_at ws (p + 1) ≡ w
+      → watch_at (after_steps ws (map shown ms)) (p + 1) ≡ fold (watched_on t) w (map shown ms)
+  steps_same ws w [] known is = is
+  steps_same ws w (m ∷ ms) known is =
+      let count = step_length ws (shown m) in
+      steps_same (after_step ws (shown m)) (watched_on t w (shown m)) ms (omega arith)
+      (step_same ws m known ∙ ap (λ z. watched_on t z (shown m)) is)
+
+-- ---- the packet is the very one
+
+abbrev side_at : ℕ → Side
+side_at k = cond (k == 0) Source (cond (k == 1) Sink Plug)
+
+side_placed : (s : Side) → side_at (side_place s) ≡ s
+side_placed Source = refl
+side_placed Sink = refl
+side_placed Plug = refl
+
+abbrev set_at : ℕ → Channel
+set_at k = cond (k == 0) Sop SopPrime
+
+set_placed : (c : Channel) → set_at (set_place c) ≡ c
+set_placed Sop = refl
+set_placed SopPrime = refl
+
+-- the packet that starts
+record IsVery (t : Target) (s : Option Start) : Type 0 where
+  side : Side
+  packet : Contents
+  fate : Fate
+  starts : s ≡ Some (start.Packet side packet fate)
+  side_is : side ≡ t.side
+  channel_is : packet.channel ≡ t.channel
+  header_is : packet.header ≡ t.header
+
+very_one : (t : Target) (s : Option Start) → is_packet t s ≡ true → IsVery t s
+very_one t None h = absurd (cc)
+very_one t (Some (start.HardReset side)) h = absurd (cc)
+very_one t (Some (start.Packet side packet fate)) h =
+    let (both, header) =
+    and_parts (side_place side == side_place t.side && set_place packet.channel == set_place t.channel) (packet.header == t.header) h in
+    let (side_is, set_is) = and_parts (side_place side == side_place t.side) (set_place packet.channel == set_place t.channel) both in
+    record {
+      side = side;
+      packet = packet;
+      fate = fate;
+      starts = refl;
+      side_is = sym (side_placed side) ∙ ap side_at (eqb-true (side_place side) (side_place t.side) side_is) ∙ side_placed t.side;
+      channel_is =
+          sym (set_placed packet.channel) ∙ ap set_at (eqb-true (set_place packet.channel) (set_place t.channel) set_is)
+          ∙ set_placed t.channel;
+      header_is = eqb-true packet.header t.header header;
+    }
+
+-- the event that is named was put in
+record IsNamed (events : List ScenarioEvent) (o : Option Disturber) : Type 0 where
+  taker : Disturber
+  is : o ≡ Some taker
+  is_new : has_id events taker.id ≡ false
+
+named : (events : List ScenarioEvent) (o : Option Disturber) → is_put_in events (id_of o) ≡ true → IsNamed events o
+named events None h = absurd (cc)
+named events (Some d) h = record { taker = d; is = refl; is_new = not-true (has_id events d.id) h }
+
+-- a packet that takes a disturbance is lost or damaged
+disturbed_if : (b : Bool) (ds : List Disturber) (d : Disturber) → cond b (first_of ds) None ≡ Some d → b ≡ true
+disturbed_if true ds d h = refl
+disturbed_if false ds d h = absurd (cc)
+
+start_disturbed : (z : WatchData) (s : Option Start) (side : Side) (packet : Contents) (fate : Fate) (d : Disturber)
+    → s ≡ Some (start.Packet side packet fate) → taken_by z s ≡ Some d → is_disturbed fate ≡ true
+start_disturbed z s side packet fate d is h =
+    disturbed_if (is_disturbed fate) z.waiting d (subst (λ x. taken_by z x ≡ Some d) is h)
+
+is_taken : (w : WatchData) (e : Entry) (side : Side) (packet : Contents) (fate : Fate) (d : Disturber)
+    → e.start ≡ Some (start.Packet side packet fate) → disturber_of w e ≡ Some d → is_disturbed fate ≡ true
+unfolding disturber_of
+is_taken w e side packet fate d is h = start_disturbed (after_what w e.at (is_ignored e) e.due.what) e.start side packet fate d is h
+
+-- ---- all of it
+
+module _ (n : ℕ) (c v : ScenarioData) (behind : ℕ) (harm : Loss) (t : Target) (moves : List Move)
+    (is_variant : row_variant behind n c harm t ≡ Ok v) (run : Run (plan_of v) moves) where
+  hit_is_true : HitAt c.events t at_rest moves → IsHit c v harm t moves
+  hit_is_true h =
+      let m = h.move in
+      let there = subst (EachAfter (GoesOn (plan_of v)) []) h.moves_are run.chained in
+      let before = EachAfter-front (GoesOn (plan_of v)) [] h.past (m ∷ h.later) there in
+      let goes = (EachAfter-back (GoesOn (plan_of v)) [] h.past (m ∷ h.later) there).0 in
+      let w : WatchData = fold (watched_on t) at_rest (map shown h.past) in
+      let (port, rest) =
+      and_parts (m.port + 1 == t.port)
+      ((m.entry.at == t.at && is_packet t m.entry.start) && is_put_in c.events (id_of (disturber_of w m.entry))) h.hit in
+      let (own, new) =
+      and_parts (m.entry.at == t.at && is_packet t m.entry.start) (is_put_in c.events (id_of (disturber_of w m.entry))) rest in
+      let (time, packet) = and_parts (m.entry.at == t.at) (is_packet t m.entry.start) own in
+      let on_port = eqb-true (m.port + 1) t.port port in
+      let very = very_one t m.entry.start packet in
+      let who = named c.events (disturber_of w m.entry) new in
+      let known = goes.known in
+      let count_is = length-replicate (count (plan_of v)) at_rest in
+      let start_at : watch_at (all_at_rest (count (plan_of v))) (m.port + 1) ≡ at_rest =
+      watch_number (all_at_rest (count (plan_of v))) m.port
+      ∙ get_or-replicate (count (plan_of v)) m.port at_rest at_rest known in
+      let ws : List WatchData = after_steps (all_at_rest (count (plan_of v))) (map shown h.past) in
+      let watched : watch_at ws (m.port + 1) ≡ w =
+      steps_same t m.port (sym on_port) (all_at_rest (count (plan_of v))) at_rest h.past (omega arith) start_at in
+      let takes : disturber_of (watch_at ws (m.port + 1)) m.entry ≡ Some who.taker =
+      ap (λ z. disturber_of z m.entry) watched ∙ who.is in
+      let named_so =
+      takers_are_named (plan_of v) h.past m before goes very.side very.packet very.fate very.starts
+      (is_taken w m.entry very.side very.packet very.fate who.taker very.starts who.is) in
+      let one : named_so.0 ≡ who.taker = same_Some named_so.0 who.taker (sym named_so.1 ∙ takes) in
+      let of =
+      disturber_of_event v w h.past m who.taker goes
+      (along_of_event v t at_rest [] h.past before tt) who.is in
+      record {
+        past = h.past;
+        move = m;
+        later = h.later;
+        moves_are = h.moves_are;
+        on_port = on_port;
+        on_time = eqb-true m.entry.at t.at time;
+        side = very.side;
+        packet = very.packet;
+        fate = very.fate;
+        starts = very.starts;
+        side_is = very.side_is;
+        channel_is = very.channel_is;
+        header_is = very.header_is;
+        taker = who.taker;
+        takes = takes;
+        fate_is = ap (λ (d : Disturber). d.fate) (sym one) ∙ named_so.2;
+        is_new = who.is_new;
+        is_put_in = put_in who.taker.id who.is_new of;
+      }
+    where
+      put_in : (id : ℕ) → has_id c.events id ≡ false → IsOfEvent v id
+          → Contains v.events (inserted_event id t.at (edit.OnPort t.port (kind_of harm)))
+      put_in id new of =
+          elim (row_put_in n harm t behind c v of.event is_variant of.there) [
+            | inl old ↦
+                let known : has_id c.events id ≡ true = ap (has_id c.events) (sym of.id_is) ∙ known_id c.events of.event old in
+                absurd (cc)
+            | inr is ↦
+                subst (Contains v.events) (is ∙ ap (λ k. inserted_event k t.at (edit.OnPort t.port (kind_of harm))) of.id_is) of.there
+          ]
+
+run_is_true : (n : ℕ) (c : ScenarioData) (campaign : Campaign) (t : Target) (r : Result ScenarioData Obstacle) (findings : Findings)
+    → row_variant campaign.behind n c campaign.loss t ≡ r → IsOfVariant c.events r t (Ran findings) → RanHit n c campaign t findings
+run_is_true n c campaign t (Ok v) findings is (moves, shows, hit, found) = record {
+  variant = v;
+  variant_is = is;
+  moves = shows.moves;
+  safe = shows.safe;
+  found = subst (λ l. AreFindings (plan_of v) l findings) shows.entries_are found;
+  hit =
+      hit_is_true n c v campaign.behind campaign.loss t shows.moves is shows.safe.run
+      (hit_at c.events t at_rest shows.moves (ap (hit_from c.events t at_rest) (sym shows.entries_are) ∙ hit));
+}
+run_is_true n c campaign t (Err obstacle) findings is h = absurd (cc)
+
+pub hits_are_true : HitsAreTrue
+hits_are_true n c campaign trial findings is ran = by_disturbed trial.target.disturbed is
+  where
+    by_disturbed : (b : Bool)
+        → MatchBool b (trial.outcome ≡ Disturbed)
+        (IsOfVariant c.events (row_variant campaign.behind n c campaign.loss trial.target) trial.target trial.outcome)
+        → RanHit n c campaign trial.target findings
+    by_disturbed true h = let never : Disturbed ≡ Ran findings = sym h ∙ ran in absurd (cc)
+    by_disturbed false h =
+        run_is_true n c campaign trial.target (row_variant campaign.behind n c campaign.loss trial.target) findings refl
+        (subst (IsOfVariant c.events (row_variant campaign.behind n c campaign.loss trial.target) trial.target) ran h)

@@ -1,0 +1,63 @@
+-- What holds of a packet that is told to be hit.
+use Rattle.std.specs.Prelude.{◌≡◌, ℕ, ◌+◌, false, List, [], ◌∷◌, ◌++◌, map, Contains, Option, Some, Result, Ok}
+use Rattle.pd_packet.specs.Contents.{Contents}
+use Rattle.pd_packet.specs.declared.fate.Fate.{Fate}
+use Rattle.pd_header.specs.declared.side.Side.{Side}
+use Rattle.pd_line.specs.declared.notes.Start.TheVariants as start
+use Rattle.pd_run.specs.Run.{Move, shown}
+use Rattle.pd_run.specs.Shown.{SafeRun}
+use Rattle.pd_scenario.specs.Plan.{count}
+use Rattle.pd_scenario.specs.Plans.{plan_of}
+use Rattle.pd_scenario.specs.Scenarios.{ScenarioData, has_id}
+use Rattle.pd_edit.specs.Edits.{inserted_event}
+use Rattle.pd_edit_lines.specs.declared.edit.EditHappening.TheVariants as edit
+use Rattle.pd_watch.specs.declared.watch.Disturber.{Disturber}
+use Rattle.pd_watch.specs.Watch.{after_steps, all_at_rest, disturber_of, watch_at}
+use Rattle.pd_sweep.specs.Summaries.{AreFindings}
+use Rattle.pd_sweep.specs.Trials.{IsTrial}
+use Rattle.pd_sweep.specs.Variants.{kind_of, row_variant}
+use Rattle.pd_sweep.specs.declared.choice.Campaign.{Campaign}
+use Rattle.pd_sweep.specs.declared.choice.Loss.{Loss}
+use Rattle.pd_sweep.specs.declared.findings.Findings.{Findings}
+use Rattle.pd_sweep.specs.declared.packets.Target.{Target}
+use Rattle.pd_sweep.specs.declared.trial.Outcome.TheVariants.{Ran}
+use Rattle.pd_sweep.specs.declared.trial.Trial.{Trial}
+
+-- In these moves of the variant of a scenario the packet starts, from its side, with its ordered set and its header, at its time on its
+-- port. What becomes of it is what the disturbance of an event makes of it that waits there first (pd_watch); and this event is one of
+-- the variant's that the scenario doesn't have: the one that loses or damages a packet of that port from that time on.
+pub record IsHit (c v : ScenarioData) (harm : Loss) (t : Target) (moves : List Move) : Type 0 where
+  pub past : List Move
+  pub move : Move
+  pub later : List Move
+  pub moves_are : moves ≡ past ++ move ∷ later
+  pub on_port : move.port + 1 ≡ t.port
+  pub on_time : move.entry.at ≡ t.at
+  pub side : Side
+  pub packet : Contents
+  pub fate : Fate
+  pub starts : move.entry.start ≡ Some (start.Packet side packet fate)
+  pub side_is : side ≡ t.side
+  pub channel_is : packet.channel ≡ t.channel
+  pub header_is : packet.header ≡ t.header
+  pub taker : Disturber
+  pub takes : disturber_of (watch_at (after_steps (all_at_rest (count (plan_of v))) (map shown past)) (move.port + 1)) move.entry
+      ≡ Some taker
+  pub fate_is : taker.fate ≡ fate
+  pub is_new : has_id c.events taker.id ≡ false
+  pub is_put_in : Contains v.events (inserted_event taker.id t.at (edit.OnPort t.port (kind_of harm)))
+
+-- it is so in the safe run of the variant, of which these findings are told
+pub record RanHit (n : ℕ) (c : ScenarioData) (campaign : Campaign) (t : Target) (findings : Findings) : Type 0 where
+  pub variant : ScenarioData
+  pub variant_is : row_variant campaign.behind n c campaign.loss t ≡ Ok variant
+  pub moves : List Move
+  pub safe : SafeRun (plan_of variant) moves
+  pub found : AreFindings (plan_of variant) (map shown moves) findings
+  pub hit : IsHit c variant campaign.loss t moves
+
+-- So is each packet hit of which the line tells a run.
+abbrev pub HitsAreTrue : Type 0
+HitsAreTrue =
+    (n : ℕ) (c : ScenarioData) (campaign : Campaign) (trial : Trial) (findings : Findings) → IsTrial n c campaign trial
+    → trial.outcome ≡ Ran findings → RanHit n c campaign trial.target findings

@@ -1,0 +1,116 @@
+-- What all trials come to.
+use Rattle.std.specs.Prelude.{ℕ, ◌+◌, ◌-◌, ◌*◌, ◌==◌, nat_lt, Bool, false, if◌then◌else◌, List, [], ◌∷◌, ◌++◌, fold, codes, decimal}
+use Rattle.std.specs.Prelude.{Option, Some, None}
+use Rattle.pd_report.specs.declared.least.Margin.{Margin}
+use Rattle.pd_sweep.specs.Words.{are_same, instant_words, packet_words}
+use Rattle.pd_sweep.specs.declared.findings.Findings.{Findings}
+use Rattle.pd_sweep.specs.declared.tally.Lowest.{Lowest}
+use Rattle.pd_sweep.specs.declared.tally.Tally.{Tally}
+use Rattle.pd_sweep.specs.declared.tally.Worst.{Worst}
+use Rattle.pd_sweep.specs.declared.packets.Target.{Target}
+use Rattle.pd_sweep.specs.declared.trial.Outcome.{Outcome}
+use Rattle.pd_sweep.specs.declared.trial.Outcome.TheVariants.{Ran, Missed, Disturbed, Barred}
+use Rattle.pd_sweep.specs.declared.trial.Trial.{Trial}
+
+-- nothing was tried
+abbrev pub no_trial : Tally
+no_trial = record { tried = 0; changed = 0; settled = None; faults = None; hard_resets = None; margin = None; short = 0 }
+
+-- how much the worst so far comes to
+abbrev pub so_far : Option Worst → ℕ
+so_far None = 0
+so_far (Some w) = w.by
+
+-- the first packet of those whose loss makes the most of something
+abbrev pub worse : Option Worst → Target → ℕ → Option Worst
+worse best t by = if nat_lt (so_far best) by then Some (record { target = t; by = by }) else best
+
+-- the least that is left so far, without a loss or with one
+abbrev pub least_so_far : Margin → Option Lowest → ℕ
+least_so_far without None = without.left
+least_so_far without (Some l) = l.margin.left
+
+-- the first packet of those whose loss leaves the least, where that is less than is left without a loss
+abbrev pub lower : Margin → Option Lowest → Target → Findings → Option Lowest
+lower without lowest t new =
+    if nat_lt new.margin.left (least_so_far without lowest) then Some (record { target = t; margin = new.margin; makers = new.makers })
+    else lowest
+
+-- less is left than so many milliwatts, where that is asked
+abbrev pub is_short : Option ℕ → Margin → Bool
+is_short None margin = false
+is_short (Some mw) margin = nat_lt margin.left (mw * 1000)
+
+-- one more packet was lost: what there is more of than without the loss counts, and what is left less
+abbrev pub counted : Option ℕ → Findings → Tally → Target → Findings → Tally
+counted reserve old tally t new = record {
+  tried = tally.tried + 1;
+  changed = (if are_same old.summary.standing.contracts new.summary.standing.contracts then tally.changed else tally.changed + 1);
+  settled = worse tally.settled t (new.summary.standing.settled - old.summary.standing.settled);
+  faults = worse tally.faults t (new.summary.mishaps.faults - old.summary.mishaps.faults);
+  hard_resets = worse tally.hard_resets t (new.summary.mishaps.hard_resets - old.summary.mishaps.hard_resets);
+  margin = lower old.margin tally.margin t new;
+  short = (if is_short reserve new.margin then tally.short + 1 else tally.short);
+}
+
+abbrev pub noted_outcome : Option ℕ → Findings → Tally → Target → Outcome → Tally
+noted_outcome reserve old tally t (Ran new) = counted reserve old tally t new
+noted_outcome reserve old tally t Missed = tally
+noted_outcome reserve old tally t Disturbed = tally
+noted_outcome reserve old tally t (Barred obstacle) = tally
+
+abbrev pub noted_trial : Option ℕ → Findings → Tally → Trial → Tally
+noted_trial reserve old tally trial = noted_outcome reserve old tally trial.target trial.outcome
+
+-- the tally of trials beside the run without a loss
+abbrev pub tally_of : Option ℕ → Findings → List Trial → Tally
+tally_of reserve old trials = fold (noted_trial reserve old) no_trial trials
+
+-- ---- as text
+
+-- a column's worst
+abbrev pub worst_words : List ℕ → Option Worst → List ℕ
+worst_words unit None = codes "none\n"
+worst_words unit (Some w) = 43 ∷ (decimal w.by ++ (unit ++ (codes ", " ++ (packet_words w.target ++ codes "\n"))))
+
+abbrev pub column_words : List ℕ → List ℕ → Option Worst → List ℕ
+column_words name unit worst = name ++ worst_words unit worst
+
+-- what stands behind the number of packets that were tried, lost or damaged
+abbrev pub tried_words : ℕ → List ℕ
+tried_words count = if count == 1 then codes " packet tried, " else codes " packets tried, "
+
+abbrev pub counts_words : Tally → List ℕ
+counts_words tally =
+    decimal tally.tried ++ (tried_words tally.tried ++ (decimal tally.changed ++ codes " with other contracts at the end\n"))
+
+-- the least that a loss leaves, when, and by which ports
+abbrev pub low_words : Lowest → List ℕ
+low_words l =
+    decimal l.margin.left ++ (instant_words l.margin.at l.makers ++ (codes ", " ++ (packet_words l.target ++ codes "\n")))
+
+abbrev pub lowest_words : Option Lowest → List ℕ
+lowest_words None = codes "none\n"
+lowest_words (Some l) = low_words l
+
+abbrev pub lowest_line : Option Lowest → List ℕ
+lowest_line lowest = codes "least margin: " ++ lowest_words lowest
+
+-- the columns of which there may be more than without a loss
+unfoldable pub columns_words : Tally → List ℕ
+columns_words tally =
+    column_words (codes "latest settled: ") (codes " us") tally.settled
+    ++ (column_words (codes "most faults: ") [] tally.faults ++ column_words (codes "most hard resets: ") [] tally.hard_resets)
+
+-- in how many runs less is left than so many milliwatts, where that is asked
+abbrev pub less_words : ℕ → ℕ → List ℕ
+less_words mw short = decimal short ++ (codes " left less than " ++ (decimal mw ++ codes " mW\n"))
+
+abbrev pub short_words : Option ℕ → ℕ → List ℕ
+short_words None short = []
+short_words (Some mw) short = less_words mw short
+
+-- the summary
+unfoldable pub tally_words : Option ℕ → Tally → List ℕ
+tally_words reserve tally =
+    counts_words tally ++ (columns_words tally ++ (lowest_line tally.margin ++ short_words reserve tally.short))

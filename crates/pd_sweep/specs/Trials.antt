@@ -1,0 +1,88 @@
+-- What losing a packet leads to.
+use Rattle.std.specs.Prelude.{◌≡◌, ℕ, ◌==◌, ◌<◌, ◌&&◌, ◌||◌, not, Bool, true, false, List, [], ◌∷◌, MatchBool, if◌then◌else◌}
+use Rattle.std.specs.Prelude.{Option, Some, None, Result, Ok, Err}
+use Rattle.std.specs.List.{AllByRecursion}
+use Rattle.pd_symbols.specs.declared.channel.Channel.{Channel}
+use Rattle.pd_symbols.specs.declared.channel.Channel.TheVariants.{Sop, SopPrime}
+use Rattle.pd_header.specs.declared.side.Side.{Side}
+use Rattle.pd_header.specs.declared.side.Side.TheVariants.{Source, Sink, Plug}
+use Rattle.pd_line.specs.declared.notes.Start.{Start}
+use Rattle.pd_line.specs.declared.notes.Start.TheVariants.{Packet, HardReset}
+use Rattle.pd_port.specs.declared.entry.Entry.{Entry}
+use Rattle.pd_run.specs.Shown.{Shows}
+use Rattle.pd_scenario.specs.Plans.{plan_of}
+use Rattle.pd_scenario.specs.Scenarios.{ScenarioData, has_id}
+use Rattle.pd_scenario.specs.declared.event.ScenarioEvent.{ScenarioEvent}
+use Rattle.pd_watch.specs.Watch.{WatchData, after_entry, at_rest, disturber_of, id_of}
+use Rattle.pd_sweep.specs.Summaries.{AreFindings}
+use Rattle.pd_sweep.specs.Variants.{row_variant}
+use Rattle.pd_sweep.specs.declared.choice.Campaign.{Campaign}
+use Rattle.pd_sweep.specs.declared.packets.Target.{Target}
+use Rattle.pd_sweep.specs.declared.trial.Outcome.{Outcome}
+use Rattle.pd_sweep.specs.declared.trial.Outcome.TheVariants.{Ran, Missed, Disturbed, Barred}
+use Rattle.pd_sweep.specs.declared.trial.Trial.{Trial}
+use Rattle.pd_sweep.specs.declared.variant.Obstacle.{Obstacle}
+
+-- the numbers by which sides, and ordered sets, are told apart
+abbrev pub side_place : Side → ℕ
+side_place Source = 0
+side_place Sink = 1
+side_place Plug = 2
+
+abbrev pub set_place : Channel → ℕ
+set_place Sop = 0
+set_place SopPrime = 1
+
+-- what starts is the packet: from its side, with its ordered set and its header
+abbrev pub is_packet : Target → Option Start → Bool
+is_packet t None = false
+is_packet t (Some (Packet side packet fate)) =
+    (side_place side == side_place t.side && set_place packet.channel == set_place t.channel) && packet.header == t.header
+is_packet t (Some (HardReset side)) = false
+
+-- there is an event of this id, and it is none of these: it was put in
+abbrev pub is_put_in : List ScenarioEvent → Option ℕ → Bool
+is_put_in events None = false
+is_put_in events (Some id) = not (has_id events id)
+
+-- an entry is the packet's, at its time on its port, and the packet takes the disturbance of an event that none of these is; so much is
+-- watched of its port before
+abbrev pub hits : List ScenarioEvent → Target → WatchData → ℕ × Entry → Bool
+hits events t w move =
+    move.0 == t.port
+    && ((move.1.at == t.at && is_packet t move.1.start) && is_put_in events (id_of (disturber_of w move.1)))
+
+-- what is watched of the packet's port after an entry
+abbrev pub watched_on : Target → WatchData → ℕ × Entry → WatchData
+watched_on t w move = if move.0 == t.port then after_entry w move.1 else w
+
+-- one of these entries hits the packet
+abbrev pub hit_from : List ScenarioEvent → Target → WatchData → List (ℕ × Entry) → Bool
+hit_from events t w [] = false
+hit_from events t w (m ∷ ms) = hits events t w m || hit_from events t (watched_on t w m) ms
+
+-- these entries are before a time
+abbrev pub AreBefore : ℕ → List (ℕ × Entry) → Type 0
+AreBefore at moves = AllByRecursion (λ move. move.1.at < at) moves
+
+-- the packet is hit in a run, by an event that none of these is
+abbrev pub is_hit : List ScenarioEvent → Target → List (ℕ × Entry) → Bool
+is_hit events t moves = hit_from events t at_rest moves
+
+-- what the run of a scenario comes to, which is safe: what is found of it where the packet is hit in it by an event that none of these is
+abbrev pub IsRunOf : List ScenarioEvent → ScenarioData → Target → Outcome → Type 0
+IsRunOf events c target (Ran findings) =
+    (moves : List (ℕ × Entry)) × Shows (plan_of c) moves × (is_hit events target moves ≡ true) × AreFindings (plan_of c) moves findings
+IsRunOf events c target Missed = (moves : List (ℕ × Entry)) × Shows (plan_of c) moves × (is_hit events target moves ≡ false)
+IsRunOf events c target Disturbed = ⊥
+IsRunOf events c target (Barred obstacle) = ⊥
+
+abbrev pub IsOfVariant : List ScenarioEvent → Result ScenarioData Obstacle → Target → Outcome → Type 0
+IsOfVariant events (Ok c) target outcome = IsRunOf events c target outcome
+IsOfVariant events (Err obstacle) target outcome = outcome ≡ Barred obstacle
+
+-- the run in which the packet is lost; a packet that the scenario itself disturbs has none
+abbrev pub IsTrial : ℕ → ScenarioData → Campaign → Trial → Type 0
+IsTrial n c campaign trial =
+    MatchBool trial.target.disturbed (trial.outcome ≡ Disturbed)
+    (IsOfVariant c.events (row_variant campaign.behind n c campaign.loss trial.target) trial.target trial.outcome)

@@ -1,0 +1,275 @@
+//! What all trials come to.
+
+ghost use Rattle.std.specs.Prelude.{◌≡◌, ◌+◌, ◌-◌, ◌<◌, ◌≤◌, ◌^◌, ◌++◌, OnOk, if◌then◌else◌};
+ghost use Rattle.pd_sweep.specs.Tallies.{column_words, columns_words, counts_words, is_short, least_so_far, less_words, low_words};
+ghost use Rattle.pd_sweep.specs.Tallies.{lower, lowest_line, lowest_words, no_trial, noted_trial, short_words, tally_words, worse};
+ghost use Rattle.pd_sweep.specs.Tallies.{tried_words, worst_words};
+
+use crate::Target;
+use crate::findings::Findings;
+use crate::makers::Makers;
+use crate::trial::{Outcome, Trial};
+use crate::words::{are_same, push_instant, push_packet, push_wide};
+use pd_report::Margin;
+use pd_tell::push_number;
+use std::alloc::AllocError;
+
+/// A packet, and how much more of something its loss makes.
+#[derive(Clone, Copy, Debug)]
+pub struct Worst {
+    pub target: Target,
+    pub by: u128,
+}
+
+/// A packet, the least that is left of the budget where it is lost, and the ports whose contracts are made then.
+#[derive(Clone, Copy, Debug)]
+pub struct Lowest {
+    pub target: Target,
+    pub margin: Margin,
+    pub makers: Makers,
+}
+
+/// How many packets were tried, how many of the runs end with other contracts, and the worst of each column and its packet: how many
+/// microseconds later the last change of a contract comes, how many faults and how many Hard Resets there are more, and the least
+/// that is left of the budget, where it is less than without a loss; and in how many runs less is left than was to be.
+#[derive(Clone, Copy, Debug)]
+pub struct Tally {
+    pub tried: u64,
+    pub changed: u64,
+    pub settled: Option<Worst>,
+    pub faults: Option<Worst>,
+    pub hard_resets: Option<Worst>,
+    pub margin: Option<Lowest>,
+    pub short: u64,
+}
+
+/// The worse of two.
+fn worse(best: Option<Worst>, target: Target, by: u128) -> Option<Worst>
+    ensures { result ≡ worse best target by }
+{
+    let so_far = match best {
+        None => 0,
+        Some(worst) => worst.by,
+    };
+    if so_far < by {
+        Some(Worst { target, by })
+    } else {
+        best
+    }
+}
+
+/// The least that is left so far, without a loss or with one.
+fn least_so_far(without: Margin, lowest: Option<Lowest>) -> u64
+    ensures { result ≡ least_so_far without lowest }
+{
+    match lowest {
+        None => without.left,
+        Some(lowest) => lowest.margin.left,
+    }
+}
+
+/// The lower of two.
+fn lower(without: Margin, lowest: Option<Lowest>, target: Target, new: &Findings) -> Option<Lowest>
+    ensures { result ≡ lower without lowest target new.now }
+{
+    if new.margin.left < least_so_far(without, lowest) {
+        Some(Lowest {
+            target,
+            margin: new.margin,
+            makers: new.makers,
+        })
+    } else {
+        lowest
+    }
+}
+
+/// Whether less is left than so many milliwatts, where that is asked.
+fn is_short(reserve: Option<u64>, margin: &Margin) -> bool
+    ensures { result ≡ is_short reserve margin.now }
+{
+    match reserve {
+        None => false,
+        Some(mw) => u128::from(margin.left) < u128::from(mw) * 1000,
+    }
+}
+
+/// One more where something is so.
+fn more_if(is_so: bool, count: u64) -> u64
+    requires { count < 2 ^ 64 - 1 }
+    ensures value { result ≡ if is_so then count + 1 else count }
+    ensures one { result ≤ count + 1 }
+{
+    if is_so { count + 1 } else { count }
+}
+
+impl Tally {
+    /// Nothing was tried.
+    pub fn none() -> Tally
+        ensures { result ≡ no_trial }
+    {
+        Tally {
+            tried: 0,
+            changed: 0,
+            settled: None,
+            faults: None,
+            hard_resets: None,
+            margin: None,
+            short: 0,
+        }
+    }
+
+    /// After one more trial.
+    pub fn after(&self, reserve: Option<u64>, old: &Findings, trial: &Trial) -> Tally
+        requires room { self.now.tried < 2 ^ 64 - 1 }
+        requires few { self.now.changed ≤ self.now.tried }
+        requires few_short { self.now.short ≤ self.now.tried }
+        ensures value { result ≡ noted_trial reserve old.now self.now trial.now }
+        ensures one { result.tried ≤ self.now.tried + 1 }
+        ensures few { result.changed ≤ result.tried }
+        ensures few_short { result.short ≤ result.tried }
+    {
+        let Outcome::Ran(new) = trial.outcome else {
+            return *self;
+        };
+        let target = trial.target;
+        let (before, after) = (&old.summary.standing, &new.summary.standing);
+        let (few, many) = (&old.summary.mishaps, &new.summary.mishaps);
+        let later = after.settled.saturating_sub(before.settled);
+        let faults = many.faults.saturating_sub(few.faults);
+        let resets = many.hard_resets.saturating_sub(few.hard_resets);
+        let same = are_same(&before.contracts, &after.contracts);
+        Tally {
+            tried: self.tried + 1,
+            changed: if same { self.changed } else { self.changed + 1 },
+            settled: worse(self.settled, target, u128::from(later)),
+            faults: worse(self.faults, target, faults),
+            hard_resets: worse(self.hard_resets, target, resets),
+            margin: lower(old.margin, self.margin, target, &new),
+            short: more_if(is_short(reserve, &new.margin), self.short),
+        }
+    }
+}
+
+/// Writes the worst of a column.
+fn push_worst(text: &mut Vec<u8>, unit: &[u8], worst: &Option<Worst>) -> Result<(), AllocError>
+    ensures { OnOk result (text.new.items ≡ text.old.items ++ worst_words unit.now worst.now) }
+{
+    let Some(worst) = worst else {
+        return text.extend_from_slice(b"none\n");
+    };
+    text.push(b'+')?;
+    push_wide(text, worst.by)?;
+    text.extend_from_slice(unit)?;
+    text.extend_from_slice(b", ")?;
+    push_packet(text, &worst.target)?;
+    text.extend_from_slice(b"\n")
+}
+
+/// Writes a column's name and its worst.
+fn push_column(
+    text: &mut Vec<u8>,
+    name: &[u8],
+    unit: &[u8],
+    worst: &Option<Worst>,
+) -> Result<(), AllocError>
+    ensures { OnOk result (text.new.items ≡ text.old.items ++ column_words name.now unit.now worst.now) }
+{
+    text.extend_from_slice(name)?;
+    push_worst(text, unit, worst)
+}
+
+/// Writes what stands behind the number of packets that were tried, lost or damaged.
+fn push_tried(text: &mut Vec<u8>, count: u64) -> Result<(), AllocError>
+    ensures { OnOk result (text.new.items ≡ text.old.items ++ tried_words count) }
+{
+    if count == 1 {
+        return text.extend_from_slice(b" packet tried, ");
+    }
+    text.extend_from_slice(b" packets tried, ")
+}
+
+/// Writes how many packets were tried, and how many of the runs end with other contracts.
+fn push_counts(text: &mut Vec<u8>, tally: &Tally) -> Result<(), AllocError>
+    ensures { OnOk result (text.new.items ≡ text.old.items ++ counts_words tally.now) }
+{
+    push_number(text, tally.tried)?;
+    push_tried(text, tally.tried)?;
+    push_number(text, tally.changed)?;
+    text.extend_from_slice(b" with other contracts at the end\n")?;
+    Ok(())
+}
+
+/// Writes the least that a loss leaves, when, and by which ports.
+fn push_low(text: &mut Vec<u8>, lowest: &Lowest) -> Result<(), AllocError>
+    ensures { OnOk result (text.new.items ≡ text.old.items ++ low_words lowest.now) }
+{
+    push_number(text, lowest.margin.left)?;
+    push_instant(text, lowest.margin.at, &lowest.makers)?;
+    text.extend_from_slice(b", ")?;
+    push_packet(text, &lowest.target)?;
+    text.extend_from_slice(b"\n")?;
+    Ok(())
+}
+
+/// Writes the same, or that none leaves less.
+fn push_lowest(text: &mut Vec<u8>, lowest: &Option<Lowest>) -> Result<(), AllocError>
+    ensures { OnOk result (text.new.items ≡ text.old.items ++ lowest_words lowest.now) }
+{
+    match lowest {
+        None => text.extend_from_slice(b"none\n"),
+        Some(lowest) => push_low(text, lowest),
+    }
+}
+
+/// Writes the line of the least that a loss leaves.
+fn push_lowest_line(text: &mut Vec<u8>, lowest: &Option<Lowest>) -> Result<(), AllocError>
+    ensures { OnOk result (text.new.items ≡ text.old.items ++ lowest_line lowest.now) }
+{
+    text.extend_from_slice(b"least margin: ")?;
+    push_lowest(text, lowest)
+}
+
+/// Writes the columns of which there may be more than without a loss.
+#[tactic(auto, unfolding(crate::specs::Tallies::columns_words))]
+fn push_columns(text: &mut Vec<u8>, tally: &Tally) -> Result<(), AllocError>
+    ensures { OnOk result (text.new.items ≡ text.old.items ++ columns_words tally.now) }
+{
+    push_column(text, b"latest settled: ", b" us", &tally.settled)?;
+    push_column(text, b"most faults: ", b"", &tally.faults)?;
+    push_column(text, b"most hard resets: ", b"", &tally.hard_resets)
+}
+
+/// Writes in how many runs less is left than so many milliwatts.
+fn push_less(text: &mut Vec<u8>, mw: u64, short: u64) -> Result<(), AllocError>
+    ensures { OnOk result (text.new.items ≡ text.old.items ++ less_words mw short) }
+{
+    push_number(text, short)?;
+    text.extend_from_slice(b" left less than ")?;
+    push_number(text, mw)?;
+    text.extend_from_slice(b" mW\n")?;
+    Ok(())
+}
+
+/// Writes the same, where it is asked.
+fn push_short(text: &mut Vec<u8>, reserve: Option<u64>, short: u64) -> Result<(), AllocError>
+    ensures { OnOk result (text.new.items ≡ text.old.items ++ short_words reserve short) }
+{
+    match reserve {
+        None => Ok(()),
+        Some(mw) => push_less(text, mw, short),
+    }
+}
+
+/// Writes the summary of a sweep.
+///
+/// # Errors
+/// There is no memory for it; some of it may stand in the text.
+#[tactic(auto, unfolding(crate::specs::Tallies::tally_words))]
+pub fn push_tally(text: &mut Vec<u8>, reserve: Option<u64>, tally: &Tally) -> Result<(), AllocError>
+    ensures { OnOk result (text.new.items ≡ text.old.items ++ tally_words reserve tally.now) }
+{
+    push_counts(text, tally)?;
+    push_columns(text, tally)?;
+    push_lowest_line(text, &tally.margin)?;
+    push_short(text, reserve, tally.short)
+}

@@ -1,0 +1,330 @@
+//! A trial as a line of text.
+
+ghost use Rattle.std.specs.Prelude.{◌≡◌, ◌+◌, ◌<◌, ◌≤◌, ◌^◌, ◌++◌, OnOk, decimal, length};
+ghost use Rattle.pd_device.specs.Text.{right};
+ghost use Rattle.pd_sweep.specs.Words.{are_same, changes_from, contracts_words, instant_words, instead_words, is_same, listed};
+ghost use Rattle.pd_sweep.specs.Words.{lower_words, makers_words, margin_words, message_words, more_words, obstacle_words};
+ghost use Rattle.pd_sweep.specs.Words.{others_words, outcome_words, packet_words, run_words, set_words, standing_words};
+ghost use Rattle.pd_sweep.specs.Words.{summary_words, trial_line};
+
+use crate::Target;
+use crate::findings::Findings;
+use crate::makers::Makers;
+use crate::summary::Summary;
+use crate::trial::{Outcome, Trial};
+use crate::variant::Obstacle;
+use pd_device::Text;
+use pd_header::{header_id, header_kind};
+use pd_objects::Contract;
+use pd_symbols::Channel;
+use pd_tell::{push_contract, push_number, side_text};
+use std::alloc::AllocError;
+
+/// Writes a number.
+///
+/// # Errors
+/// There is no memory for it; some of it may stand in the text.
+pub fn push_wide(text: &mut Vec<u8>, number: u128) -> Result<(), AllocError>
+    ensures { OnOk result (text.new.items ≡ text.old.items ++ decimal number) }
+{
+    let mut digits = Text::<64>::new();
+    digits.push_wide(number);
+    text.extend_from_slice(digits.as_slice())
+}
+
+/// Writes a number right in nine places.
+fn push_right(text: &mut Vec<u8>, number: u64) -> Result<(), AllocError>
+    ensures { OnOk result (text.new.items ≡ text.old.items ++ right number) }
+{
+    let mut places = Text::<64>::new();
+    places.push_right(number);
+    text.extend_from_slice(places.as_slice())
+}
+
+/// An ordered set.
+fn set_text(channel: Channel) -> &'static [u8]
+    ensures { result.now ≡ set_words channel }
+{
+    match channel {
+        Channel::Sop => b" SOP ",
+        Channel::SopPrime => b" SOP' ",
+    }
+}
+
+/// Writes a message: its ordered set, its name and its ID.
+fn push_message(text: &mut Vec<u8>, channel: Channel, header: u16) -> Result<(), AllocError>
+    ensures { OnOk result (text.new.items ≡ text.old.items ++ message_words channel header) }
+{
+    text.extend_from_slice(set_text(channel))?;
+    text.extend_from_slice(header_kind(header).name().as_str().as_bytes())?;
+    text.push(b' ')?;
+    push_number(text, u64::from(header_id(header)))
+}
+
+/// Writes a packet.
+#[tactic(auto, unfolding(crate::specs::Words::packet_words))]
+pub(crate) fn push_packet(text: &mut Vec<u8>, target: &Target) -> Result<(), AllocError>
+    ensures { OnOk result (text.new.items ≡ text.old.items ++ packet_words target.now) }
+{
+    push_right(text, target.at)?;
+    text.extend_from_slice(b" port ")?;
+    push_number(text, target.port as u64)?;
+    text.push(b' ')?;
+    text.extend_from_slice(side_text(target.side))?;
+    push_message(text, target.channel, target.header)
+}
+
+/// Writes a contract, or that there is none.
+fn push_standing(text: &mut Vec<u8>, contract: &Option<Contract>) -> Result<(), AllocError>
+    ensures { OnOk result (text.new.items ≡ text.old.items ++ standing_words contract.now) }
+{
+    match contract {
+        None => text.extend_from_slice(b"no contract"),
+        Some(contract) => push_contract(text, contract),
+    }
+}
+
+/// Whether two contracts are the same, or both none.
+pub fn is_same(old: &Option<Contract>, new: &Option<Contract>) -> bool
+    ensures { result ≡ is_same old.now new.now }
+{
+    match (old, new) {
+        (None, None) => true,
+        (Some(a), Some(b)) => a.position == b.position && a.mv == b.mv && a.ma == b.ma,
+        _ => false,
+    }
+}
+
+/// Whether the contracts of all ports are the same.
+pub fn are_same(olds: &[Option<Contract>], news: &[Option<Contract>]) -> bool
+    ensures { result ≡ are_same olds.now news.now }
+{
+    let [old, olds @ ..] = olds else {
+        return true;
+    };
+    let [new, news @ ..] = news else {
+        return true;
+    };
+    is_same(old, new) && are_same(olds, news)
+}
+
+/// Writes the contract of a port in place of that without the loss, where it is another.
+fn push_instead(
+    text: &mut Vec<u8>,
+    port: u64,
+    old: &Option<Contract>,
+    new: &Option<Contract>,
+) -> Result<(), AllocError>
+    ensures { OnOk result (text.new.items ≡ text.old.items ++ instead_words port old.now new.now) }
+{
+    if is_same(old, new) {
+        return Ok(());
+    }
+    text.extend_from_slice(b" (port ")?;
+    push_number(text, port)?;
+    text.extend_from_slice(b": ")?;
+    push_standing(text, new)?;
+    text.extend_from_slice(b", was ")?;
+    push_standing(text, old)?;
+    text.extend_from_slice(b")")
+}
+
+/// Writes those of all ports, from one on.
+#[tactic(auto, unfolding(crate::specs::Words::changes_from))]
+fn push_changes(
+    text: &mut Vec<u8>,
+    port: u64,
+    olds: &[Option<Contract>],
+    news: &[Option<Contract>],
+) -> Result<(), AllocError>
+    requires { port + length olds.now < 2 ^ 64 }
+    ensures { OnOk result (text.new.items ≡ text.old.items ++ changes_from port olds.now news.now) }
+{
+    let [old, olds @ ..] = olds else {
+        return Ok(());
+    };
+    let [new, news @ ..] = news else {
+        return Ok(());
+    };
+    push_instead(text, port, old, new)?;
+    push_changes(text, port + 1, olds, news)
+}
+
+/// Writes that the contracts at the end are others, and which.
+fn push_others(
+    text: &mut Vec<u8>,
+    olds: &[Option<Contract>; 8],
+    news: &[Option<Contract>; 8],
+) -> Result<(), AllocError>
+    ensures { OnOk result (text.new.items ≡ text.old.items ++ others_words olds.now news.now) }
+{
+    text.extend_from_slice(b"other contracts")?;
+    push_changes(text, 1, olds, news)
+}
+
+/// Writes the contracts at the end beside those without the loss.
+///
+/// # Errors
+/// There is no memory for it; some of it may stand in the text.
+pub fn push_contracts(
+    text: &mut Vec<u8>,
+    olds: &[Option<Contract>; 8],
+    news: &[Option<Contract>; 8],
+) -> Result<(), AllocError>
+    ensures { OnOk result (text.new.items ≡ text.old.items ++ contracts_words olds.now news.now) }
+{
+    if are_same(olds, news) {
+        text.extend_from_slice(b"same contracts")
+    } else {
+        push_others(text, olds, news)
+    }
+}
+
+/// Writes how much more a number is than it was, or less.
+fn push_more(text: &mut Vec<u8>, old: u128, new: u128) -> Result<(), AllocError>
+    ensures { OnOk result (text.new.items ≡ text.old.items ++ more_words old new) }
+{
+    if old <= new {
+        text.push(b'+')?;
+        push_wide(text, new - old)
+    } else {
+        text.push(b'-')?;
+        push_wide(text, old - new)
+    }
+}
+
+/// Writes how much later a time is than it was, or earlier.
+fn push_later(text: &mut Vec<u8>, old: u64, new: u64) -> Result<(), AllocError>
+    ensures { OnOk result (text.new.items ≡ text.old.items ++ more_words old new) }
+{
+    push_more(text, u128::from(old), u128::from(new))
+}
+
+/// Writes the summary of the run in which a packet is lost beside that of the one in which it isn't.
+#[tactic(auto, unfolding(crate::specs::Words::summary_words))]
+fn push_summary(text: &mut Vec<u8>, old: &Summary, new: &Summary) -> Result<(), AllocError>
+    ensures { OnOk result (text.new.items ≡ text.old.items ++ summary_words old.now new.now) }
+{
+    push_contracts(text, &old.standing.contracts, &new.standing.contracts)?;
+    text.extend_from_slice(b", settled ")?;
+    push_later(text, old.standing.settled, new.standing.settled)?;
+    text.extend_from_slice(b" us, faults ")?;
+    push_more(text, old.mishaps.faults, new.mishaps.faults)?;
+    text.extend_from_slice(b", hard resets ")?;
+    push_more(text, old.mishaps.hard_resets, new.mishaps.hard_resets)
+}
+
+/// Writes the ports that are marked, from one on: the first behind some words, and each further one behind others.
+///
+/// # Errors
+/// There is no memory for it; some of it may stand in the text.
+#[tactic(auto, unfolding(crate::specs::Words::listed))]
+pub fn push_listed(
+    text: &mut Vec<u8>,
+    first: &[u8],
+    next: &[u8],
+    port: u64,
+    marks: &[bool],
+) -> Result<(), AllocError>
+    requires { port + length marks.now < 2 ^ 64 }
+    ensures { OnOk result (text.new.items ≡ text.old.items ++ listed first.now next.now port marks.now) }
+{
+    let [is_marked, marks @ ..] = marks else {
+        return Ok(());
+    };
+    if !*is_marked {
+        return push_listed(text, first, next, port + 1, marks);
+    }
+    text.extend_from_slice(first)?;
+    push_number(text, port)?;
+    push_listed(text, next, next, port + 1, marks)
+}
+
+/// Writes the ports whose contracts are made at an instant, if any are, as ` by port 1 and port 2`.
+///
+/// # Errors
+/// There is no memory for it; some of it may stand in the text.
+pub fn push_makers(text: &mut Vec<u8>, makers: &Makers) -> Result<(), AllocError>
+    ensures { OnOk result (text.new.items ≡ text.old.items ++ makers_words makers.now) }
+{
+    push_listed(text, b" by port ", b" and port ", 1, &makers.ports)
+}
+
+/// Writes an instant, and the ports whose contracts are made then.
+pub(crate) fn push_instant(text: &mut Vec<u8>, at: u64, makers: &Makers) -> Result<(), AllocError>
+    ensures { OnOk result (text.new.items ≡ text.old.items ++ instant_words at makers.now) }
+{
+    text.extend_from_slice(b" at ")?;
+    push_number(text, at)?;
+    push_makers(text, makers)
+}
+
+/// Writes the first instant at which the least is left, and by which ports, where that is less than without the loss.
+fn push_lower(text: &mut Vec<u8>, old: &Findings, new: &Findings) -> Result<(), AllocError>
+    ensures { OnOk result (text.new.items ≡ text.old.items ++ lower_words old.now new.now) }
+{
+    if new.margin.left < old.margin.left {
+        push_instant(text, new.margin.at, &new.makers)
+    } else {
+        Ok(())
+    }
+}
+
+/// Writes the least that is left of the budget at the end of an instant.
+fn push_margin(text: &mut Vec<u8>, old: &Findings, new: &Findings) -> Result<(), AllocError>
+    ensures { OnOk result (text.new.items ≡ text.old.items ++ margin_words old.now new.now) }
+{
+    text.extend_from_slice(b", least margin ")?;
+    push_number(text, new.margin.left)?;
+    push_lower(text, old, new)
+}
+
+/// Writes the run in which a packet is lost beside the one in which it isn't.
+fn push_run(text: &mut Vec<u8>, old: &Findings, new: &Findings) -> Result<(), AllocError>
+    ensures { OnOk result (text.new.items ≡ text.old.items ++ run_words old.now new.now) }
+{
+    push_summary(text, &old.summary, &new.summary)?;
+    push_margin(text, old, new)
+}
+
+/// Writes why a packet can't be lost.
+///
+/// # Errors
+/// There is no memory for it; some of it may stand in the text.
+pub fn push_obstacle(text: &mut Vec<u8>, obstacle: &Obstacle) -> Result<(), AllocError>
+    ensures { OnOk result (text.new.items ≡ text.old.items ++ obstacle_words obstacle.now) }
+{
+    match obstacle {
+        Obstacle::NoId => text.extend_from_slice(b"not tried: no id is free"),
+        Obstacle::Refused(fault) => {
+            text.extend_from_slice(b"not tried: refused ")?;
+            push_number(text, u64::from(fault.number()))
+        }
+    }
+}
+
+/// Writes what comes of losing a packet.
+fn push_outcome(text: &mut Vec<u8>, old: &Findings, outcome: &Outcome) -> Result<(), AllocError>
+    ensures { OnOk result (text.new.items ≡ text.old.items ++ outcome_words old.now outcome.now) }
+{
+    match outcome {
+        Outcome::Ran(new) => push_run(text, old, new),
+        Outcome::Missed => text.extend_from_slice(b"not hit"),
+        Outcome::Disturbed => text.extend_from_slice(b"not tried: disturbed already"),
+        Outcome::Barred(obstacle) => push_obstacle(text, obstacle),
+    }
+}
+
+/// Writes the line of a trial.
+///
+/// # Errors
+/// There is no memory for it; some of it may stand in the text.
+#[tactic(auto, unfolding(crate::specs::Words::trial_line))]
+pub fn push_trial(text: &mut Vec<u8>, old: &Findings, trial: &Trial) -> Result<(), AllocError>
+    ensures { OnOk result (text.new.items ≡ text.old.items ++ trial_line old.now trial.now) }
+{
+    push_packet(text, &trial.target)?;
+    text.extend_from_slice(b": ")?;
+    push_outcome(text, old, &trial.outcome)?;
+    text.extend_from_slice(b"\n")
+}

@@ -1,5 +1,0 @@
-use Rattle.pd_trials.proofs.TruthLemmas.{hits_are_true}
-use Rattle.pd_trials.proofs.laws.hits_are_true.Goals as goal
-
-pub returns : goal.returns
-returns c = hits_are_true

@@ -1,9 +1,0 @@
-use Rattle.std.proofs.Common.{codes}
-use Rattle.pd_trials.specs.Tallies.{tried_words}
-use Rattle.pd_trials.proofs.JoinLemmas.{joined_four}
-use Rattle.pd_trials.proofs.tally.push_counts.Goals as goal
-
-pub returns : goal.returns
-returns c =
-    joined_four _ _ _ _ _ _ (tried_words c.args.tally.now.tried) _ (codes " with other contracts at the end\n")
-    c.in_ok-push_number.ensures c.in_ok-push_tried.ensures c.in_ok-push_number-2.ensures c.in_ok-extend_from_slice.ensures.items
