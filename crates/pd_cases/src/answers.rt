@@ -5,9 +5,9 @@ ghost use Rattle.pd_scenario_text.specs.Texts.{IsRefusedBy};
 ghost use Rattle.pd_bench.specs.Texts.{IsAnswered};
 
 use crate::cases::Case;
+use pd_bench::{check_text, run_kept, run_plain};
 use pd_device::Output;
 use pd_port::Meter;
-use pd_bench::{check_text, run_kept, run_plain};
 use std::alloc::Global;
 
 // The steps of a session that writes what is expected.

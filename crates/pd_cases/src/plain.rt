@@ -1,8 +1,8 @@
 //! `pd_cases plain SCENARIO EDITS`.
 
+use pd_bench::{RunFault, read_whole, run_plain};
 use pd_device::Output;
 use pd_port::Meter;
-use pd_bench::{RunFault, read_whole, run_plain};
 use std::alloc::Global;
 use std::io;
 use std::rt::Files;

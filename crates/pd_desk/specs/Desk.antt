@@ -7,7 +7,7 @@ use Rattle.pd_scenario_text.specs.Reading.{Reads}
 use Rattle.pd_save.specs.Files.{ReadsOtherwise, file_text}
 use Rattle.pd_save.specs.EditLines.{Lists}
 use Rattle.pd_text.specs.declared.piece.Form.TheVariants.{Words}
-use Rattle.pd_why.specs.Story.{TellsWhy}
+use Rattle.pd_why.specs.Answers.{TellsWhy}
 use Rattle.pd_edit_lines.specs.Grammar.{line_of}
 use Rattle.pd_edit_lines.specs.Words.{words}
 use Rattle.pd_edit_lines.specs.declared.line.Line.{Line}

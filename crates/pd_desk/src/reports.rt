@@ -2,7 +2,7 @@
 
 ghost use Rattle.std.specs.Prelude.{IfOk, []};
 ghost use Rattle.pd_scenario.specs.Plans.{plan_of};
-ghost use Rattle.pd_why.specs.Story.{TellsWhy};
+ghost use Rattle.pd_why.specs.Answers.{TellsWhy};
 ghost use Rattle.pd_desk.specs.Reports.{Reports, TellsDiff};
 
 use crate::push_diff;

@@ -8,7 +8,9 @@ ghost use Rattle.pd_draw.specs.Picture.{bottom_of, lanes_text, names_of, phase_k
 
 use crate::place::lane_top;
 use crate::{Lanes, Phase};
-use pd_chart::{Area, Frame, Level, push_box, push_chart, push_head, push_port_name, push_style, push_words};
+use pd_chart::{
+    Area, Frame, Level, push_box, push_chart, push_head, push_port_name, push_style, push_words,
+};
 use std::alloc::{AllocError, Global};
 
 /// How the lanes look.

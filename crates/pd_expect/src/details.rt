@@ -3,11 +3,11 @@
 ghost use Rattle.std.specs.Prelude.{◌≡◌, ◌++◌, IfOk, OnOk};
 ghost use Rattle.pd_expect.specs.Details.{details, margin_details};
 
+use crate::Expectation;
 use crate::found::Found;
 use crate::near::{Sign, nearest, push_near, push_until};
 use crate::notes::{notes_of, push_first, push_others};
 use pd_run::Runner;
-use crate::Expectation;
 use pd_sweep::{makers_of, push_makers};
 use std::alloc::{AllocError, Global};
 

@@ -8,11 +8,11 @@ ghost use Rattle.pd_expect.specs.Words.{time_word};
 
 use crate::contract::contract_at;
 use crate::seek::{Sought, has_fault};
+use crate::{Expectation, Span, quoted};
 use pd_objects::Contract;
 use pd_report::{Margin, least_margin};
 use pd_run::Runner;
 use pd_scenario::Scenario;
-use crate::{Expectation, Span, quoted};
 use pd_sweep::summary_of;
 
 /// What a run has of what is expected.

@@ -7,11 +7,11 @@ ghost use Rattle.pd_sweep.specs.Variants.{variant};
 ghost use Rattle.pd_sweep.specs.declared.choice.Loss.TheVariants.{Lost as harm_lost};
 ghost use Rattle.pd_expect.specs.Losses.{IsLoss, LosesIn, choice_of, lost_packet, nth_of};
 
+use crate::Lost;
 use pd_device::BenchFault;
 use pd_port::Meter;
 use pd_run::Runner;
 use pd_scenario::Scenario;
-use crate::Lost;
 use pd_sweep::{Choice, Loss, Obstacle, Target, chosen, is_hit, variant_of};
 use std::alloc::Global;
 

@@ -19,13 +19,13 @@ use crate::loss::lose;
 use crate::named::without_mark;
 use crate::tally::TestTally;
 use crate::words::{push_empty_range, push_failure, push_late, push_loss, push_no_test};
+use crate::{Expectation, Lost, Span, TestLine};
 use pd_explain::{Place, is_port, push_sentence};
 use pd_port::Meter;
 use pd_run::Runner;
 use pd_scenario::Scenario;
 use pd_scene::{at_line, explain_line, first_line};
 use pd_tell::push_number;
-use crate::{Expectation, Lost, Span, TestLine};
 use std::alloc::{AllocError, Global};
 
 /// What is said of the lines of a test script, and how they count.

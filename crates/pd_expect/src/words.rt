@@ -7,14 +7,14 @@ ghost use Rattle.pd_expect.specs.Words.{contract_words, failure_line, found_word
 ghost use Rattle.pd_expect.specs.Words.{empty_range_line, form_behind, form_named, form_of, late_line, loss_line, loss_words, there_words};
 ghost use Rattle.pd_expect.specs.Words.{no_packet_words, no_test_line, numbered_words, numbers_words};
 
+use crate::Span;
 use crate::found::Found;
 use crate::loss::LoseFault;
 use itoa::Buffer;
 use pd_edit_lines::next;
 use pd_objects::Contract;
-use pd_tell::push_number;
-use crate::Span;
 use pd_sweep::push_obstacle;
+use pd_tell::push_number;
 use std::alloc::AllocError;
 
 /// Writes a contract by its position, its voltage in millivolts and its current in milliamperes.

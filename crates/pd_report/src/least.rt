@@ -8,8 +8,8 @@ ghost use Rattle.pd_scenario.specs.Plans.{plan_of};
 
 use crate::margin_lines::{end_instant, pass, see_entry};
 use crate::walk::Walk;
-use pd_scenario::{FEW, MOST_EVENTS, NO_CHANGE, Scenario, has_few_changes, put_in_order};
 use pd_run::Runner;
+use pd_scenario::{FEW, MOST_EVENTS, NO_CHANGE, Scenario, has_few_changes, put_in_order};
 
 /// What the contracts of all ports leave of the shared budget at the end of an instant.
 #[derive(Clone, Copy, Debug, PartialEq, Eq)]

@@ -12,9 +12,9 @@ ghost use Rattle.pd_scenario.specs.Plans.{plan_of};
 
 use crate::page::{MOST, PAGE};
 use crate::walk::{WIDTH, Walk};
-use pd_scenario::{FEW, MOST_EVENTS, NO_CHANGE, Scenario, has_few_changes, put_in_order};
 use pd_device::{BenchFault, Text, TextOut, write_all, write_text};
 use pd_run::{Note, Runner};
+use pd_scenario::{FEW, MOST_EVENTS, NO_CHANGE, Scenario, has_few_changes, put_in_order};
 
 /// Writes what the contracts of all ports take of the scenario's budget and what they leave of it, in microwatts: a line
 /// at the instant 0, and one at each later instant up to the scenario's end at which that sum or the budget changes.

@@ -10,9 +10,9 @@ ghost use Rattle.pd_scenario.specs.ByTime.{IsByTime};
 ghost use Rattle.pd_scenario.specs.Plan.{Plan};
 ghost use Rattle.pd_scenario.specs.Plans.{plan_of};
 
-use pd_scenario::{BudgetChange, Scenario, budget_at, next_at, passed};
 use pd_device::Text;
 use pd_port::ContractChange;
+use pd_scenario::{BudgetChange, Scenario, budget_at, next_at, passed};
 
 /// The most bytes of a line.
 pub(crate) const WIDTH: usize = 160;

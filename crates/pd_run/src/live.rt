@@ -18,9 +18,9 @@ ghost use Rattle.pd_run.specs.StepsLeft.{steps_left};
 ghost use Rattle.pd_run.specs.UpTo.{IsUpTo, AreAfter, had_by};
 ghost use Rattle.pd_run.specs.Stepped.{step_of};
 
-use crate::{Plan, SharedPort, SharedStep, SpareSteps};
 use crate::had::had_by;
 use crate::shared_budget::gives;
+use crate::{Plan, SharedPort, SharedStep, SpareSteps};
 use pd_ledger::Ledger;
 use pd_objects::{Answer, Query};
 use pd_port::{Due, Entry, Meter, Port, What};

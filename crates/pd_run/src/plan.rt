@@ -6,11 +6,11 @@ ghost use Rattle.pd_scenario.specs.Plan.{IsPlan, settings_of, script_of, floors_
 ghost use Rattle.pd_scenario.specs.Plans.{plan_of};
 ghost use Rattle.pd_run.specs.Start.{start_of};
 
-use crate::beside::{same_changes, same_events};
-use pd_scenario::{BudgetChange, Changes, Scenario};
-use pd_port::Port;
-use pd_setup::{Event, Settings};
 use crate::SharedPort;
+use crate::beside::{same_changes, same_events};
+use pd_port::Port;
+use pd_scenario::{BudgetChange, Changes, Scenario};
+use pd_setup::{Event, Settings};
 use std::alloc::{AllocError, Global};
 use std::marker::Model;
 

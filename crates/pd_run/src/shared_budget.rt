@@ -6,8 +6,8 @@ ghost use Rattle.pd_run.specs.Held.{AreHeld, HoldsOn};
 ghost use Rattle.pd_run.specs.Run.{Move, IsAnswered};
 ghost use Rattle.pd_run.specs.UpTo.{AreAfter};
 
-use crate::{Plan, SharedPort};
 use crate::live::holds_of;
+use crate::{Plan, SharedPort};
 use pd_ledger::Ledger;
 use pd_objects::{Answer, Query};
 use pd_port::Entry;

@@ -4,9 +4,9 @@ ghost use Rattle.std.specs.Prelude.{◌≡◌, ◌++◌, OnOk, decimal};
 ghost use Rattle.std.specs.List.{flat_map};
 ghost use Rattle.pd_save.specs.EditWords.{next_word, next_number, supply_words, revision_words, carried_words, happening_words};
 
+use crate::kind_word;
 use itoa::Buffer;
 use pd_objects::Supply;
-use crate::kind_word;
 use pd_scenario::{ScenarioEventKind, ScenarioHappening};
 use pd_setup::{EventKind, SinkRevision};
 use std::alloc::AllocError;

@@ -2,11 +2,11 @@
 
 ghost use Rattle.pd_scene.specs.Scene.{Scene, follows};
 
+use crate::follow;
 use crate::job::{Job, JobOn};
 use crate::scene::{SceneFault, on_text};
 use pd_device::BenchFault;
 use pd_scenario::Scenario;
-use crate::follow;
 use std::alloc::Global;
 
 // A job that is done on the scenario as an edit script leaves it.

@@ -6,8 +6,8 @@ ghost use Rattle.pd_sweep.specs.Columns.{lowest_object, short_members, tally_mem
 ghost use Rattle.pd_sweep.specs.Columns.{worst_object};
 
 use crate::objects::{push_instant_members, push_packet_members};
-use pd_tell::{push_number, push_number_member};
 use crate::{Lowest, Tally, Worst, push_wide};
+use pd_tell::{push_number, push_number_member};
 use std::alloc::AllocError;
 
 /// Writes how many packets were lost, and how many of the runs end with other contracts.

@@ -5,13 +5,13 @@ ghost use Rattle.pd_device.specs.declared.fault.BenchFault.TheVariants.{Memory a
 ghost use Rattle.pd_scene.specs.Scene.{Scene, follows};
 ghost use Rattle.pd_sweep.specs.Counts.{HasPackets};
 
+use crate::{Choice, chosen};
 use pd_device::BenchFault;
 use pd_keep::Kept;
 use pd_port::Meter;
 use pd_run::Runner;
 use pd_scenario::Scenario;
 use pd_scene::{Job, JobOn, SceneFault, on_scene};
-use crate::{Choice, chosen};
 use std::alloc::Global;
 
 // Which packets are counted.

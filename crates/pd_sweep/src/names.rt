@@ -3,8 +3,8 @@
 ghost use Rattle.std.specs.Prelude.{◌≡◌, ◌++◌, OnOk};
 ghost use Rattle.pd_sweep.specs.Names.{set_name, signed_text, truth};
 
-use pd_symbols::Channel;
 use crate::push_wide;
+use pd_symbols::Channel;
 use std::alloc::AllocError;
 
 pub(crate) fn truth(holds: bool) -> &'static [u8]

@@ -8,13 +8,13 @@ ghost use Rattle.pd_sweep.specs.Objects.{ports_member, refused_members, run_memb
 ghost use Rattle.pd_sweep.specs.Objects.{trial_object};
 
 use crate::names::{push_signed, set_name, truth};
+use crate::{
+    Findings, Makers, Obstacle, Outcome, Summary, Target, Trial, are_same, is_same, push_listed,
+};
 use pd_header::{header_id, header_kind};
 use pd_objects::Contract;
 use pd_symbols::Channel;
 use pd_tell::{push_number, push_number_member, push_text_member, side_text};
-use crate::{
-    Findings, Makers, Obstacle, Outcome, Summary, Target, Trial, are_same, is_same, push_listed,
-};
 use std::alloc::AllocError;
 
 /// Writes whether something holds, behind its key.

@@ -6,14 +6,14 @@ ghost use Rattle.pd_sweep.specs.Rows.{margin_values, message_values, more_value,
 ghost use Rattle.pd_sweep.specs.Rows.{trial_row};
 
 use crate::names::{push_signed, set_name, truth};
-use pd_header::{header_id, header_kind};
-use pd_objects::Contract;
-use pd_symbols::Channel;
-use pd_tell::{push_number, side_text};
 use crate::{
     Findings, Makers, Obstacle, Outcome, Summary, Target, Trial, are_same, push_contracts,
     push_listed,
 };
+use pd_header::{header_id, header_kind};
+use pd_objects::Contract;
+use pd_symbols::Channel;
+use pd_tell::{push_number, side_text};
 use std::alloc::AllocError;
 
 /// Writes a message.

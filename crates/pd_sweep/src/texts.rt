@@ -4,14 +4,13 @@ ghost use Rattle.pd_scene.specs.Outlet.{SameEnds};
 ghost use Rattle.pd_scene.specs.Scene.{Scene, follows};
 ghost use Rattle.pd_sweep.specs.Texts.{SweepsScene};
 
-use crate::{Form, sweep};
+use crate::{Campaign, Form, Tally, sweep};
 use pd_device::{BenchFault, TextOut};
 use pd_keep::Kept;
 use pd_port::Meter;
 use pd_run::Runner;
 use pd_scenario::Scenario;
 use pd_scene::{Job, JobOn, Outlet, SceneFault, on_scene};
-use crate::{Campaign, Tally};
 use std::alloc::Global;
 
 // Which packets are lost, and how that is told.

@@ -6,13 +6,12 @@ ghost use Rattle.pd_device.specs.declared.fault.BenchFault.TheVariants.{Memory a
 ghost use Rattle.pd_sweep.specs.Forms.{head, tally_text, trial_text};
 ghost use Rattle.pd_sweep.specs.Sweeps.{CountsSweep, Sweeps};
 
-use crate::Form;
 use crate::form::{head, push_tally_text, push_trial_text};
+use crate::{Campaign, Findings, Form, Tally, Trial, chosen, try_packet};
 use pd_device::{BenchFault, TextOut, write_all};
 use pd_port::Meter;
 use pd_run::Runner;
 use pd_scenario::Scenario;
-use crate::{Campaign, Findings, Tally, Trial, chosen, try_packet};
 use std::alloc::{AllocError, Global};
 
 /// The line of a trial.

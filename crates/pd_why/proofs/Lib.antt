@@ -1,1 +1,15 @@
 pub mod ObjectLemmas
+pub mod BoundLemmas
+pub mod DetachSteps
+pub mod LawLemmas
+pub mod LineSteps
+pub mod LookLemmas
+pub mod PortSteps
+pub mod RuleSteps
+pub mod RunSteps
+pub mod ShareLemmas
+pub mod SinkSteps
+pub mod SourcePort
+pub mod SourceSteps
+pub mod StartSteps
+pub mod StoryLemmas

@@ -8,17 +8,17 @@ use Rattle.pd_source.specs.declared.kinds.State.TheVariants as state
 use Rattle.pd_line.specs.declared.notes.Fault.{Fault}
 use Rattle.pd_line.specs.declared.notes.Fault.TheVariants as fault
 use Rattle.pd_port.specs.declared.entry.ContractChange.TheVariants as change
-use Rattle.pd_bounds.specs.declared.cable.CableLimit.{CableLimit}
-use Rattle.pd_bounds.specs.declared.cable.CableLimit.TheVariants as known
-use Rattle.pd_bounds.specs.declared.holder.Maker.{Maker}
-use Rattle.pd_bounds.specs.declared.holder.Maker.TheVariants as maker
-use Rattle.pd_bounds.specs.declared.fact.Fact.TheVariants as fact
+use Rattle.pd_why.specs.declared.cable.CableLimit.{CableLimit}
+use Rattle.pd_why.specs.declared.cable.CableLimit.TheVariants as known
+use Rattle.pd_why.specs.declared.holder.Maker.{Maker}
+use Rattle.pd_why.specs.declared.holder.Maker.TheVariants as maker
+use Rattle.pd_why.specs.declared.fact.Fact.TheVariants as fact
 use Rattle.pd_text.specs.Pieces.{PieceData}
 use Rattle.pd_text.specs.Json.{is_no_kind}
 use Rattle.pd_text.proofs.JsonLemmas.{tellings_are_objects}
-use Rattle.pd_why.specs.Facts.{choice_piece, fault_pieces, idle_pieces, known_piece, maker_pieces, mode_piece, need_pieces, to_piece}
-use Rattle.pd_why.specs.Facts.{tries_piece}
-use Rattle.pd_why.specs.Laws.{FactsAreObjects}
+use Rattle.pd_why.specs.Tellings.{choice_piece, fault_pieces, idle_pieces, known_piece, maker_pieces, mode_piece, need_pieces, to_piece}
+use Rattle.pd_why.specs.Tellings.{tries_piece}
+use Rattle.pd_why.specs.TellingLaws.{FactsAreObjects}
 
 -- pieces that tell no kind
 abbrev HaveNoKind : List PieceData → Type 0

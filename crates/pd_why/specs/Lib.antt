@@ -1,3 +1,13 @@
+pub mod Tellings
+pub mod Answers
+pub mod TellingLaws
+pub mod Bounds
+pub mod Cables
 pub mod Facts
-pub mod Story
+pub mod Holds
+pub mod Known
 pub mod Laws
+pub mod Looks
+pub mod Requests
+pub mod Story
+pub mod Wishes

@@ -1,10 +1,10 @@
 //! The fact that a port makes no offer.
 
 ghost use Rattle.std.specs.Prelude.{◌≡◌, ◌++◌, OnOk};
-ghost use Rattle.pd_bounds.specs.declared.fact.Fact.TheVariants as fact;
+ghost use Rattle.pd_why.specs.declared.fact.Fact.TheVariants as fact;
 ghost use Rattle.pd_text.specs.Pieces.{piece_of};
 ghost use Rattle.pd_text.specs.Texts.{text_of_all};
-ghost use Rattle.pd_why.specs.Facts.{fact_pieces, idle_pieces, to_piece};
+ghost use Rattle.pd_why.specs.Tellings.{fact_pieces, idle_pieces, to_piece};
 
 use pd_source::State;
 use pd_tell::source_name;

@@ -1,12 +1,12 @@
 //! The facts of an offer, and of what bounds it.
 
 ghost use Rattle.std.specs.Prelude.{◌≡◌, ◌++◌, OnOk, map};
-ghost use Rattle.pd_bounds.specs.declared.fact.Fact.TheVariants as fact;
+ghost use Rattle.pd_why.specs.declared.fact.Fact.TheVariants as fact;
 ghost use Rattle.pd_text.specs.Pieces.{list_name_of, piece_of};
 ghost use Rattle.pd_text.specs.Texts.{text_of_all};
-ghost use Rattle.pd_why.specs.Facts.{bound_name, bound_names, fact_pieces, known_piece, maker_pieces, tries_piece};
+ghost use Rattle.pd_why.specs.Tellings.{bound_name, bound_names, fact_pieces, known_piece, maker_pieces, tries_piece};
 
-use pd_bounds::{Bound, Bounds, CableLimit, Maker};
+use crate::{Bound, Bounds, CableLimit, Maker};
 use pd_text::Piece::{Kind, MemberNumber, Name, Names, Number};
 use pd_text::Unit::{Microseconds, Microwatts, Milliamperes, Millivolts, Plain};
 use pd_text::{Form, ListName, Piece, push_pieces};

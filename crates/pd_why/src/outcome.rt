@@ -1,10 +1,10 @@
 //! The facts of what came of an offer.
 
 ghost use Rattle.std.specs.Prelude.{◌≡◌, ◌++◌, OnOk};
-ghost use Rattle.pd_bounds.specs.declared.fact.Fact.TheVariants as fact;
+ghost use Rattle.pd_why.specs.declared.fact.Fact.TheVariants as fact;
 ghost use Rattle.pd_line.specs.declared.notes.Fault.TheVariants as fault;
 ghost use Rattle.pd_text.specs.Texts.{text_of_all};
-ghost use Rattle.pd_why.specs.Facts.{bare_pieces, fact_pieces, fault_pieces, side_pieces, unheard_pieces};
+ghost use Rattle.pd_why.specs.Tellings.{bare_pieces, fact_pieces, fault_pieces, side_pieces, unheard_pieces};
 
 use pd_header::{Kind as Message, Side};
 use pd_line::Fault;

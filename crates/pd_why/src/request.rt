@@ -1,157 +1,143 @@
-//! The facts of what the sink asks for, and why.
+//! Why a sink asks for what it asks for.
 
-ghost use Rattle.std.specs.Prelude.{◌≡◌, ◌++◌, OnOk};
-ghost use Rattle.pd_bounds.specs.declared.fact.Fact.TheVariants as fact;
-ghost use Rattle.pd_text.specs.Pieces.{piece_of};
-ghost use Rattle.pd_text.specs.Texts.{text_of_all};
-ghost use Rattle.pd_why.specs.Facts.{choice_piece, fact_pieces, mode_piece, need_pieces};
+ghost use Rattle.std.specs.Prelude.{◌≡◌, ◌+◌, ◌<◌, ◌≤◌, ◌∷◌, ◌++◌, [], OnOk, length};
+ghost use Rattle.pd_sink.specs.Rule.{need_of};
+ghost use Rattle.pd_why.specs.Requests.{has_mismatch, is_request, need_fact, need_facts, need_of_object, reason_facts, request_facts};
+ghost use Rattle.pd_why.specs.Requests.{started_facts};
 
-use pd_setup::SinkMode;
-use pd_text::Piece::{Flag, Kind, LineNumber, LineWords, MemberNull, MemberNumber, Name, Number};
-use pd_text::Unit::{Microseconds, Microwatts, Milliamperes, Millivolts, Plain};
-use pd_text::{Form, Piece, push_pieces};
+use crate::fact::Fact;
+use crate::wish::Wish;
+use pd_header::{Kind, Side, header_kind};
+use pd_line::Start;
+use pd_objects::field;
+use pd_setup::SinkSettings;
 use std::alloc::AllocError;
 
-/// Writes that the sink asks for a supply at a current in mA, with or without a capability mismatch.
-pub(crate) fn push_request(
-    text: &mut Vec<u8>,
-    form: Form,
-    at: u64,
-    position: u32,
-    ma: u32,
-    mismatch: bool,
-) -> Result<(), AllocError>
-    ensures { OnOk result (text.new.items ≡ text.old.items ++ text_of_all form (fact_pieces (fact.Request at position ma mismatch))) }
+/// What a sink needs of a voltage in mV for a demand in mW, in mA.
+fn need(mv: u32, demand_mw: u32) -> u64
+    requires { 0 < mv }
+    ensures { result ≡ need_of mv demand_mw }
 {
-    push_pieces(
-        text,
-        form,
-        &[
-            Kind(b"sink_request"),
-            Number(b"at ", b"at_us", Microseconds, at),
-            Number(
-                b": the sink requests supply ",
-                b"position",
-                Plain,
-                position as u64,
-            ),
-            Number(b" at ", b"current_ma", Milliamperes, ma as u64),
-            Flag(
-                b", with a capability mismatch",
-                b"",
-                b"capability_mismatch",
-                mismatch,
-            ),
-        ],
-    )
+    (u64::from(demand_mw) * 1_000).div_ceil(u64::from(mv) * 10) * 10
 }
 
-/// How a sink behaves.
-fn mode_piece(mode: SinkMode) -> Piece<'static>
-    ensures { piece_of result ≡ mode_piece mode }
+/// What a sink needs of the supply of an object, where it accepts that.
+fn need_of_object(sink: &SinkSettings, object: u32) -> Option<u64>
+    ensures { result ≡ need_of_object sink.now object }
 {
-    match mode {
-        SinkMode::PowerDelivery => Name(b"", b"mode", b"pd"),
-        SinkMode::Plain => Name(b"", b"mode", b"plain"),
-        SinkMode::Greedy => Name(b", also where less is offered", b"mode", b"greedy"),
-    }
-}
-
-/// Writes what the sink wants in mW, the greatest voltage that it accepts in mV, and how it behaves.
-pub(crate) fn push_demand(
-    text: &mut Vec<u8>,
-    form: Form,
-    demand_mw: u32,
-    max_mv: u32,
-    mode: SinkMode,
-) -> Result<(), AllocError>
-    ensures { OnOk result (text.new.items ≡ text.old.items ++ text_of_all form (fact_pieces (fact.Demand demand_mw max_mv mode))) }
-{
-    push_pieces(
-        text,
-        form,
-        &[
-            Kind(b"demand"),
-            LineNumber(b"  it wants ", Microwatts, demand_mw as u64 * 1_000),
-            MemberNumber(b"demand_mw", demand_mw as u64),
-            Number(b" at up to ", b"max_mv", Millivolts, max_mv as u64),
-            mode_piece(mode),
-        ],
-    )
-}
-
-/// Writes what the sink needs in mA of a supply, if it accepts that at all, beside what it is offered.
-fn push_needed(text: &mut Vec<u8>, form: Form, ma: u64, need: Option<u64>) -> Result<(), AllocError>
-    ensures { OnOk result (text.new.items ≡ text.old.items ++ text_of_all form (need_pieces ma need)) }
-{
-    match need {
-        None => push_pieces(
-            text,
-            form,
-            &[
-                MemberNull(b"need_ma"),
-                Flag(b"", b"above its greatest voltage", b"enough", false),
-            ],
-        ),
-        Some(need) => push_pieces(
-            text,
-            form,
-            &[
-                Number(b"needs ", b"need_ma", Milliamperes, need),
-                LineNumber(b", offered ", Milliamperes, ma),
-                Flag(b": enough", b": too little", b"enough", need <= ma),
-            ],
-        ),
-    }
-}
-
-/// Writes what the sink needs in mA of a supply of so many mV and mA.
-pub(crate) fn push_need(
-    text: &mut Vec<u8>,
-    form: Form,
-    position: usize,
-    mv: u32,
-    ma: u32,
-    need: Option<u64>,
-) -> Result<(), AllocError>
-    ensures { OnOk result (text.new.items ≡ text.old.items ++ text_of_all form (fact_pieces (fact.Need position mv ma need))) }
-{
-    push_pieces(
-        text,
-        form,
-        &[
-            Kind(b"need"),
-            Number(b"  supply ", b"position", Plain, position as u64),
-            Number(b" ", b"voltage_mv", Millivolts, mv as u64),
-            LineWords(b": "),
-            MemberNumber(b"current_ma", ma as u64),
-        ],
-    )?;
-    push_needed(text, form, ma as u64, need)
-}
-
-/// By which rule the sink chose.
-fn choice_piece(mismatch: bool) -> Piece<'static>
-    ensures { piece_of result ≡ choice_piece mismatch }
-{
-    if mismatch {
-        Name(
-            b"  none is enough: it takes the greatest power, and of equal ones the lowest voltage",
-            b"rule",
-            b"greatest_power",
-        )
+    let mv = field(object, 19, 10) * 50;
+    if field(object, 31, 30) == 0 && mv > 0 && mv <= sink.max_mv() {
+        Some(need(mv, sink.demand_mw()))
     } else {
-        Name(
-            b"  of those that are enough it takes the highest voltage",
-            b"rule",
-            b"highest_voltage",
-        )
+        None
     }
 }
 
-/// Writes by which rule the sink chose.
-pub(crate) fn push_choice(text: &mut Vec<u8>, form: Form, mismatch: bool) -> Result<(), AllocError>
-    ensures { OnOk result (text.new.items ≡ text.old.items ++ text_of_all form (fact_pieces (fact.Choice mismatch))) }
+/// What a sink needs of the supply at a position.
+fn need_fact(sink: &SinkSettings, position: usize, object: u32) -> Fact
+    ensures { result ≡ need_fact sink.now position object }
 {
-    push_pieces(text, form, &[Kind(b"choice"), choice_piece(mismatch)])
+    Fact::Need {
+        position,
+        mv: field(object, 19, 10) * 50,
+        ma: field(object, 9, 0) * 10,
+        need: need_of_object(sink, object),
+    }
+}
+
+/// What a sink needs of each supply of an offer, from a position on.
+fn push_needs(
+    facts: &mut Vec<Fact>,
+    sink: &SinkSettings,
+    position: usize,
+    offer: &[u32],
+) -> Result<(), AllocError>
+    requires { position + length offer.now < 256 }
+    ensures { OnOk result (facts.new.items ≡ facts.old.items ++ need_facts sink.now position offer.now) }
+{
+    let [object, objects @ ..] = offer else {
+        return Ok(());
+    };
+    facts.push(need_fact(sink, position, *object))?;
+    push_needs(facts, sink, position + 1, objects)
+}
+
+/// What the sink wants, and what it needs of each supply of the offer.
+fn push_reasons(facts: &mut Vec<Fact>, wish: &Option<Wish>) -> Result<(), AllocError>
+    ensures { OnOk result (facts.new.items ≡ facts.old.items ++ reason_facts wish.now) }
+{
+    let Some(wish) = wish else {
+        return Ok(());
+    };
+    facts.push(Fact::Demand {
+        demand_mw: wish.sink.demand_mw(),
+        max_mv: wish.sink.max_mv(),
+        mode: wish.sink.mode(),
+    })?;
+    push_needs(facts, &wish.sink, 1, wish.offer.as_slice())
+}
+
+/// Whether a request has the bit of a capability mismatch.
+fn has_mismatch(object: u32) -> bool
+    ensures { result ≡ has_mismatch object }
+{
+    field(object, 26, 26) == 1
+}
+
+/// A request, and why.
+fn push_request(
+    facts: &mut Vec<Fact>,
+    at: u64,
+    wish: &Option<Wish>,
+    objects: &[u32],
+) -> Result<(), AllocError>
+    ensures { OnOk result (facts.new.items ≡ facts.old.items ++ request_facts at wish.now objects.now) }
+{
+    let [object, ..] = objects else {
+        return Ok(());
+    };
+    facts.push(Fact::Request {
+        at,
+        position: field(*object, 30, 28),
+        ma: field(*object, 9, 0) * 10,
+        mismatch: has_mismatch(*object),
+    })?;
+    push_reasons(facts, wish)?;
+    facts.push(Fact::Choice {
+        mismatch: has_mismatch(*object),
+    })?;
+    Ok(())
+}
+
+fn is_request(kind: Kind) -> bool
+    ensures { result ≡ is_request kind }
+{
+    matches!(kind, Kind::Request)
+}
+
+/// The request that starts on the line, if one does that isn't sent once more.
+pub(crate) fn push_started(
+    facts: &mut Vec<Fact>,
+    at: u64,
+    again: bool,
+    wish: &Option<Wish>,
+    start: &Option<Start>,
+) -> Result<(), AllocError>
+    ensures { OnOk result (facts.new.items ≡ facts.old.items ++ started_facts at again wish.now start.now) }
+{
+    if again {
+        return Ok(());
+    }
+    match start {
+        Some(
+            Start::Packet {
+                side: Side::Sink,
+                packet,
+                fate: _,
+            },
+        ) if is_request(header_kind(packet.header())) => {
+            push_request(facts, at, wish, packet.objects())
+        }
+        _ => Ok(()),
+    }
 }

@@ -2,10 +2,9 @@
 
 ghost use Rattle.std.specs.Prelude.{None, OnOk};
 ghost use Rattle.pd_run.specs.Cost.{CostsAllMoves, IsPaid};
-ghost use Rattle.pd_why.specs.Story.{TellsWhy};
+ghost use Rattle.pd_why.specs.Answers.{TellsWhy};
 
-use crate::push_fact_lines;
-use pd_bounds::{Question, facts_of};
+use crate::{Question, facts_of, push_fact_lines};
 use pd_port::Meter;
 use pd_run::Plan;
 use pd_text::Form;

@@ -2,13 +2,13 @@
 
 ghost use Rattle.std.specs.Prelude.{◌≡◌, ◌++◌, OnOk};
 ghost use Rattle.pd_text.specs.Texts.{text_of_all};
-ghost use Rattle.pd_why.specs.Facts.{fact_line, fact_lines, fact_pieces};
+ghost use Rattle.pd_why.specs.Tellings.{fact_line, fact_lines, fact_pieces};
 
+use crate::Fact;
 use crate::idle::push_no_offer;
 use crate::offer::{push_cable, push_free, push_hold, push_offer, push_supply};
 use crate::outcome::{push_change, push_detached, push_fits, push_wrong};
-use crate::request::{push_choice, push_demand, push_need, push_request};
-use pd_bounds::Fact;
+use crate::wants::{push_choice, push_demand, push_need, push_request};
 use pd_text::{Form, begin_line, end_line};
 use std::alloc::AllocError;
 

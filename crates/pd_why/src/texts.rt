@@ -4,14 +4,14 @@ ghost use Rattle.std.specs.Prelude.{◌≡◌, [], IfOk, MatchResult, Some};
 ghost use Rattle.pd_device.specs.declared.fault.BenchFault.TheVariants.{Memory as memory};
 ghost use Rattle.pd_scenario.specs.Plans.{plan_of};
 ghost use Rattle.pd_scene.specs.Scene.{Scene, follows};
-ghost use Rattle.pd_why.specs.Story.{TellsWhy};
+ghost use Rattle.pd_why.specs.Answers.{TellsWhy};
 
+use crate::{Form, Question, why};
 use pd_device::BenchFault;
 use pd_port::Meter;
 use pd_run::Plan;
 use pd_scenario::Scenario;
 use pd_scene::{Job, JobOn, SceneFault, on_scene};
-use crate::{Form, Question, why};
 use std::alloc::{AllocError, Global};
 
 // What is asked, and in which form it is told.

@@ -2,8 +2,8 @@
 
 use crate::Ending;
 use crate::fault::tell;
-use pd_device::BenchFault;
 use pd_bench::{check_text, read_whole};
+use pd_device::BenchFault;
 use std::alloc::Global;
 use std::rt::Files;
 

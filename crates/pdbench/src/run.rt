@@ -2,9 +2,9 @@
 
 use crate::Ending;
 use crate::fault::{tell, tell_refused};
+use pd_bench::{Release, RunFault, read_whole, run_kept_releasing};
 use pd_device::{BenchFault, Output};
 use pd_port::Meter;
-use pd_bench::{Release, RunFault, read_whole, run_kept_releasing};
 use std::alloc::Global;
 use std::io::{BufWriter, Write};
 use std::rt::Files;

@@ -4,10 +4,10 @@ ghost use Rattle.pd_desk.specs.Shelf.{untold};
 
 use crate::Ending;
 use crate::fault::{output, tell, tell_refused, tell_unread};
+use pd_bench::{RunFault, read_whole};
 use pd_desk::{ByteIn, Outlets, Shelf, run_live};
 use pd_device::DeviceFault;
 use pd_port::Meter;
-use pd_bench::{RunFault, read_whole};
 use std::alloc::Global;
 use std::fs::Permissions;
 use std::io::IsTerminal;

@@ -4,11 +4,11 @@ use crate::Ending;
 use crate::fault::{output, tell, tell_scene, tell_twice, tell_unread};
 use crate::script_file::read_input;
 use clap::ArgMatches;
+use pd_bench::read_whole;
 use pd_device::{BenchFault, write_all};
 use pd_expect::{TestReport, TestTally, scenario_name, test_text};
 use pd_explain_text::push_objects;
 use pd_port::Meter;
-use pd_bench::read_whole;
 use std::alloc::{AllocError, Global};
 use std::rt::Files;
 

@@ -1,7 +1,7 @@
 use Rattle.std.proofs.Common.{◌++◌, ◌∙◌, List, ap}
 use Rattle.std.proofs.lemmas.Result.{on_ok_weaker}
-use Rattle.pd_bounds.specs.declared.fact.Fact.{Fact}
-use Rattle.pd_why.specs.Facts.{fact_lines}
+use Rattle.pd_why.specs.declared.fact.Fact.{Fact}
+use Rattle.pd_why.specs.Tellings.{fact_lines}
 use Rattle.pd_why.proofs.run.why.Goals as goal
 
 pub returns-clause-text : goal.returns-clause-text

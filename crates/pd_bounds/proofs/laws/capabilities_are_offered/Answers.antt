@@ -1,5 +1,0 @@
-use Rattle.pd_bounds.proofs.LawLemmas.{capabilities_offered}
-use Rattle.pd_bounds.proofs.laws.capabilities_are_offered.Goals as goal
-
-pub returns : goal.returns
-returns c = capabilities_offered

@@ -1,5 +1,0 @@
-use Rattle.pd_bounds.proofs.LawLemmas.{detaches_told}
-use Rattle.pd_bounds.proofs.laws.detaches_are_told.Goals as goal
-
-pub returns : goal.returns
-returns c = detaches_told

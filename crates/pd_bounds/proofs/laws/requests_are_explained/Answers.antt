@@ -1,5 +1,0 @@
-use Rattle.pd_bounds.proofs.LawLemmas.{requests_explained}
-use Rattle.pd_bounds.proofs.laws.requests_are_explained.Goals as goal
-
-pub returns : goal.returns
-returns c = requests_explained

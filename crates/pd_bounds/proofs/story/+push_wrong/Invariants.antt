@@ -1,5 +1,0 @@
-use Rattle.std.proofs.Common.{length}
-use Rattle.pd_bounds.proofs.story.+push_wrong.Given as goal
-
-abbrev pub decreases-push_wrong : goal.decreases-push_wrong
-decreases-push_wrong l = length l.faults.now
