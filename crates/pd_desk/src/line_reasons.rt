@@ -15,7 +15,7 @@ use std::alloc::{AllocError, Global};
 const LONGEST_LINE: usize = 256;
 
 /// Writes a line for a place.
-#[tactic(auto, unfolding(crate::specs::Reasons::place_line))]
+#[tactic(auto, unfolding(crate::specs::LineReasons::place_line))]
 fn push_place<const N: usize>(
     text: &mut Vec<u8>,
     scenario: &Scenario<N>,
@@ -81,7 +81,7 @@ fn push_show<const N: usize>(
 }
 
 /// Writes why a line is none of an edit script.
-#[tactic(auto, unfolding(crate::specs::Reasons::no_line_text))]
+#[tactic(auto, unfolding(crate::specs::LineReasons::no_line_text))]
 fn push_no_line(text: &mut Vec<u8>, line: &[u8]) -> Result<(), AllocError>
     ensures { OnOk result (text.new.items ≡ text.old.items ++ no_line_text line.now) }
 {
@@ -98,7 +98,7 @@ fn push_no_line(text: &mut Vec<u8>, line: &[u8]) -> Result<(), AllocError>
 ///
 /// # Errors
 /// There is no memory for it; some of it may stand in the text.
-#[tactic(auto, unfolding(crate::specs::Reasons::reasons_text))]
+#[tactic(auto, unfolding(crate::specs::LineReasons::reasons_text))]
 pub fn push_reasons<const N: usize>(
     alloc: Global,
     text: &mut Vec<u8>,

@@ -12,7 +12,7 @@ use pd_setup::Settings;
 use std::alloc::AllocError;
 
 /// Writes the end and the budget.
-#[tactic(auto, unfolding(crate::specs::Lines::top_lines))]
+#[tactic(auto, unfolding(crate::specs::EditLines::top_lines))]
 pub(crate) fn push_top<const N: usize>(
     text: &mut Vec<u8>,
     scenario: &Scenario<N>,
@@ -26,7 +26,7 @@ pub(crate) fn push_top<const N: usize>(
     text.extend_from_slice(b"\n")
 }
 
-#[tactic(auto, unfolding(crate::specs::Lines::port_lines))]
+#[tactic(auto, unfolding(crate::specs::EditLines::port_lines))]
 fn push_port(text: &mut Vec<u8>, number: u64, port: &Settings) -> Result<(), AllocError>
     ensures { OnOk result (text.new.items ≡ text.old.items ++ port_lines number port.now) }
 {
@@ -48,7 +48,7 @@ fn push_power_end(text: &mut Vec<u8>, unconstrained: bool) -> Result<(), AllocEr
     text.extend_from_slice(b"\n")
 }
 
-#[tactic(auto, unfolding(crate::specs::Lines::fixed_words))]
+#[tactic(auto, unfolding(crate::specs::EditLines::fixed_words))]
 fn push_fixed_words(text: &mut Vec<u8>, port: &Settings) -> Result<(), AllocError>
     ensures { OnOk result (text.new.items ≡ text.old.items ++ fixed_words port.now) }
 {
@@ -58,7 +58,7 @@ fn push_fixed_words(text: &mut Vec<u8>, port: &Settings) -> Result<(), AllocErro
 }
 
 /// Writes what no line of an edit script sets, as a comment.
-#[tactic(auto, unfolding(crate::specs::Lines::port_comment))]
+#[tactic(auto, unfolding(crate::specs::EditLines::port_comment))]
 fn push_port_comment(text: &mut Vec<u8>, number: u64, port: &Settings) -> Result<(), AllocError>
     ensures { OnOk result (text.new.items ≡ text.old.items ++ port_comment number port.now) }
 {
@@ -84,7 +84,7 @@ pub(crate) fn push_ports(
     push_ports(text, first + 1, others)
 }
 
-#[tactic(auto, unfolding(crate::specs::Lines::cable_line))]
+#[tactic(auto, unfolding(crate::specs::EditLines::cable_line))]
 fn push_cable(text: &mut Vec<u8>, cable: &NamedCable) -> Result<(), AllocError>
     ensures { OnOk result (text.new.items ≡ text.old.items ++ cable_line cable.now) }
 {
@@ -105,7 +105,7 @@ pub(crate) fn push_cables(text: &mut Vec<u8>, cables: &[NamedCable]) -> Result<(
     Ok(())
 }
 
-#[tactic(auto, unfolding(crate::specs::Lines::sink_line))]
+#[tactic(auto, unfolding(crate::specs::EditLines::sink_line))]
 fn push_sink(text: &mut Vec<u8>, sink: &NamedSink) -> Result<(), AllocError>
     ensures { OnOk result (text.new.items ≡ text.old.items ++ sink_line sink.now) }
 {
@@ -128,7 +128,7 @@ pub(crate) fn push_sinks(text: &mut Vec<u8>, sinks: &[NamedSink]) -> Result<(), 
     Ok(())
 }
 
-#[tactic(auto, unfolding(crate::specs::Lines::event_line))]
+#[tactic(auto, unfolding(crate::specs::EditLines::event_line))]
 fn push_event(text: &mut Vec<u8>, event: &ScenarioEvent) -> Result<(), AllocError>
     ensures { OnOk result (text.new.items ≡ text.old.items ++ event_line event.now) }
 {

@@ -27,7 +27,7 @@ pub(crate) fn push_number(text: &mut Vec<u8>, number: u64) -> Result<(), AllocEr
     push_word(text, buffer.format(number))
 }
 
-#[tactic(auto, unfolding(crate::specs::Words::supply_words))]
+#[tactic(auto, unfolding(crate::specs::EditWords::supply_words))]
 fn push_supply(text: &mut Vec<u8>, supply: &Supply) -> Result<(), AllocError>
     ensures { OnOk result (text.new.items ≡ text.old.items ++ supply_words supply.now) }
 {

@@ -34,7 +34,7 @@ fn in_order(alloc: Global, events: &[ScenarioEvent]) -> Result<Vec<ScenarioEvent
 ///
 /// # Errors
 /// There is no memory.
-#[tactic(auto, unfolding(crate::specs::Lines::list_text))]
+#[tactic(auto, unfolding(crate::specs::EditLines::list_text))]
 pub fn list_scenario<const N: usize>(
     alloc: Global,
     scenario: &Scenario<N>,

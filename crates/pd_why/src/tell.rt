@@ -67,7 +67,7 @@ fn push_fact_line(text: &mut Vec<u8>, form: Form, fact: &Fact) -> Result<(), All
 ///
 /// # Errors
 /// There is no memory; some of it may stand in the text.
-#[tactic(auto, unfolding(crate::specs::Facts::fact_lines))]
+#[tactic(auto, unfolding(crate::specs::Tellings::fact_lines))]
 pub fn push_fact_lines(text: &mut Vec<u8>, form: Form, facts: &[Fact]) -> Result<(), AllocError>
     ensures { OnOk result (text.new.items ≡ text.old.items ++ fact_lines form facts.now) }
 {
