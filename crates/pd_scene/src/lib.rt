@@ -1,7 +1,7 @@
 //! Scenes: the scenario that a text is, as an edit script leaves it, handed to one job.
 #![tactic(auto)]
 
-mod follow;
+mod edits;
 mod followed;
 mod job;
 mod lines;
@@ -10,7 +10,7 @@ mod outlet;
 mod scene;
 mod script;
 
-pub use follow::follow;
+pub use edits::follow;
 pub use followed::on_scene;
 pub use job::{Job, JobOn};
 pub use lines::first_line;

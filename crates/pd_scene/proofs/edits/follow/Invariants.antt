@@ -1,7 +1,7 @@
 use Rattle.std.proofs.Common.{◌≡◌, length}
 use Rattle.std.specs.Str.Lines.{lines}
 use Rattle.pd_scene.specs.Script.{followed}
-use Rattle.pd_scene.proofs.follow.follow.Given as goal
+use Rattle.pd_scene.proofs.edits.follow.Given as goal
 
 abbrev pub invariant-loop-line : goal.invariant-loop-line
 invariant-loop-line g l = followed g.row.N l.initial.scenario (lines l.script) ≡ followed g.row.N l.scenario (lines l.rest)

@@ -1,5 +1,5 @@
 use Rattle.pd_scene.proofs.ScriptLines.{more_followed, all_followed}
-use Rattle.pd_scene.proofs.follow.follow.Goals as goal
+use Rattle.pd_scene.proofs.edits.follow.Goals as goal
 
 pub loop-line-preserved : goal.loop-line-preserved
 loop-line-preserved g c =
