@@ -1,3 +1,4 @@
 mod Keys
 mod Listed
 mod Pairs
+mod Whole

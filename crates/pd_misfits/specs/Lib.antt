@@ -1,4 +1,5 @@
 pub mod Hints
+pub mod Laws
 pub mod Lines
 pub mod Sentences
 pub mod Supplies

@@ -4,6 +4,7 @@
 mod event;
 mod file;
 mod hints;
+pub mod laws;
 mod supplies;
 mod table;
 mod text;
