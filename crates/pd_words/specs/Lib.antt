@@ -1,3 +1,6 @@
 pub mod Found
+pub mod Lab
+pub mod LabTasks
+pub mod Names
 pub mod Program
 pub mod Tasks

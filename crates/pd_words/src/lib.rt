@@ -1,7 +1,16 @@
 //! What the words of a command line ask for.
 #![tactic(auto)]
 
+mod lab;
+mod lab_task;
+mod lab_words;
+mod names;
 mod program;
 mod task;
 
+pub use lab_task::{
+    DrawOptions, Form, LabFault, LabTask, Scene, ShowOptions, SweepOptions, Wanted, WhyOptions,
+    Window,
+};
+pub use lab_words::read_lab_task;
 pub use task::{Task, WordsFault, read_task};

@@ -43,7 +43,7 @@ fn fault_by(kind: ErrorKind) -> WordsFault
 }
 
 /// The first value of an argument.
-fn first<'a>(matches: &ArgMatches<'a>, id: &str) -> Option<&'a str>
+pub fn first<'a>(matches: &ArgMatches<'a>, id: &str) -> Option<&'a str>
     ensures { option_map (λ x. x.now) result ≡ first_of id.now (rows_of (found_of matches.now)) }
 {
     matches.get_str(id)

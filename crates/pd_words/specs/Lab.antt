@@ -1,0 +1,78 @@
+-- The command line of `pdlab`: its commands, each with its words and options.
+use Rattle.std.specs.Prelude.{true, false, List, [], ◌∷◌, codes, Some}
+use Rattle.clap.specs.Words.{App, Rule, Shape, Text, new_rule, with_subcommand}
+use Rattle.clap.specs.Simple.{new_shape}
+use Rattle.clap.specs.declared.builder.action.ArgAction.TheVariants.{Set, SetTrue, Append}
+use Rattle.pd_words.specs.declared.lab.Slot.{Slot}
+use Rattle.pd_words.specs.declared.lab.Slot.TheVariants as slot
+
+-- ---- what stands behind a command's name
+
+-- a word that has to be there, one that may be there, and one word or more
+abbrev pub must : Text → Rule
+must name = record (new_rule name) { required = true; action = Some Set }
+
+abbrev pub may : Text → Rule
+may name = record (new_rule name) { action = Some Set }
+
+abbrev pub several : Text → Rule
+several name = record (new_rule name) { required = true; action = Some Append }
+
+-- an option with a word behind it, as `--port 2` or `--port=2`, and one that is alone
+abbrev pub value : Text → Rule
+value name = record (new_rule name) { long = Some name; action = Some Set }
+
+abbrev pub flag : Text → Rule
+flag name = record (new_rule name) { long = Some name; action = Some SetTrue }
+
+abbrev pub rule : Slot → Rule
+rule (slot.Must name) = must name.now
+rule (slot.May name) = may name.now
+rule (slot.Several name) = several name.now
+rule (slot.Value name) = value name.now
+rule (slot.Flag name) = flag name.now
+
+-- ---- the commands
+
+abbrev pub command : Text → List Rule → Shape
+command name rules = record (new_shape name) { rules = rules }
+
+abbrev pub live : Shape
+live = command (codes "live") (must (codes "SCENARIO") ∷ [])
+
+abbrev pub show : Shape
+show = command (codes "show") (must (codes "SCENARIO") ∷ may (codes "EDITS")
+    ∷ value (codes "port") ∷ value (codes "from") ∷ value (codes "to") ∷ flag (codes "no-goodcrc") ∷ flag (codes "codes")
+    ∷ flag (codes "json") ∷ flag (codes "csv") ∷ [])
+
+abbrev pub why : Shape
+why = command (codes "why") (must (codes "SCENARIO") ∷ must (codes "EDITS") ∷ must (codes "PORT") ∷ may (codes "AT")
+    ∷ flag (codes "json") ∷ [])
+
+abbrev pub sweep : Shape
+sweep = command (codes "sweep") (must (codes "SCENARIO") ∷ may (codes "EDITS")
+    ∷ value (codes "port") ∷ value (codes "from") ∷ value (codes "to") ∷ value (codes "kind") ∷ flag (codes "damage")
+    ∷ value (codes "in-a-row") ∷ value (codes "reserve") ∷ flag (codes "json") ∷ flag (codes "csv") ∷ [])
+
+abbrev pub test : Shape
+test = command (codes "test") (several (codes "SCRIPT") ∷ flag (codes "json") ∷ [])
+
+abbrev pub draw : Shape
+draw = command (codes "draw") (must (codes "SCENARIO") ∷ may (codes "EDITS")
+    ∷ value (codes "port") ∷ value (codes "from") ∷ value (codes "to") ∷ value (codes "width") ∷ [])
+
+abbrev pub explain : Shape
+explain = command (codes "explain") (must (codes "SCENARIO") ∷ may (codes "EDITS") ∷ flag (codes "json") ∷ [])
+
+abbrev pub decode : Shape
+decode = command (codes "decode") (may (codes "FILE") ∷ flag (codes "json") ∷ [])
+
+-- beside these clap has `help`, `--help` and `-h`
+unfoldable pub lab : App
+lab = record {
+  top = record (new_shape (codes "pdlab")) { is_leaf = false };
+  subs = live ∷ show ∷ why ∷ sweep ∷ test ∷ draw ∷ explain ∷ decode ∷ [];
+}
+
+abbrev pub with_command : App → Text → List Rule → App
+with_command app name rules = with_subcommand app (command name rules)

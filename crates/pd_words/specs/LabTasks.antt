@@ -1,0 +1,175 @@
+-- What a command line of `pdlab` asks for, by the words and options that clap finds in it (`Lab`).
+use Rattle.std.specs.Prelude.{ℕ, ◌+◌, ◌-◌, ◌^◌, ◌==◌, ◌&&◌, Bool, true, false, not, List, [], ◌∷◌, codes, bytes_eq, length, map}
+use Rattle.std.specs.Prelude.{Option, None, Some, option_and_then, option_map, unwrap_or, min, count_by, nat_lt, if◌then◌else◌}
+use Rattle.std.specs.Char.{digit_value}
+use Rattle.std.specs.List.{list_all}
+use Rattle.std.specs.Option.{option_map_or}
+use Rattle.std.specs.Str.Parse.{digits_value, without_leading_plus}
+use Rattle.clap.specs.Words.{Row, Text, all_of, first_of, fault_of, subcommand_of}
+use Rattle.clap.specs.Kinds.{Kinds}
+use Rattle.pd_header.specs.declared.kind.Kind.{Kind}
+use Rattle.pd_words.specs.Lab.{lab}
+use Rattle.pd_words.specs.Names.{named}
+use Rattle.pd_words.specs.declared.lab_task.DrawOptions.{DrawOptions}
+use Rattle.pd_words.specs.declared.lab_task.Form.{Form}
+use Rattle.pd_words.specs.declared.lab_task.Form.TheVariants.{Words, Json, Csv}
+use Rattle.pd_words.specs.declared.lab_task.LabTask.{LabTask}
+use Rattle.pd_words.specs.declared.lab_task.LabTask.TheVariants as task
+use Rattle.pd_words.specs.declared.lab_task.Scene.{Scene}
+use Rattle.pd_words.specs.declared.lab_task.ShowOptions.{ShowOptions}
+use Rattle.pd_words.specs.declared.lab_task.SweepOptions.{SweepOptions}
+use Rattle.pd_words.specs.declared.lab_task.WhyOptions.{WhyOptions}
+use Rattle.pd_words.specs.declared.lab_task.Window.{Window}
+
+-- a scenario's file, and an edit script's where one is named
+abbrev pub Files : Type 0
+Files = Text × Option Text
+
+-- ---- what may be asked
+
+pub data Asked : Type 0 where
+  live : (scenario : Text) → Asked
+  show : Files → ShowOptions → Asked
+  why : Files → WhyOptions → Asked
+  sweep : Files → SweepOptions → Asked
+  test : (scripts : List Text) → (json : Bool) → Asked
+  draw : Files → DrawOptions → Asked
+  explain : Files → (json : Bool) → Asked
+  decode : (file : Text) → (json : Bool) → Asked
+
+-- ---- a word or an option, by what was found
+
+-- the option is there
+abbrev pub is_on : Text → List Row → Bool
+is_on option rows = option_map_or (λ word. bytes_eq word (codes "true")) (first_of option rows) false
+
+-- the word is decimal digits, a plus before them or not, for a number below 2^64
+abbrev pub is_number : Text → Bool
+is_number word = let digits = without_leading_plus word in
+    nat_lt 0 (length digits) && list_all (λ d. nat_lt (digit_value d) 10) digits && nat_lt (digits_value 10 digits) (2 ^ 64)
+
+abbrev pub number : Text → Option ℕ
+number word = if is_number word then Some (digits_value 10 (without_leading_plus word)) else None
+
+-- what a word gives that may be left out
+abbrev pub given_by : {T : Type 0} → (Text → Option T) → Option Text → Option (Option T)
+given_by reads None = Some None
+given_by reads (Some word) = option_map (λ value. Some value) (reads word)
+
+abbrev pub number_of : Text → List Row → Option (Option ℕ)
+number_of name rows = given_by number (first_of name rows)
+
+-- standard input is named more than once among the files
+abbrev pub is_twice : List Text → Bool
+is_twice files = nat_lt 1 (count_by (λ file. bytes_eq file (codes "-")) files)
+
+abbrev pub scene_with : Option Text → Text → Option Files
+scene_with edits scenario =
+    if is_twice (scenario ∷ unwrap_or edits [] ∷ []) then None else Some (scenario, edits)
+
+abbrev pub scene_by : List Row → Option Files
+scene_by rows = option_and_then (scene_with (first_of (codes "EDITS") rows)) (first_of (codes "SCENARIO") rows)
+
+-- times reach from 0 to the greatest, where they are left out
+abbrev pub window_by : List Row → Option Window
+window_by rows =
+    option_and_then (λ port. option_and_then (λ from. option_map (λ to.
+    record { port = port; from = unwrap_or from 0; to = unwrap_or to (2 ^ 64 - 1) })
+    (number_of (codes "to") rows)) (number_of (codes "from") rows)) (number_of (codes "port") rows)
+
+-- not both as JSON and as values
+abbrev pub form_by : List Row → Option Form
+form_by rows = if is_on (codes "json") rows then (if is_on (codes "csv") rows then None else Some Json)
+    else (if is_on (codes "csv") rows then Some Csv else Some Words)
+
+-- how many packets behind each, of as many in a row
+abbrev pub behind_with : Option ℕ → Option ℕ
+behind_with None = Some 0
+behind_with (Some count) = if nat_lt 0 count && nat_lt count 9 then Some (count - 1) else None
+
+abbrev pub behind_by : List Row → Option ℕ
+behind_by rows = option_and_then behind_with (number_of (codes "in-a-row") rows)
+
+-- ---- the commands, by what was found
+
+abbrev pub live_by : List Row → Option Asked
+live_by rows = option_and_then (λ scenario. if is_twice (scenario ∷ codes "-" ∷ []) then None else Some (live scenario))
+    (first_of (codes "SCENARIO") rows)
+
+abbrev pub show_by : List Row → Option Asked
+show_by rows = option_and_then (λ files. option_and_then (λ window. option_map (λ form. show files (record {
+  window = window;
+  good_crc = not (is_on (codes "no-goodcrc") rows);
+  codes = is_on (codes "codes") rows;
+  form = form;
+})) (form_by rows)) (window_by rows)) (scene_by rows)
+
+abbrev pub why_by : List Row → Option Asked
+why_by rows = option_and_then (λ files. option_and_then (λ port. option_map (λ at. why files (record {
+  port = unwrap_or port 0;
+  at = at;
+  json = is_on (codes "json") rows;
+})) (number_of (codes "AT") rows)) (number_of (codes "PORT") rows)) (scene_by rows)
+
+abbrev pub sweep_by : List Row → Option Asked
+sweep_by rows = option_and_then (λ files. option_and_then (λ window. option_and_then (λ reserve. option_and_then (λ kind.
+    option_and_then (λ behind. option_map (λ form. sweep files (record {
+      window = window;
+      kind = kind;
+      damage = is_on (codes "damage") rows;
+      behind = behind;
+      reserve = reserve;
+      form = form;
+    })) (form_by rows)) (behind_by rows)) (given_by named (first_of (codes "kind") rows))) (number_of (codes "reserve") rows))
+    (window_by rows)) (scene_by rows)
+
+abbrev pub test_by : List Row → Option Asked
+test_by rows = option_and_then (λ scripts. if is_twice scripts then None else Some (test scripts (is_on (codes "json") rows)))
+    (all_of (codes "SCRIPT") rows)
+
+-- a picture is 1,200 pixels wide where nothing else is asked, and never more than 2^32 - 1
+abbrev pub draw_by : List Row → Option Asked
+draw_by rows = option_and_then (λ files. option_and_then (λ window. option_map (λ width.
+    draw files (record { window = window; width = min (unwrap_or width 1200) (2 ^ 32 - 1) }))
+    (number_of (codes "width") rows)) (window_by rows)) (scene_by rows)
+
+abbrev pub explain_by : List Row → Option Asked
+explain_by rows = option_map (λ files. explain files (is_on (codes "json") rows)) (scene_by rows)
+
+-- standard input where no file is named
+abbrev pub decode_by : List Row → Option Asked
+decode_by rows = Some (decode (unwrap_or (first_of (codes "FILE") rows) (codes "-")) (is_on (codes "json") rows))
+
+abbrev pub asked_by : Text × List Row → Option Asked
+asked_by found = if bytes_eq found.0 (codes "live") then live_by found.1
+    else (if bytes_eq found.0 (codes "show") then show_by found.1
+    else (if bytes_eq found.0 (codes "why") then why_by found.1
+    else (if bytes_eq found.0 (codes "sweep") then sweep_by found.1
+    else (if bytes_eq found.0 (codes "test") then test_by found.1
+    else (if bytes_eq found.0 (codes "draw") then draw_by found.1
+    else (if bytes_eq found.0 (codes "explain") then explain_by found.1
+    else (if bytes_eq found.0 (codes "decode") then decode_by found.1 else None)))))))
+
+-- ---- a whole line: words that clap takes, and what the command is that they name
+
+abbrev pub asked_unless : Kinds → Option (Text × List Row) → Option Asked
+asked_unless [] found = option_and_then asked_by found
+asked_unless (kind ∷ kinds) found = None
+
+unfoldable pub lab_asked : List Text → Option Asked
+lab_asked words = asked_unless (fault_of lab words) (subcommand_of lab words)
+
+-- ---- what a task asks for, by its texts
+
+abbrev pub files : Scene → Files
+files scene = (scene.scenario.now, option_map (λ x. x.now) scene.edits)
+
+abbrev pub asked : LabTask → Asked
+asked (task.Live scenario) = live scenario.now
+asked (task.Show scene options) = show (files scene) options
+asked (task.Why scene options) = why (files scene) options
+asked (task.Sweep scene options) = sweep (files scene) options
+asked (task.Test scripts json) = test (map (λ x. x.now) scripts.items) json
+asked (task.Draw scene options) = draw (files scene) options
+asked (task.Explain scene json) = explain (files scene) json
+asked (task.Decode file json) = decode file.now json

@@ -1,0 +1,110 @@
+//! What a command line of `pdlab` may ask for, and why it asks for nothing.
+
+use pd_header::Kind;
+
+/// The files of a command that is about one charger; the name `-` is standard input.
+#[derive(Clone, Copy)]
+pub struct Scene<'a> {
+    pub scenario: &'a str,
+    /// The edit script that is followed first, where there is one.
+    pub edits: Option<&'a str>,
+}
+
+/// A part of a run: of one port, numbered from 1, or of all, and from one time to another, in microseconds.
+#[derive(Clone, Copy)]
+pub struct Window {
+    pub port: Option<usize>,
+    pub from: u64,
+    pub to: u64,
+}
+
+/// How something is told.
+#[derive(Clone, Copy)]
+pub enum Form {
+    Words,
+    Json,
+    Csv,
+}
+
+/// How a run is shown: with the GoodCRC messages or without, and with the codes on the line or without.
+#[derive(Clone, Copy)]
+pub struct ShowOptions {
+    pub window: Window,
+    pub good_crc: bool,
+    pub codes: bool,
+    pub form: Form,
+}
+
+/// What is asked of a port: its last offer, or each one up to a time in microseconds; as JSON objects, or in words.
+#[derive(Clone, Copy)]
+pub struct WhyOptions {
+    pub port: usize,
+    pub at: Option<u64>,
+    pub json: bool,
+}
+
+/// Which packets are lost in turn, or damaged: those of a part of a run, or those of them that are of one kind; each with so many
+/// behind it on its port. What is left of the budget is to be so many milliwatts at the least, where that is asked.
+#[derive(Clone, Copy)]
+pub struct SweepOptions {
+    pub window: Window,
+    pub kind: Option<Kind>,
+    pub damage: bool,
+    pub behind: u64,
+    pub reserve: Option<u64>,
+    pub form: Form,
+}
+
+/// What is drawn of a run, so many pixels wide.
+#[derive(Clone, Copy)]
+pub struct DrawOptions {
+    pub window: Window,
+    pub width: u32,
+}
+
+/// What a command line asks for, by the name of its command. The last value of some tells whether JSON objects are wanted.
+#[derive(Drop)]
+pub enum LabTask<'a> {
+    /// A session at the keyboard, for the scenario of a file.
+    Live(&'a str),
+    /// A run as an engineer reads it.
+    Show(Scene<'a>, ShowOptions),
+    /// What bounds a port.
+    Why(Scene<'a>, WhyOptions),
+    /// What a lost packet leads to.
+    Sweep(Scene<'a>, SweepOptions),
+    /// Whether runs are as test scripts expect them.
+    Test(Vec<&'a str>, bool),
+    /// A picture of a run.
+    Draw(Scene<'a>, DrawOptions),
+    /// Why a scenario or lines of its edit script are refused.
+    Explain(Scene<'a>, bool),
+    /// What the lines of a log say.
+    Decode(&'a str, bool),
+}
+
+/// A number that a command may be given: its name in the help, and what it may be.
+#[derive(Clone, Copy)]
+pub struct Wanted {
+    pub name: &'static str,
+    pub range: &'static str,
+}
+
+/// Why a command line asks for nothing.
+#[derive(Drop)]
+pub enum LabFault<'a> {
+    /// It asks how the program is used, or the command of this name.
+    Help(&'a str),
+    /// There is no memory to read it.
+    Memory,
+    /// Its words are others; a sentence says which is wrong, where that is known.
+    Words(Option<String>),
+    /// An option that excludes another one was given with it.
+    Both(&'static str, &'static str),
+    /// A word isn't the number that is wanted there.
+    Number { wanted: Wanted, word: &'a str },
+    /// No message has this name.
+    Kind(&'a str),
+    /// Standard input is named for two things.
+    Twice,
+}

@@ -1,0 +1,424 @@
+//! The task that the words of a command line of `pdlab` ask for.
+
+ghost use Rattle.std.specs.Prelude.{◌≡◌, ◌⊎◌, IfErr, IfOk, None, Some, codes, map, option_and_then, option_map};
+ghost use Rattle.std.specs.Result.{result_ok};
+ghost use Rattle.std.specs.String.{string_bytes};
+ghost use Rattle.clap.specs.Words.{all_of, first_of, found_of, kind_of, rows_of, subcommand_rows_of};
+ghost use Rattle.pd_words.specs.LabTasks.{asked, asked_by, behind_by, decode_by, draw_by, explain_by, files, form_by, given_by};
+ghost use Rattle.pd_words.specs.LabTasks.{is_on, is_twice, lab_asked, live_by, number_of, scene_by, show_by, sweep_by, test_by};
+ghost use Rattle.pd_words.specs.LabTasks.{why_by, window_by};
+ghost use Rattle.pd_words.specs.Names.{named};
+
+use crate::lab::lab;
+use crate::lab_task::{
+    DrawOptions, Form, LabFault, LabTask, Scene, ShowOptions, SweepOptions, Wanted, WhyOptions,
+    Window,
+};
+use crate::names::named;
+use crate::task::first;
+use clap::error::ErrorKind;
+use clap::{ArgMatches, Error};
+use pd_header::Kind;
+use std::alloc::Global;
+
+/// The values of an argument, of all its uses.
+fn all<'a, 'b>(matches: &'b ArgMatches<'a>, id: &str) -> Option<&'b [&'a str]>
+    ensures { option_map (λ values. map (λ value. value.now) values.now) result ≡ all_of id.now (rows_of (found_of matches.now)) }
+{
+    matches.get_strs(id)
+}
+
+/// Whether an option is there.
+fn is_on(matches: &ArgMatches<'_>, option: &str) -> bool
+    ensures { result ≡ is_on option.now (rows_of (found_of matches.now)) }
+{
+    match first(matches, option) {
+        Some(word) => word == "true",
+        None => false,
+    }
+}
+
+/// A number that may be left out.
+///
+/// # Errors
+/// The word isn't decimal digits for a number below 2^64.
+fn number_of<'a>(
+    matches: &ArgMatches<'a>,
+    id: &str,
+    wanted: Wanted,
+) -> Result<Option<u64>, LabFault<'a>>
+    ensures { result_ok result ≡ number_of id.now (rows_of (found_of matches.now)) }
+{
+    let Some(word) = first(matches, id) else {
+        return Ok(None);
+    };
+    match word.parse::<u64>() {
+        Ok(number) => Ok(Some(number)),
+        Err(_) => Err(LabFault::Number { wanted, word }),
+    }
+}
+
+const PORTS: &str = "the number of a port, 1 to 8";
+
+const TIMES: &str = "a time in microseconds, 0 to 18446744073709551615";
+
+/// The options behind which a number stands.
+const PORT: Wanted = Wanted {
+    name: "--port",
+    range: PORTS,
+};
+
+const FROM: Wanted = Wanted {
+    name: "--from",
+    range: TIMES,
+};
+
+const TO: Wanted = Wanted {
+    name: "--to",
+    range: TIMES,
+};
+
+const WIDTH: Wanted = Wanted {
+    name: "--width",
+    range: "a width in pixels, 1000 to 10000",
+};
+
+const IN_A_ROW: Wanted = Wanted {
+    name: "--in-a-row",
+    range: "a count of packets, 1 to 8",
+};
+
+const RESERVE: Wanted = Wanted {
+    name: "--reserve",
+    range: "a power in milliwatts, 0 to 18446744073709551615",
+};
+
+/// The words that are numbers.
+const PORT_WORD: Wanted = Wanted {
+    name: "PORT",
+    range: PORTS,
+};
+
+const AT: Wanted = Wanted {
+    name: "AT",
+    range: TIMES,
+};
+
+/// The number of a port that may be left out.
+///
+/// # Errors
+/// The word is no number.
+fn port_of<'a>(
+    matches: &ArgMatches<'a>,
+    id: &str,
+    wanted: Wanted,
+) -> Result<Option<usize>, LabFault<'a>>
+    ensures { result_ok result ≡ number_of id.now (rows_of (found_of matches.now)) }
+{
+    match number_of(matches, id, wanted)? {
+        None => Ok(None),
+        Some(port) => Ok(Some(port as usize)),
+    }
+}
+
+/// Whether standard input is named more than once.
+fn is_twice(files: &[&str]) -> bool
+    ensures { result ≡ is_twice (map (λ file. file.now) files.now) }
+{
+    files.iter().filter(|file| **file == "-").count() > 1
+}
+
+/// The files of a command that is about one charger.
+///
+/// # Errors
+/// Both are standard input.
+fn scene_of<'a>(matches: &ArgMatches<'a>) -> Result<Scene<'a>, LabFault<'a>>
+    ensures { option_map files (result_ok result) ≡ scene_by (rows_of (found_of matches.now)) }
+{
+    let Some(scenario) = first(matches, "SCENARIO") else {
+        return Err(LabFault::Words(None));
+    };
+    let edits = first(matches, "EDITS");
+    if is_twice(&[scenario, edits.unwrap_or("")]) {
+        return Err(LabFault::Twice);
+    }
+    Ok(Scene { scenario, edits })
+}
+
+/// The part of a run that options choose.
+///
+/// # Errors
+/// One of the numbers is none.
+fn window_of<'a>(matches: &ArgMatches<'a>) -> Result<Window, LabFault<'a>>
+    ensures { result_ok result ≡ window_by (rows_of (found_of matches.now)) }
+{
+    let port = port_of(matches, "port", PORT)?;
+    let from = number_of(matches, "from", FROM)?;
+    let to = number_of(matches, "to", TO)?;
+    Ok(Window {
+        port,
+        from: from.unwrap_or(0),
+        to: to.unwrap_or(u64::MAX),
+    })
+}
+
+/// How it is to be told.
+///
+/// # Errors
+/// It is asked for both as JSON and as values.
+fn form_of<'a>(matches: &ArgMatches<'a>) -> Result<Form, LabFault<'a>>
+    ensures { result_ok result ≡ form_by (rows_of (found_of matches.now)) }
+{
+    match (is_on(matches, "json"), is_on(matches, "csv")) {
+        (true, true) => Err(LabFault::Both("--json", "--csv")),
+        (true, false) => Ok(Form::Json),
+        (false, true) => Ok(Form::Csv),
+        (false, false) => Ok(Form::Words),
+    }
+}
+
+/// The message that is named, where one is.
+///
+/// # Errors
+/// No message has the name.
+fn kind_of<'a>(matches: &ArgMatches<'a>) -> Result<Option<Kind>, LabFault<'a>>
+    ensures { result_ok result ≡ given_by named (first_of (codes "kind") (rows_of (found_of matches.now))) }
+{
+    match first(matches, "kind") {
+        None => Ok(None),
+        Some(name) => match named(name) {
+            Some(kind) => Ok(Some(kind)),
+            None => Err(LabFault::Kind(name)),
+        },
+    }
+}
+
+/// How many packets behind each are harmed too: the words say how many in a row.
+///
+/// # Errors
+/// That is no number from 1 to 8.
+fn behind_of<'a>(matches: &ArgMatches<'a>) -> Result<u64, LabFault<'a>>
+    ensures { result_ok result ≡ behind_by (rows_of (found_of matches.now)) }
+{
+    match number_of(matches, "in-a-row", IN_A_ROW)? {
+        None => Ok(0),
+        Some(count) if 0 < count && count < 9 => Ok(count - 1),
+        Some(_) => {
+            let word = first(matches, "in-a-row").unwrap_or("");
+            Err(LabFault::Number {
+                wanted: IN_A_ROW,
+                word,
+            })
+        }
+    }
+}
+
+/// `live SCENARIO`
+fn live_of<'a>(matches: &ArgMatches<'a>) -> Result<LabTask<'a>, LabFault<'a>>
+    ensures { option_map asked (result_ok result) ≡ live_by (rows_of (found_of matches.now)) }
+{
+    match first(matches, "SCENARIO") {
+        None => Err(LabFault::Words(None)),
+        Some(scenario) if is_twice(&[scenario, "-"]) => Err(LabFault::Twice),
+        Some(scenario) => Ok(LabTask::Live(scenario)),
+    }
+}
+
+/// `show SCENARIO [EDITS]`
+fn show_of<'a>(matches: &ArgMatches<'a>) -> Result<LabTask<'a>, LabFault<'a>>
+    ensures { option_map asked (result_ok result) ≡ show_by (rows_of (found_of matches.now)) }
+{
+    let scene = scene_of(matches)?;
+    let options = ShowOptions {
+        window: window_of(matches)?,
+        good_crc: !is_on(matches, "no-goodcrc"),
+        codes: is_on(matches, "codes"),
+        form: form_of(matches)?,
+    };
+    Ok(LabTask::Show(scene, options))
+}
+
+/// `why SCENARIO EDITS PORT [AT]`
+fn why_of<'a>(matches: &ArgMatches<'a>) -> Result<LabTask<'a>, LabFault<'a>>
+    ensures { option_map asked (result_ok result) ≡ why_by (rows_of (found_of matches.now)) }
+{
+    let scene = scene_of(matches)?;
+    let options = WhyOptions {
+        port: port_of(matches, "PORT", PORT_WORD)?.unwrap_or(0),
+        at: number_of(matches, "AT", AT)?,
+        json: is_on(matches, "json"),
+    };
+    Ok(LabTask::Why(scene, options))
+}
+
+/// `sweep SCENARIO [EDITS]`
+fn sweep_of<'a>(matches: &ArgMatches<'a>) -> Result<LabTask<'a>, LabFault<'a>>
+    ensures { option_map asked (result_ok result) ≡ sweep_by (rows_of (found_of matches.now)) }
+{
+    let (scene, window) = (scene_of(matches)?, window_of(matches)?);
+    let reserve = number_of(matches, "reserve", RESERVE)?;
+    let options = SweepOptions {
+        window,
+        reserve,
+        kind: kind_of(matches)?,
+        damage: is_on(matches, "damage"),
+        behind: behind_of(matches)?,
+        form: form_of(matches)?,
+    };
+    Ok(LabTask::Sweep(scene, options))
+}
+
+/// `draw SCENARIO [EDITS]`
+fn draw_of<'a>(matches: &ArgMatches<'a>) -> Result<LabTask<'a>, LabFault<'a>>
+    ensures { option_map asked (result_ok result) ≡ draw_by (rows_of (found_of matches.now)) }
+{
+    let (scene, window) = (scene_of(matches)?, window_of(matches)?);
+    let width = number_of(matches, "width", WIDTH)?.unwrap_or(1_200);
+    let width = u32::try_from(width).unwrap_or(u32::MAX);
+    Ok(LabTask::Draw(scene, DrawOptions { window, width }))
+}
+
+/// `test SCRIPT..`
+fn test_of<'a>(alloc: Global, matches: &ArgMatches<'a>) -> Result<LabTask<'a>, LabFault<'a>>
+    ensures ok { IfOk result (λ task. test_by (rows_of (found_of matches.now)) ≡ Some (asked task)) }
+    ensures err { IfErr result (λ fault. (fault ≡ LabFault.Memory) ⊎ (test_by (rows_of (found_of matches.now)) ≡ None)) }
+{
+    let Some(scripts) = all(matches, "SCRIPT") else {
+        return Err(LabFault::Words(None));
+    };
+    if is_twice(scripts) {
+        return Err(LabFault::Twice);
+    }
+    match scripts.to_vec(alloc) {
+        Ok(scripts) => Ok(LabTask::Test(scripts, is_on(matches, "json"))),
+        Err(_) => Err(LabFault::Memory),
+    }
+}
+
+/// `explain SCENARIO [EDITS]`
+fn explain_of<'a>(matches: &ArgMatches<'a>) -> Result<LabTask<'a>, LabFault<'a>>
+    ensures { option_map asked (result_ok result) ≡ explain_by (rows_of (found_of matches.now)) }
+{
+    Ok(LabTask::Explain(scene_of(matches)?, is_on(matches, "json")))
+}
+
+/// `decode [FILE]`
+fn decode_of<'a>(matches: &ArgMatches<'a>) -> LabTask<'a>
+    ensures { Some (asked result) ≡ decode_by (rows_of (found_of matches.now)) }
+{
+    let file = first(matches, "FILE").unwrap_or("-");
+    LabTask::Decode(file, is_on(matches, "json"))
+}
+
+/// What the command of this name is given.
+fn task_of<'a>(
+    alloc: Global,
+    name: &str,
+    matches: &ArgMatches<'a>,
+) -> Result<LabTask<'a>, LabFault<'a>>
+    ensures ok { IfOk result (λ task. asked_by (name.now, rows_of (found_of matches.now)) ≡ Some (asked task)) }
+    ensures err { IfErr result (λ fault. (fault ≡ LabFault.Memory) ⊎ (asked_by (name.now, rows_of (found_of matches.now)) ≡ None)) }
+{
+    match name {
+        "live" => live_of(matches),
+        "show" => show_of(matches),
+        "why" => why_of(matches),
+        "sweep" => sweep_of(matches),
+        "test" => test_of(alloc, matches),
+        "draw" => draw_of(matches),
+        "explain" => explain_of(matches),
+        "decode" => Ok(decode_of(matches)),
+        _ => Err(LabFault::Words(None)),
+    }
+}
+
+/// The task of the command that a command line names.
+fn task_named<'a>(alloc: Global, matches: &ArgMatches<'a>) -> Result<LabTask<'a>, LabFault<'a>>
+    ensures ok { IfOk result (λ task. option_and_then asked_by (subcommand_rows_of matches.now) ≡ Some (asked task)) }
+    ensures err { IfErr result (λ fault. (fault ≡ LabFault.Memory)
+        ⊎ (option_and_then asked_by (subcommand_rows_of matches.now) ≡ None)) }
+{
+    match matches.subcommand() {
+        Some((name, matches)) => task_of(alloc, name, matches),
+        None => Err(LabFault::Words(None)),
+    }
+}
+
+/// The word of which a command line asks how it is used: its first, and behind `help` the second.
+fn topic_of<'a>(words: &'a [String]) -> &'a str {
+    let first = words.get(1).map_or("", |word| word.as_str());
+    if first == "help" {
+        words.get(2).map_or("", |word| word.as_str())
+    } else {
+        first
+    }
+}
+
+/// The sentence that says which word is wrong, without the usage that stands below it.
+fn sentence_of(alloc: Global, error: &Error) -> Option<String> {
+    let text = format!(in alloc; "{error}").ok()?;
+    let (sentence, _) = text.as_str().split_once("\n\n")?;
+    String::from_str(alloc, sentence).ok()
+}
+
+/// Whether a word begins as a number below 0.
+fn is_below_zero(word: &str) -> bool {
+    matches!(word.as_bytes(), [b'-', b'0'..=b'9', ..])
+}
+
+/// What the number behind an option may be, where one stands there.
+fn wanted_behind(option: &str) -> Option<Wanted> {
+    match option {
+        "--port" => Some(PORT),
+        "--from" => Some(FROM),
+        "--to" => Some(TO),
+        "--width" => Some(WIDTH),
+        "--in-a-row" => Some(IN_A_ROW),
+        "--reserve" => Some(RESERVE),
+        _ => None,
+    }
+}
+
+/// The first number below 0 that stands behind an option for a number: the library for command lines takes it for options.
+fn below_zero<'a>(words: &'a [String]) -> Option<LabFault<'a>> {
+    let mut behind = None;
+    for word in words {
+        let word = word.as_str();
+        match behind {
+            Some(wanted) if is_below_zero(word) => return Some(LabFault::Number { wanted, word }),
+            _ => behind = wanted_behind(word),
+        }
+    }
+    None
+}
+
+/// Why a command line asks for nothing that the library for command lines refuses.
+fn fault_of<'a>(alloc: Global, error: &Error, words: &'a [String]) -> LabFault<'a>
+    ensures { kind_of error.now ≡ ErrorKind.OutOfMemory → result ≡ LabFault.Memory }
+{
+    match error.kind() {
+        ErrorKind::OutOfMemory => LabFault::Memory,
+        ErrorKind::DisplayHelp => LabFault::Help(topic_of(words)),
+        kind => match below_zero(words) {
+            Some(fault) if kind == ErrorKind::UnknownArgument => fault,
+            _ => LabFault::Words(sentence_of(alloc, error)),
+        },
+    }
+}
+
+/// Reads what the words of a command line ask for; the first is the program's name.
+///
+/// # Errors
+/// The words ask for nothing, or there is no memory to read them.
+pub fn read_lab_task<'a>(alloc: Global, words: &'a [String]) -> Result<LabTask<'a>, LabFault<'a>>
+    ensures ok { IfOk result (λ task. lab_asked (map string_bytes words.now) ≡ Some (asked task)) }
+    ensures err { IfErr result (λ fault. (fault ≡ LabFault.Memory) ⊎ (lab_asked (map string_bytes words.now) ≡ None)) }
+{
+    let Ok(command) = lab(alloc) else {
+        return Err(LabFault::Memory);
+    };
+    match command.try_get_matches_from(words) {
+        Ok(matches) => task_named(alloc, &matches),
+        Err(error) => Err(fault_of(alloc, &error, words)),
+    }
+}
