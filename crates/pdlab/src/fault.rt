@@ -1,12 +1,12 @@
 //! Refusals and faults, as the program tells them on standard error.
 
 use crate::Ending;
-use crate::numbers::WrongNumber;
-use crate::words::USAGE;
+use crate::help::{USAGE, help_of};
 use pd_desk::tell_reason;
 use pd_device::{BenchFault, Output};
 use pd_scenario_text::{ScenarioFault, port_count};
 use pd_scene::SceneFault;
+use pd_words::LabFault;
 use std::alloc::Global;
 use std::io;
 use std::io::Printer;
@@ -67,19 +67,38 @@ pub fn tell_no_port<R: Alloc<A = Global>, E: Print>(
     Ending::Refused
 }
 
-/// Tells which word isn't the number that was wanted there, and what that may be.
-pub fn tell_wrong_number<E: Print>(errors: &E, wrong: WrongNumber<'_>) -> Ending {
-    let WrongNumber { wanted, word } = wrong;
-    let _ = println!(errors; "`{}` is `{word}`, not {}", wanted.name, wanted.range);
+/// Tells why the words of the command line ask for nothing, or what they ask of how the program is used.
+pub fn tell_words<R: Print, E: Print>(rt: &R, errors: &E, fault: &LabFault<'_>) -> Ending {
+    let told = match fault {
+        LabFault::Help(topic) => return tell_help(rt, errors, topic),
+        LabFault::Memory => return tell(errors, BenchFault::Memory),
+        LabFault::Words(None) => Ok(()),
+        LabFault::Words(Some(sentence)) => errors.println(sentence.as_str()),
+        LabFault::Both(one, other) => {
+            println!(errors; "error: the argument '{one}' cannot be used with '{other}'")
+        }
+        LabFault::Number { wanted, word } => {
+            println!(errors; "`{}` is `{word}`, not {}", wanted.name, wanted.range)
+        }
+        LabFault::Kind(_) => errors.println(
+            "--kind: no message has that name; there are GoodCRC, Accept, Reject, PS_RDY, Get_Source_Cap, Get_Sink_Cap, Wait, \
+             Soft_Reset, Source_Capabilities, Request, Sink_Capabilities, Vendor_Defined",
+        ),
+        LabFault::Twice => {
+            errors.println("`-` stands for two things: standard input can be read as one alone")
+        }
+    };
+    let _ = told;
     let _ = errors.println(USAGE);
     Ending::Usage
 }
 
-/// Tells that standard input is named for two things.
-pub fn tell_twice<E: Print>(errors: &E) -> Ending {
-    let _ = errors.println("`-` stands for two things: standard input can be read as one alone");
-    let _ = errors.println(USAGE);
-    Ending::Usage
+/// Tells how the program is used, or the command of this name.
+fn tell_help<R: Print, E: Print>(rt: &R, errors: &E, topic: &str) -> Ending {
+    match rt.print(help_of(topic)) {
+        Ok(()) => Ending::Done,
+        Err(_) => tell(errors, BenchFault::WriteFailed),
+    }
 }
 
 /// Tells that a file can't be read.

@@ -1,9 +1,8 @@
 //! `pdlab test [--json] SCRIPT..`.
 
 use crate::Ending;
-use crate::fault::{output, tell, tell_scene, tell_twice, tell_unread};
+use crate::fault::{output, tell, tell_scene, tell_unread};
 use crate::script_file::read_input;
-use clap::ArgMatches;
 use pd_bench::read_whole;
 use pd_device::{BenchFault, write_all};
 use pd_expect::{TestReport, TestTally, scenario_name, test_text};
@@ -129,40 +128,19 @@ fn close<R: Print + Alloc<A = Global>, E: Print>(
     }
 }
 
-/// Whether standard input is named more than once.
-fn is_input_twice(scripts: &[&str]) -> bool {
-    let mut is_named = false;
-    for script in scripts {
-        if *script == "-" {
-            if is_named {
-                return true;
-            }
-            is_named = true;
-        }
-    }
-    false
-}
-
-/// Goes through the scripts that the words of the command line name, and tells of each line that fails or is refused. The first
-/// script that can't be gone through ends it.
-pub fn tested<R: Files + Input + Print + Alloc<A = Global>, E: Print>(
+/// Goes through these scripts, and tells of each line that fails or is refused. The first script that can't be gone through ends it.
+///
+/// # Errors
+/// A script can't be gone through, or what is told can't be written; that is told.
+pub fn test<R: Files + Input + Print + Alloc<A = Global>, E: Print>(
     rt: &R,
     errors: &E,
-    matches: &ArgMatches<'_>,
-) -> Ending {
-    let json = matches.get_flag("json");
+    scripts: &[&str],
+    json: bool,
+) -> Result<Ending, Ending> {
     let mut tally = TestTally::none();
-    let Some(scripts) = matches.get_strs("SCRIPT") else {
-        return close(rt, errors, tally, json);
-    };
-    if is_input_twice(scripts) {
-        return tell_twice(errors);
-    }
     for script in scripts {
-        match report_of(rt, errors, script, json) {
-            Ok(more) => tally = both(tally, more),
-            Err(ending) => return ending,
-        }
+        tally = both(tally, report_of(rt, errors, script, json)?);
     }
-    close(rt, errors, tally, json)
+    Ok(close(rt, errors, tally, json))
 }
