@@ -259,7 +259,7 @@ fn said(rt: &impl AllocGlobal, script: &[u8]) -> Result<Vec<u8>, Fail> {
     let telling = Telling {
         file: b"two.toml",
         edits: b"it",
-        form: Form::Lines,
+        form: Form::Words,
         warns: false,
     };
     let mut out = Output {

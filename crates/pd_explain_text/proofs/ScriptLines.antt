@@ -8,7 +8,7 @@ use Rattle.pd_scene.specs.Script.{after_line, at_line, followed, line_text}
 use Rattle.pd_scene.specs.Made.{line_made, made}
 use Rattle.pd_scene.specs.declared.made.MadeEdit.{MadeEdit}
 use Rattle.pd_explain_text.specs.Told.{TellsEnd, line_told, named, script_told, told_in}
-use Rattle.pd_explain_text.specs.declared.form.Form.{Form}
+use Rattle.pd_text.specs.declared.piece.Form.{Form}
 use Rattle.pd_explain_text.proofs.ObjectLines.{next_some, next_none}
 
 -- ---- what is told

@@ -1,3 +1,6 @@
+pub mod LastLine
 pub mod Objects
+pub mod Sentences
 pub mod Texts
 pub mod Told
+pub mod Warnings

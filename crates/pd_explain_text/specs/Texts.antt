@@ -4,7 +4,7 @@ use Rattle.std.specs.Str.Lines.{lines}
 use Rattle.pd_device.specs.declared.fault.BenchFault.{BenchFault}
 use Rattle.pd_scenario.specs.Scenarios.{ScenarioData}
 use Rattle.pd_explain_text.specs.Told.{CountsTold, Tells}
-use Rattle.pd_explain_text.specs.declared.form.Form.{Form}
+use Rattle.pd_text.specs.declared.piece.Form.{Form}
 
 -- all that is told of the script for a scenario of n ports, and whether a line is refused; or some first bytes of it, where memory is
 -- wanting or the writer failed; and the count of failed writes says whether one failed

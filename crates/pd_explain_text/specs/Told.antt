@@ -11,22 +11,23 @@ use Rattle.pd_scene.specs.Made.{made}
 use Rattle.pd_scene.specs.declared.made.MadeEdit.{MadeEdit}
 use Rattle.pd_warn.specs.declared.warning.Warning.{Warning}
 use Rattle.pd_warn.specs.Warnings.{AreWarnings}
-use Rattle.pd_warn_text.specs.Sentences.{warnings_text}
+use Rattle.pd_text.specs.Fronts.{front_of_file}
+use Rattle.pd_explain_text.specs.Warnings.{warnings_text}
 use Rattle.pd_explain_text.specs.Objects.{objects_text}
-use Rattle.pd_explain_text.specs.declared.form.Form.{Form}
-use Rattle.pd_explain_text.specs.declared.form.Form.TheVariants.{Lines, Objects}
+use Rattle.pd_text.specs.declared.piece.Form.{Form}
+use Rattle.pd_text.specs.declared.piece.Form.TheVariants.{Words, Json}
 
 -- ---- forms
 
 -- what stands before the first colon of a line: objects have the names of files as members
 abbrev pub named : Form → List ℕ → List ℕ
-named Lines name = name
-named Objects name = []
+named Words name = name
+named Json name = []
 
 -- lines, which are of a scenario's file and of a script by these names, in a form
 abbrev pub told_in : Form → List ℕ → List ℕ → List ℕ → List ℕ
-told_in Lines file edits text = text
-told_in Objects file edits text = objects_text file edits (lines text)
+told_in Words file edits text = text
+told_in Json file edits text = objects_text file edits (lines text)
 
 -- ---- lines of a script
 
@@ -51,7 +52,7 @@ TellsLines form file edits n s script (Err fault) old new = WrotePart old new (s
 
 -- warnings of a scenario to which these edits led
 abbrev pub warnings_told : Form → List ℕ → List ℕ → List MadeEdit → List Warning → List ℕ
-warnings_told form file edits made ws = told_in form file edits (warnings_text (named form file) (named form edits) made ws)
+warnings_told form file edits made ws = warnings_text (front_of_file form file) (front_of_file form edits) made ws
 
 -- what stands at the end: where it is wanted, what a scenario is warned of to which these edits led
 abbrev pub TellsEnd : Bool → Form → List ℕ → List ℕ → ℕ → ScenarioData → List MadeEdit → List ℕ → Type 0

@@ -4,16 +4,8 @@ ghost use Rattle.std.specs.Prelude.{◌≡◌, IfOk};
 ghost use Rattle.pd_explain_text.specs.Told.{named, told_in};
 
 use crate::objects::push_objects;
+use pd_text::Form;
 use std::alloc::{AllocError, Global};
-
-/// How each place, and each warning, is written.
-#[derive(Clone, Copy, Debug, PartialEq, Eq)]
-pub enum Form {
-    /// As a line behind the name of its file.
-    Lines,
-    /// As a JSON object on a line of its own.
-    Objects,
-}
 
 /// How an edit script is explained.
 #[derive(Clone, Copy)]
@@ -22,6 +14,7 @@ pub struct Telling<'a> {
     pub file: &'a [u8],
     /// The name of the script.
     pub edits: &'a [u8],
+    /// How each place, and each warning, is written.
     pub form: Form,
     /// Whether what the scenario is warned of is told too.
     pub warns: bool,
@@ -32,8 +25,8 @@ pub(crate) fn named(form: Form, name: &[u8]) -> &[u8]
     ensures { result.now ≡ named form name.now }
 {
     match form {
-        Form::Lines => name,
-        Form::Objects => b"",
+        Form::Words => name,
+        Form::Json => b"",
     }
 }
 
@@ -46,8 +39,8 @@ pub(crate) fn told_in(
     ensures { IfOk result (λ v. v.items ≡ told_in telling.now.form telling.now.file.now telling.now.edits.now text.items) }
 {
     match telling.form {
-        Form::Lines => Ok(text),
-        Form::Objects => {
+        Form::Words => Ok(text),
+        Form::Json => {
             let mut objects = Vec::new(alloc);
             push_objects(&mut objects, telling.file, telling.edits, text.as_slice())?;
             Ok(objects)

@@ -7,11 +7,12 @@ ghost use Rattle.pd_scene.specs.Script.{after_line, followed};
 ghost use Rattle.pd_explain_text.specs.Told.{CountsTold, Tells, TellsEnd, TellsLines, line_told};
 
 use crate::form::{Telling, named, told_in};
+use crate::warnings::push_warnings;
 use pd_device::{BenchFault, TextOut, write_all};
 use pd_port::Meter;
 use pd_scenario::Scenario;
 use pd_scene::{MadeEdit, at_line, first_line, note_line};
-use pd_warn_text::push_warnings;
+use pd_text::Front;
 use std::alloc::{AllocError, Global};
 
 /// Takes in a line: tells why it is refused, where it is, or makes its edit and notes that.
@@ -95,10 +96,10 @@ fn end_told<const N: usize>(
     if !telling.warns {
         return Ok(text);
     }
-    let file = named(telling.form, telling.file);
-    let edits = named(telling.form, telling.edits);
-    push_warnings(alloc, &mut text, file, edits, made, scenario, meter)?;
-    told_in(alloc, telling, text)
+    let file = Front::of_file(alloc, telling.form, telling.file)?;
+    let edits = Front::of_file(alloc, telling.form, telling.edits)?;
+    push_warnings(alloc, &mut text, &file, &edits, made, scenario, meter)?;
+    Ok(text)
 }
 
 /// Writes why lines of a script are refused, and where it is wanted what the scenario is warned of, as the script leaves it; says

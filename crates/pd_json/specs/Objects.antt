@@ -1,6 +1,6 @@
 -- What is told of a place as a JSON object: docs/FORMATS.md, "Objects".
 use Rattle.std.specs.Prelude.{ℕ, Bool, ◌&&◌, nat_lt, List, [], ◌++◌, length, drop, codes, if◌then◌else◌}
-use Rattle.pd_json.specs.Strings.{string_text}
+use Rattle.pd_text.specs.Strings.{string_text}
 use Rattle.pd_json.specs.Parts.{after, before, before_last, begins, behind_digits, behind_last, digits, digit_count, has}
 
 -- ---- members, each behind a comma

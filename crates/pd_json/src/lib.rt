@@ -3,7 +3,5 @@
 
 mod object;
 mod parts;
-mod string;
 
 pub use object::push_object;
-pub use string::push_string;

@@ -10,7 +10,7 @@ use crate::parts::{
     after, before, before_last, begins, behind, behind_digits, behind_last, digit_count, digits,
     has,
 };
-use crate::string::push_string;
+use pd_text::push_string;
 use std::alloc::AllocError;
 
 #[tactic(auto, unfolding(crate::specs::Objects::number_member))]

@@ -1,16 +1,27 @@
 -- What pieces say, in two forms: a line of words, and a JSON object on a line of its own.
 use Rattle.std.specs.Prelude.{ℕ, Bool, true, false, if◌then◌else◌, List, [], ◌++◌, map, filter, codes, decimal}
+use Rattle.std.specs.Prelude.{ℤ, length, nat_lt, Option, None, Some}
+use Rattle.std.specs.Fmt.{signed_decimal}
 use Rattle.std.specs.List.{flat_map, join_with_byte}
 use Rattle.pd_text.specs.declared.piece.Form.{Form}
 use Rattle.pd_text.specs.declared.piece.Form.TheVariants.{Words, Json}
 use Rattle.pd_text.specs.Amounts.{amount}
 use Rattle.pd_text.specs.Pieces.{PieceData, kind, number, name, flag, names, line_words, line_number, member_number, member_null}
-use Rattle.pd_text.specs.Pieces.{ListNameData}
+use Rattle.pd_text.specs.Pieces.{ListNameData, file, string, whole_number, member_string}
+use Rattle.pd_text.specs.Strings.{string_text}
 
 -- ---- in a line of words
 
 abbrev pub list_words : ListNameData → List ℕ
 list_words n = if n.is_listed then n.words else []
+
+-- a text that is empty is left out
+abbrev pub text_words : List ℕ → List ℕ → List ℕ
+text_words words text = if nat_lt 0 (length text) then words ++ text else []
+
+abbrev pub whole_words : List ℕ → Option ℤ → List ℕ
+whole_words words None = []
+whole_words words (Some n) = words ++ signed_decimal n
 
 abbrev pub words_of : PieceData → List ℕ
 words_of (kind text) = []
@@ -18,9 +29,13 @@ words_of (number words key unit n) = words ++ amount unit n
 words_of (name words key text) = words
 words_of (flag if_so if_not key holds) = if holds then if_so else if_not
 words_of (names key list) = flat_map list_words list
+words_of (file text) = text
+words_of (string words key text) = text_words words text
+words_of (whole_number words key n) = whole_words words n
 words_of (line_words words) = words
 words_of (line_number words unit n) = words ++ amount unit n
 words_of (member_number key n) = []
+words_of (member_string key text) = []
 words_of (member_null key) = []
 
 -- ---- in a JSON object
@@ -50,15 +65,26 @@ names_joined list = join_with_byte 44 (listed list)
 abbrev pub names_json : List ListNameData → List ℕ
 names_json list = codes "[" ++ (names_joined list ++ codes "]")
 
+abbrev pub text_member : List ℕ → List ℕ → List ℕ
+text_member key text = if nat_lt 0 (length text) then member key (string_text text) else []
+
+abbrev pub whole_member : List ℕ → Option ℤ → List ℕ
+whole_member key None = []
+whole_member key (Some n) = member key (signed_decimal n)
+
 abbrev pub member_of : PieceData → List ℕ
 member_of (kind text) = codes "\"kind\":" ++ quoted text
 member_of (number words key unit n) = member key (decimal n)
 member_of (name words key text) = member key (quoted text)
 member_of (flag if_so if_not key holds) = member key (truth holds)
 member_of (names key list) = member key (names_json list)
+member_of (file text) = codes "\"file\":" ++ string_text text
+member_of (string words key text) = text_member key text
+member_of (whole_number words key n) = whole_member key n
 member_of (line_words words) = []
 member_of (line_number words unit n) = []
 member_of (member_number key n) = member key (decimal n)
+member_of (member_string key text) = text_member key text
 member_of (member_null key) = member key (codes "null")
 
 -- ---- in either form

@@ -2,11 +2,15 @@
 #![tactic(auto)]
 
 mod amounts;
+mod front;
 pub mod laws;
 mod line;
 mod members;
 mod piece;
+mod string;
 mod words;
 
+pub use front::Front;
 pub use line::{begin_line, end_line, push_pieces};
 pub use piece::{Form, ListName, Piece, Unit};
+pub use string::push_string;

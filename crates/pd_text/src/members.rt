@@ -3,9 +3,11 @@
 ghost use Rattle.std.specs.Prelude.{◌≡◌, ◌∷◌, ◌++◌, OnOk, decimal, map};
 ghost use Rattle.std.specs.List.{flat_map};
 ghost use Rattle.pd_text.specs.Pieces.{list_name_of, piece_of};
-ghost use Rattle.pd_text.specs.Texts.{key_text, listed, member, member_of, names_joined, names_json, quoted, truth};
+ghost use Rattle.pd_text.specs.Texts.{key_text, listed, member, member_of, names_joined, names_json, quoted, text_member, truth};
+ghost use Rattle.pd_text.specs.Texts.{whole_member};
 
-use crate::amounts::push_number;
+use crate::amounts::{push_number, push_signed};
+use crate::string::push_string;
 use crate::{ListName, Piece};
 use std::alloc::AllocError;
 
@@ -102,6 +104,28 @@ fn push_names_member(
     text.extend_from_slice(b"]")
 }
 
+/// Writes a member whose value is a text, where that isn't empty.
+fn push_text_member(text: &mut Vec<u8>, key: &[u8], told: &[u8]) -> Result<(), AllocError>
+    ensures { OnOk result (text.new.items ≡ text.old.items ++ text_member key.now told.now) }
+{
+    if told.is_empty() {
+        return Ok(());
+    }
+    push_key(text, key)?;
+    push_string(text, told)
+}
+
+/// Writes a member whose value is a whole number, where there is one.
+fn push_whole_member(text: &mut Vec<u8>, key: &[u8], number: Option<i64>) -> Result<(), AllocError>
+    ensures { OnOk result (text.new.items ≡ text.old.items ++ whole_member key.now number) }
+{
+    let Some(number) = number else {
+        return Ok(());
+    };
+    push_key(text, key)?;
+    push_signed(text, number)
+}
+
 /// Writes what a piece says in a JSON object.
 pub(crate) fn push_member(text: &mut Vec<u8>, piece: &Piece<'_>) -> Result<(), AllocError>
     ensures { OnOk result (text.new.items ≡ text.old.items ++ member_of (piece_of piece.now)) }
@@ -111,10 +135,17 @@ pub(crate) fn push_member(text: &mut Vec<u8>, piece: &Piece<'_>) -> Result<(), A
             text.extend_from_slice(b"\"kind\":")?;
             push_quoted(text, name)
         }
+        Piece::File(name) => {
+            text.extend_from_slice(b"\"file\":")?;
+            push_string(text, name)
+        }
         Piece::Number(_, key, _, number) => push_number_member(text, key, *number),
         Piece::Name(_, key, name) => push_name_member(text, key, name),
         Piece::Flag(_, _, key, holds) => push_value_member(text, key, truth(*holds)),
         Piece::Names(key, names) => push_names_member(text, key, names),
+        Piece::Text(_, key, told) => push_text_member(text, key, told),
+        Piece::Whole(_, key, number) => push_whole_member(text, key, *number),
+        Piece::MemberText(key, told) => push_text_member(text, key, told),
         Piece::MemberNumber(key, number) => push_number_member(text, key, *number),
         Piece::MemberNull(key) => push_value_member(text, key, b"null"),
         Piece::LineWords(_) | Piece::LineNumber(_, _, _) => Ok(()),

@@ -35,11 +35,14 @@ pub struct ListName<'a> {
     pub name: &'a [u8],
 }
 
-/// A piece of a telling. Words and names are written as they stand, so keys and names have no byte that JSON escapes.
+/// A piece of a telling. Words and names are written as they stand, so keys and names have no byte that JSON escapes; texts may
+/// have any, and the object has them as JSON strings.
 #[derive(Clone, Copy, Debug)]
 pub enum Piece<'a> {
-    /// What kind of telling it is: the object's first member, which the line leaves out. Each telling begins with one.
+    /// What kind of telling it is: the object's first member, which the line leaves out.
     Kind(&'a [u8]),
+    /// The name of the file that is told of: the object's first member, and first in the line.
+    File(&'a [u8]),
     /// A number: the words before it in the line, its key in the object, its unit, and the number.
     Number(&'a [u8], &'a [u8], Unit, u64),
     /// A name: what the line says, the key in the object, and the name.
@@ -48,12 +51,18 @@ pub enum Piece<'a> {
     Flag(&'a [u8], &'a [u8], &'a [u8], bool),
     /// The names of a list: its key in the object, and the names that it may have.
     Names(&'a [u8], &'a [ListName<'a>]),
+    /// A text, which is left out where it is empty: the words before it in the line, its key in the object, and the text.
+    Text(&'a [u8], &'a [u8], &'a [u8]),
+    /// A whole number, which may be missing: the words before it in the line, its key in the object, and the number.
+    Whole(&'a [u8], &'a [u8], Option<i64>),
     /// Words of the line, which the object leaves out.
     LineWords(&'a [u8]),
     /// A number of the line, which the object leaves out: the words before it, its unit, and the number.
     LineNumber(&'a [u8], Unit, u64),
     /// A number of the object, which the line leaves out: its key, and the number.
     MemberNumber(&'a [u8], u64),
+    /// A text of the object, which the line leaves out, and the object where it is empty: its key, and the text.
+    MemberText(&'a [u8], &'a [u8]),
     /// That the object has no value behind a key: `null`. The line leaves it out.
     MemberNull(&'a [u8]),
 }

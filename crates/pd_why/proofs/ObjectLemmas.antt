@@ -14,7 +14,7 @@ use Rattle.pd_why.specs.declared.holder.Maker.{Maker}
 use Rattle.pd_why.specs.declared.holder.Maker.TheVariants as maker
 use Rattle.pd_why.specs.declared.fact.Fact.TheVariants as fact
 use Rattle.pd_text.specs.Pieces.{PieceData}
-use Rattle.pd_text.specs.Json.{is_no_kind}
+use Rattle.pd_text.specs.Json.{is_later}
 use Rattle.pd_text.proofs.JsonLemmas.{tellings_are_objects}
 use Rattle.pd_why.specs.Tellings.{choice_piece, fault_pieces, idle_pieces, known_piece, maker_pieces, mode_piece, need_pieces, to_piece}
 use Rattle.pd_why.specs.Tellings.{tries_piece}
@@ -22,7 +22,7 @@ use Rattle.pd_why.specs.TellingLaws.{FactsAreObjects}
 
 -- pieces that tell no kind
 abbrev HaveNoKind : List PieceData → Type 0
-HaveNoKind pieces = list_all is_no_kind pieces ≡ true
+HaveNoKind pieces = list_all is_later pieces ≡ true
 
 of_maker : (m : Maker) → HaveNoKind (maker_pieces m)
 of_maker maker.Floor = refl

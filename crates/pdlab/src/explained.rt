@@ -19,8 +19,8 @@ fn write_places<R: Print + Alloc<A = Global>, E: Print>(
 ) -> Ending {
     let mut objects = Vec::new(rt.alloc());
     let told = match telling.form {
-        Form::Lines => lines,
-        Form::Objects => {
+        Form::Words => lines,
+        Form::Json => {
             if push_objects(&mut objects, telling.file, telling.file, lines).is_err() {
                 return tell(errors, BenchFault::Memory);
             }
@@ -41,8 +41,8 @@ fn tell_places<R: Print + Alloc<A = Global>, E: Print>(
     text: &[u8],
 ) -> Ending {
     let name = match telling.form {
-        Form::Lines => telling.file,
-        Form::Objects => b"",
+        Form::Words => telling.file,
+        Form::Json => b"",
     };
     match explain_places(rt.alloc(), name, text) {
         Ok(said) if !said.is_empty() => write_places(rt, errors, telling, said.as_slice()),
@@ -69,7 +69,7 @@ pub fn explained<R: Files + Input + Print + Alloc<A = Global>, E: Print>(
     let telling = Telling {
         file: scenario.as_bytes(),
         edits: name.as_bytes(),
-        form: if json { Form::Objects } else { Form::Lines },
+        form: if json { Form::Json } else { Form::Words },
         warns: true,
     };
     let (mut out, mut meter) = (output(rt), Meter::new());

@@ -39,7 +39,7 @@ fn tell_lines<R: Alloc<A = Global>, E: Print>(
     let telling = Telling {
         file: b"",
         edits: name.as_bytes(),
-        form: TellingForm::Lines,
+        form: TellingForm::Words,
         warns: false,
     };
     let (text, script) = (opened.text.as_slice(), opened.script.as_slice());

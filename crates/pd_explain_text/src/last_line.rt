@@ -2,7 +2,7 @@
 
 ghost use Rattle.std.specs.Prelude.{◌≡◌, find, reverse};
 ghost use Rattle.pd_scene.specs.declared.made.MadeEdit.{MadeEdit as MadeEditData};
-ghost use Rattle.pd_warn_text.specs.Lines.{last_line, sets, sets_cable, sets_event, sets_sink};
+ghost use Rattle.pd_explain_text.specs.LastLine.{last_line, sets, sets_cable, sets_event, sets_sink};
 
 use pd_edit_lines::Edit;
 use pd_scenario::Name;
@@ -81,8 +81,8 @@ fn sets(warning: &Warning, edit: &Edit) -> bool
 
 /// The number of the line whose edit made or changed last what is warned of, of the edits that a script made; none where that
 /// stands in the scenario's file as it was.
-#[tactic(auto, unfolding(crate::specs::Lines::last_line))]
-pub fn last_line(warning: &Warning, made: &[MadeEdit]) -> Option<u64>
+#[tactic(auto, unfolding(crate::specs::LastLine::last_line))]
+pub(crate) fn last_line(warning: &Warning, made: &[MadeEdit]) -> Option<u64>
     ensures { result ≡ last_line warning.now made.now }
 {
     made.iter()

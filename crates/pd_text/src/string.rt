@@ -3,7 +3,7 @@
 ghost use Rattle.std.specs.Prelude.{◌≡◌, ◌<◌, ◌/◌, ◌%◌, ◌∷◌, ◌++◌, [], OnOk, codes};
 ghost use Rattle.std.specs.List.{flat_map};
 ghost use Rattle.std.specs.Str.{is_utf8};
-ghost use Rattle.pd_json.specs.Strings.{ascii, ascii_byte, escaped, escaped_byte, hex_digit, shown, string_text};
+ghost use Rattle.pd_text.specs.Strings.{ascii, ascii_byte, escaped, escaped_byte, hex_digit, shown, string_text};
 
 use std::alloc::AllocError;
 use std::str::from_utf8;

@@ -1,6 +1,0 @@
-use Rattle.std.proofs.Common.{◌≡◌, ◌++◌, take}
-use Rattle.pd_warn_text.specs.Sentences.{warnings_text}
-use Rattle.pd_warn_text.proofs.warnings.push_lines.Given as goal
-
-abbrev pub invariant-loop-warning : goal.invariant-loop-warning
-invariant-loop-warning l = l.text.items ≡ l.fn.text.items ++ warnings_text l.name l.edits l.made (take l.warning-index l.warnings)
