@@ -2,6 +2,7 @@
 
 use pd_misfits::{explain_error, explain_tables};
 use pd_scenario_tables::ScenarioFault;
+use pd_text::{Form, Front};
 use std::test::Fail;
 
 /// A file, how it is refused, and the lines.
@@ -150,7 +151,8 @@ hint: write `[[cable]]`
 fn hinted_files(rt: HostRuntime) -> Result<(), Fail> {
     for (text, fault, lines) in HINTED.iter() {
         let table = toml::table_from_slice(rt.alloc(), text)?;
-        let said = explain_tables(rt.alloc(), b"a.toml", *fault, &table)?;
+        let file = Front::of_file(rt.alloc(), Form::Words, b"a.toml")?;
+        let said = explain_tables(rt.alloc(), &file, *fault, &table)?;
         assert_eq!(rt; said.as_slice(), *lines);
     }
     Ok(())
@@ -160,7 +162,8 @@ fn hinted_files(rt: HostRuntime) -> Result<(), Fail> {
 fn spoiled_files(rt: HostRuntime) -> Result<(), Fail> {
     for (text, fault, lines) in FILES.iter() {
         let table = toml::table_from_slice(rt.alloc(), text)?;
-        let said = explain_tables(rt.alloc(), b"a.toml", *fault, &table)?;
+        let file = Front::of_file(rt.alloc(), Form::Words, b"a.toml")?;
+        let said = explain_tables(rt.alloc(), &file, *fault, &table)?;
         assert_eq!(rt; said.as_slice(), *lines);
     }
     Ok(())
@@ -179,7 +182,8 @@ fn no_toml(rt: HostRuntime) -> Result<(), Fail> {
             Ok(_) => return Err(Fail::from("TOML")),
             Err(error) => error,
         };
-        let said = explain_error(rt.alloc(), b"a.toml", text, &error)?;
+        let file = Front::of_file(rt.alloc(), Form::Words, b"a.toml")?;
+        let said = explain_error(rt.alloc(), &file, text, &error)?;
         let mut wanted = Vec::new(rt.alloc());
         wanted.extend_from_slice(front)?;
         wanted.extend_from_slice(error.message().as_bytes())?;

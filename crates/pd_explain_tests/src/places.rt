@@ -1,6 +1,7 @@
 //! Spoiled files with places of more than one refusal, told from docs/FORMATS.md apart from the program.
 
 use pd_places::explain_places;
+use pd_text::Form;
 use std::test::Fail;
 
 const MANY: &[u8] = b"version = 2
@@ -53,7 +54,7 @@ a.toml: refused 10: event 1 (id 1, port 1, attach): `sink` is `phone`, the name 
 /// Places of each refusal, the least first.
 #[test]
 fn many_refusals(rt: HostRuntime) -> Result<(), Fail> {
-    let said = explain_places(rt.alloc(), b"a.toml", MANY)?;
+    let said = explain_places(rt.alloc(), Form::Words, b"a.toml", MANY)?;
     assert_eq!(rt; said.as_slice(), MANY_SAID);
     Ok(())
 }
@@ -63,7 +64,7 @@ fn many_refusals(rt: HostRuntime) -> Result<(), Fail> {
 fn nine_ports(rt: HostRuntime) -> Result<(), Fail> {
     let text =
         b"colour = 1\n[[port]]\n[[port]]\n[[port]]\n[[port]]\n[[port]]\n[[port]]\n[[port]]\n[[port]]\n[[port]]\n";
-    let said = explain_places(rt.alloc(), b"a\nb", text)?;
+    let said = explain_places(rt.alloc(), Form::Words, b"a\nb", text)?;
     assert_eq!(rt;
         said.as_slice(),
         b"a?b: refused 11: there are 9 ports, not 1 to 8
@@ -77,10 +78,30 @@ a?b: refused 4: `budget` is missing
     Ok(())
 }
 
+/// The same as objects: the name of the file, the key, the hint, and what is known of an event.
+#[test]
+fn objects(rt: HostRuntime) -> Result<(), Fail> {
+    let text =
+        b"version = 2\nend = 9\nbudget = 500\n[[port]]\nflor = 1\nfloor = 500\nsupplies = [[5000, 3000]]
+[[event]]\nid = -7\nat = 1\nkind = \"budget\"\nmw = 500\n";
+    let said = explain_places(rt.alloc(), Form::Json, b"a\n\"b", text)?;
+    assert_eq!(rt;
+        said.as_slice(),
+        b"{\"file\":\"a\\u000a\\\"b\",\"refusal\":2,\"table\":\"port\",\"number\":1,\"key\":\"flor\",\
+\"sentence\":\"`flor` is no key of this table; there are floor supplies identity_tries unconstrained\",\
+\"hint\":\"did you mean `floor`?\"}
+{\"file\":\"a\\u000a\\\"b\",\"refusal\":5,\"table\":\"event\",\"number\":1,\"id\":-7,\"kind\":\"budget\",\"key\":\"id\",\
+\"sentence\":\"`id` is -7, not 1 to 1000000\"}
+"
+            .as_slice()
+    );
+    Ok(())
+}
+
 /// A text that is no TOML.
 #[test]
 fn no_toml(rt: HostRuntime) -> Result<(), Fail> {
-    let said = explain_places(rt.alloc(), b"a.toml", b"version = 2\nend = \n")?;
+    let said = explain_places(rt.alloc(), Form::Words, b"a.toml", b"version = 2\nend = \n")?;
     assert!(rt; said.starts_with(b"a.toml:2: refused 1: "));
     Ok(())
 }

@@ -1,4 +1,5 @@
 mod Keys
 mod Listed
 mod Pairs
+mod Joined
 mod Whole

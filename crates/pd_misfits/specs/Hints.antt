@@ -2,7 +2,7 @@
 use Rattle.std.specs.Prelude.{ℕ, Bool, ◌||◌, List, [], ◌∷◌, ◌++◌, take, find, codes, bytes_eq, Option, Some, None, option_map}
 use Rattle.std.specs.Prelude.{if◌then◌else◌}
 use Rattle.toml.specs.Data.{Data, string, table}
-use Rattle.pd_hints.specs.Slips.{is_slip, nearest, meant_text}
+use Rattle.pd_hints.specs.Slips.{is_slip, nearest}
 use Rattle.pd_scenario_tables.specs.declared.schema.Version.{Version}
 use Rattle.pd_scenario_tables.specs.declared.schema.Version.TheVariants.{One, Two}
 use Rattle.pd_scenario_tables.specs.declared.schema.EventName.TheVariants.{Unknown}
@@ -16,6 +16,18 @@ use Rattle.pd_scenario_tables.specs.declared.fault.ScenarioFault.{ScenarioFault}
 use Rattle.pd_scenario_tables.specs.declared.fault.ScenarioFault.TheVariants as fault
 use Rattle.pd_scenario_tables.specs.Schema.{text_of, rules_of}
 use Rattle.pd_scenario_tables.specs.Tables.{has_key}
+use Rattle.pd_misfits.specs.Values.{quoted}
+
+-- the word that is likelier meant, where there is one
+abbrev pub asked : List ℕ → List ℕ
+asked word = quoted word ++ codes "?"
+
+unfoldable pub meant_words : List ℕ → List ℕ
+meant_words other = codes "did you mean " ++ asked other
+
+abbrev pub meant_hint : Option (List ℕ) → List ℕ
+meant_hint None = []
+meant_hint (Some other) = meant_words other
 
 -- ---- a value
 
@@ -39,17 +51,17 @@ words_of version form = []
 
 -- the word is a slip of one of its form
 abbrev pub slip_hint : Version → Form → List ℕ → List ℕ
-slip_hint version form word = meant_text (nearest word (words_of version form))
+slip_hint version form word = meant_hint (nearest word (words_of version form))
 
 -- the word is `budget`, and the file of version 1
 abbrev pub word_hint : Version → Form → List ℕ → List ℕ
 word_hint One EventWord word =
-    if bytes_eq word (codes "budget") then codes "; hint: a change of the budget needs `version = 2`" else slip_hint One EventWord word
+    if bytes_eq word (codes "budget") then codes "a change of the budget needs `version = 2`" else slip_hint One EventWord word
 word_hint version form word = slip_hint version form word
 
 -- one table stands where a list of them is wanted: [cable] in place of [[cable]]
 unfoldable pub bracket_hint : Key → List ℕ
-bracket_hint k = codes "; hint: write `[[" ++ (text_of k ++ codes "]]`")
+bracket_hint k = codes "write `[[" ++ (text_of k ++ codes "]]`")
 
 abbrev pub value_hint : ScenarioFault → Version → Key → Form → Data → List ℕ
 value_hint fault.WrongType version k Tables (table ms) = bracket_hint k
@@ -93,7 +105,7 @@ has_home version k =
     || (knows version Port k || (knows version Cable k || (knows version Sink k || knows version (Event Unknown) k)))
 
 unfoldable pub home_words : Version → List ℕ → List ℕ
-home_words version k = codes "; hint: it is a key of" ++ homes version k
+home_words version k = codes "it is a key of" ++ homes version k
 
 abbrev pub home_hint : Version → List ℕ → List ℕ
 home_hint version k = if has_home version k then home_words version k else []
@@ -101,10 +113,10 @@ home_hint version k = if has_home version k then home_words version k else []
 -- the key is a slip of one of its table, or stands in the wrong table
 abbrev pub other_hint : Version → Option (List ℕ) → List ℕ → List ℕ
 other_hint version None k = home_hint version k
-other_hint version (Some near) k = meant_text (Some near)
+other_hint version (Some near) k = meant_hint (Some near)
 
 -- or its table has it in a file of version 2
 unfoldable pub key_hint : Version → TableKind → List ℕ → List ℕ
 key_hint version kind k =
-    if has_key (rules_of Two kind) k then codes "; hint: it needs `version = 2`"
+    if has_key (rules_of Two kind) k then codes "it needs `version = 2`"
     else other_hint version (near_key (rules_of version kind) k) k

@@ -2,7 +2,6 @@
 use Rattle.std.specs.Prelude.{ℕ, List, [], ◌++◌, codes, decimal}
 use Rattle.toml.specs.Data.{Data, array}
 use Rattle.pd_scenario.specs.Limits.{Range, between, stepped, range_of}
-use Rattle.pd_scenario_tables.specs.declared.schema.Version.{Version}
 use Rattle.pd_scenario_tables.specs.declared.schema.Key.{Key}
 use Rattle.pd_scenario_tables.specs.declared.schema.Form.{Form}
 use Rattle.pd_scenario_tables.specs.declared.schema.Form.TheVariants.{Number, VersionNumber, PortNumber, RatingNumber, RevisionNumber, Name}
@@ -11,7 +10,6 @@ use Rattle.pd_scenario_tables.specs.declared.fault.ScenarioFault.{ScenarioFault}
 use Rattle.pd_scenario_tables.specs.declared.fault.ScenarioFault.TheVariants as fault
 use Rattle.pd_scenario_tables.specs.Schema.{text_of}
 use Rattle.pd_scenario_tables.specs.Values.{elements}
-use Rattle.pd_misfits.specs.Hints.{value_hint}
 use Rattle.pd_misfits.specs.Supplies.{supplies_text}
 use Rattle.pd_misfits.specs.Values.{quoted, value_text}
 
@@ -72,13 +70,9 @@ wanted_text _ ports form = []
 
 -- ---- the sentences
 
-unfoldable pub plain_sentence : ScenarioFault → ℕ → Key → Form → Data → List ℕ
-plain_sentence refusal ports k form d =
+unfoldable pub value_sentence : ScenarioFault → ℕ → Key → Form → Data → List ℕ
+value_sentence refusal ports k form d =
     quoted (text_of k) ++ (codes " is " ++ (shown_text refusal form d ++ (codes ", not " ++ wanted_text refusal ports form)))
-
--- and what is likelier meant, where that is known
-unfoldable pub value_sentence : ScenarioFault → Version → ℕ → Key → Form → Data → List ℕ
-value_sentence refusal version ports k form d = plain_sentence refusal ports k form d ++ value_hint refusal version k form d
 
 unfoldable pub missing_sentence : Key → List ℕ
 missing_sentence k = quoted (text_of k) ++ codes " is missing"

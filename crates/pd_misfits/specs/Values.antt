@@ -10,6 +10,10 @@ printable byte = if nat_le 32 byte && nat_le byte 126 then byte else 63
 unfoldable pub quoted : List ℕ → List ℕ
 quoted word = 96 ∷ (map printable word ++ 96 ∷ [])
 
+-- a word as it is shown without quotes
+abbrev pub shown : List ℕ → List ℕ
+shown word = map printable word
+
 abbrev pub value_text : Data → List ℕ
 value_text (string s) = quoted s
 value_text (integer z) = signed_decimal z

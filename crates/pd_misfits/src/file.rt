@@ -9,39 +9,39 @@ ghost use Rattle.pd_misfits.specs.Lines.{file_front, table_front, list_text, eve
 
 use crate::event::event_front;
 use crate::table::{Refused, push_table};
-use crate::values::push_number;
 use pd_scenario_tables::{Key, ScenarioFault, TableKind, event_at, tables_at, version_at};
+use pd_text::{Front, Piece, Unit};
 use std::alloc::{AllocError, Global};
 use toml::Table;
 
-/// What stands before the sentence on each line of a table of a list: what stands before all lines, and the table by its
-/// place among those of its kind, from 1.
+/// What is told first of a table of a list: what is told before it, and the table by its place among those of its kind, from 1.
 ///
 /// # Errors
 /// There is no memory.
 #[tactic(auto, unfolding(crate::specs::Lines::table_front))]
 pub fn table_front(
     alloc: Global,
-    front: &[u8],
+    front: &Front,
     word: &str,
     number: u64,
-) -> Result<Vec<u8>, AllocError>
-    ensures { IfOk result (λ v. v.items ≡ table_front front.now word.now number) }
+) -> Result<Front, AllocError>
+    ensures { IfOk result (λ own. own ≡ table_front front.now word.now number) }
 {
-    let mut text = Vec::new(alloc);
-    text.extend_from_slice(front)?;
-    text.extend_from_slice(word.as_bytes())?;
-    text.push(b' ')?;
-    push_number(&mut text, number)?;
-    text.extend_from_slice(b": ")?;
-    Ok(text)
+    front.with(
+        alloc,
+        &[
+            Piece::Name(word.as_bytes(), b"table", word.as_bytes()),
+            Piece::Number(b" ", b"number", Unit::Plain, number),
+            Piece::LineWords(b": "),
+        ],
+    )
 }
 
 /// Writes where the tables of a kind break the rule of a refusal.
 fn push_list(
     alloc: Global,
     text: &mut Vec<u8>,
-    front: &[u8],
+    front: &Front,
     word: &str,
     refused: Refused,
     kind: TableKind,
@@ -53,7 +53,7 @@ fn push_list(
     let mut number = 1;
     for table in tables {
         let own = table_front(alloc, front, word, number)?;
-        push_table(text, own.as_slice(), refused, kind, table)?;
+        push_table(alloc, text, &own, refused, kind, table)?;
         number += 1;
     }
     Ok(())
@@ -63,7 +63,7 @@ fn push_list(
 fn push_events(
     alloc: Global,
     text: &mut Vec<u8>,
-    front: &[u8],
+    front: &Front,
     refused: Refused,
     tables: &[&Table],
 ) -> Result<(), AllocError>
@@ -74,33 +74,28 @@ fn push_events(
     for table in tables {
         let own = event_front(alloc, front, refused.version, number, table)?;
         let kind = TableKind::Event(event_at(refused.version, table));
-        push_table(text, own.as_slice(), refused, kind, table)?;
+        push_table(alloc, text, &own, refused, kind, table)?;
         number += 1;
     }
     Ok(())
 }
 
-/// What stands before each line of a file: its name and the number of a refusal.
+/// What is told first of a place of a file: the file, and the number of a refusal.
 ///
 /// # Errors
 /// There is no memory.
 #[tactic(auto, unfolding(crate::specs::Lines::file_front))]
-pub fn file_front(alloc: Global, name: &[u8], fault: ScenarioFault) -> Result<Vec<u8>, AllocError>
-    ensures { IfOk result (λ v. v.items ≡ file_front name.now fault) }
+pub fn file_front(alloc: Global, file: &Front, fault: ScenarioFault) -> Result<Front, AllocError>
+    ensures { IfOk result (λ front. front ≡ file_front file.now fault) }
 {
-    let mut text = Vec::new(alloc);
-    text.extend_from_slice(name)?;
-    text.extend_from_slice(b": refused ")?;
-    push_number(&mut text, u64::from(fault.number()))?;
-    text.extend_from_slice(b": ")?;
-    Ok(text)
+    file.refused(alloc, fault.number() as u64)
 }
 
 /// Writes where the tables of a list of the file break the rule of a refusal.
 fn push_kind(
     alloc: Global,
     text: &mut Vec<u8>,
-    front: &[u8],
+    front: &Front,
     refused: Refused,
     list: (&str, Key, TableKind),
     top: &Table,
@@ -119,7 +114,7 @@ fn push_kind(
 fn push_lists(
     alloc: Global,
     text: &mut Vec<u8>,
-    front: &[u8],
+    front: &Front,
     refused: Refused,
     top: &Table,
 ) -> Result<(), AllocError>
@@ -141,7 +136,7 @@ fn push_lists(
 fn push_tables(
     alloc: Global,
     text: &mut Vec<u8>,
-    front: &[u8],
+    front: &Front,
     fault: ScenarioFault,
     ports: u64,
     top: &Table,
@@ -153,7 +148,7 @@ fn push_tables(
         version: version_at(top),
         ports,
     };
-    push_table(text, front, refused, TableKind::Top, top)?;
+    push_table(alloc, text, front, refused, TableKind::Top, top)?;
     push_lists(alloc, text, front, refused, top)
 }
 
@@ -165,23 +160,16 @@ fn push_tables(
 /// There is no memory.
 pub fn explain_tables(
     alloc: Global,
-    name: &[u8],
+    file: &Front,
     fault: ScenarioFault,
     top: &Table,
 ) -> Result<Vec<u8>, AllocError>
-    ensures { IfOk result (λ v. v.items ≡ file_text name.now fault (tables_of (table_view top.now))) }
+    ensures { IfOk result (λ v. v.items ≡ file_text file.now fault (tables_of (table_view top.now))) }
 {
-    let front = file_front(alloc, name, fault)?;
+    let front = file_front(alloc, file, fault)?;
     let ports = tables_at(alloc, top, Key::Port)?;
     let mut text = Vec::new(alloc);
-    push_tables(
-        alloc,
-        &mut text,
-        front.as_slice(),
-        fault,
-        ports.len() as u64,
-        top,
-    )?;
+    push_tables(alloc, &mut text, &front, fault, ports.len() as u64, top)?;
     Ok(text)
 }
 
@@ -191,13 +179,13 @@ pub fn explain_tables(
 /// There is no memory.
 pub fn explain_top(
     alloc: Global,
-    name: &[u8],
+    file: &Front,
     fault: ScenarioFault,
     top: &Table,
 ) -> Result<Vec<u8>, AllocError>
-    ensures { IfOk result (λ v. v.items ≡ top_text name.now fault (tables_of (table_view top.now))) }
+    ensures { IfOk result (λ v. v.items ≡ top_text file.now fault (tables_of (table_view top.now))) }
 {
-    let front = file_front(alloc, name, fault)?;
+    let front = file_front(alloc, file, fault)?;
     let ports = tables_at(alloc, top, Key::Port)?;
     let refused = Refused {
         fault,
@@ -205,6 +193,6 @@ pub fn explain_top(
         ports: ports.len() as u64,
     };
     let mut text = Vec::new(alloc);
-    push_table(&mut text, front.as_slice(), refused, TableKind::Top, top)?;
+    push_table(alloc, &mut text, &front, refused, TableKind::Top, top)?;
     Ok(text)
 }

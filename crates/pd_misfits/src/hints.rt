@@ -2,11 +2,13 @@
 
 ghost use Rattle.std.specs.Prelude.{◌≡◌, ◌++◌, OnOk, map, option_map};
 ghost use Rattle.toml.specs.View.{view};
-ghost use Rattle.pd_misfits.specs.Hints.{bracket_hint, has_home, home_hint, home_part, home_words, homes, key_hint, knows};
-ghost use Rattle.pd_misfits.specs.Hints.{later_homes, near_key, near_rule, other_hint, own_rules, slip_hint, value_hint, word_hint};
+ghost use Rattle.pd_misfits.specs.Hints.{asked, bracket_hint, has_home, home_hint, home_part, home_words, homes, key_hint, knows};
+ghost use Rattle.pd_misfits.specs.Hints.{later_homes, meant_hint, meant_words, near_key, near_rule, other_hint, own_rules, slip_hint};
+ghost use Rattle.pd_misfits.specs.Hints.{value_hint, word_hint};
 ghost use Rattle.pd_misfits.specs.Hints.{words_of};
 
-use pd_hints::{is_slip, nearest, push_meant};
+use crate::values::push_quoted;
+use pd_hints::{is_slip, nearest};
 use pd_scenario_tables::{
     EventName, Form, Key, Rule, ScenarioFault, TableKind, Version, has_key, rules_of,
 };
@@ -37,6 +39,36 @@ const KINDS_OF_TWO: [&str; 8] = [
     "get_source",
     "get_sink",
 ];
+
+/// Writes a word in quotes and a question mark.
+fn push_asked(text: &mut Vec<u8>, word: &[u8]) -> Result<(), AllocError>
+    ensures { OnOk result (text.new.items ≡ text.old.items ++ asked word.now) }
+{
+    push_quoted(text, word)?;
+    text.extend_from_slice(b"?")
+}
+
+/// Writes which word may have been meant.
+#[tactic(auto, unfolding(crate::specs::Hints::meant_words))]
+fn push_meant_words(text: &mut Vec<u8>, other: &[u8]) -> Result<(), AllocError>
+    ensures { OnOk result (text.new.items ≡ text.old.items ++ meant_words other.now) }
+{
+    text.extend_from_slice(b"did you mean ")?;
+    push_asked(text, other)
+}
+
+/// Writes which word may have been meant, where there is one.
+///
+/// # Errors
+/// There is no memory; some of it may stand in the text.
+pub fn push_meant(text: &mut Vec<u8>, other: Option<&str>) -> Result<(), AllocError>
+    ensures { OnOk result (text.new.items ≡ text.old.items ++ meant_hint (option_map (λ x. x.now) other.entry)) }
+{
+    match other {
+        Some(other) => push_meant_words(text, other.as_bytes()),
+        None => Ok(()),
+    }
+}
 
 /// The words of a form; a change of the budget is none under version 1.
 fn words_of(version: Version, form: Form) -> &'static [&'static str]
@@ -74,7 +106,7 @@ fn push_word_hint(
 {
     match (version, form) {
         (Version::One, Form::EventWord) if word == b"budget".as_slice() => {
-            text.extend_from_slice(b"; hint: a change of the budget needs `version = 2`")
+            text.extend_from_slice(b"a change of the budget needs `version = 2`")
         }
         _ => push_slip_hint(text, version, form, word),
     }
@@ -85,7 +117,7 @@ fn push_word_hint(
 fn push_bracket_hint(text: &mut Vec<u8>, key: Key) -> Result<(), AllocError>
     ensures { OnOk result (text.new.items ≡ text.old.items ++ bracket_hint key) }
 {
-    text.extend_from_slice(b"; hint: write `[[")?;
+    text.extend_from_slice(b"write `[[")?;
     text.extend_from_slice(key.text().as_bytes())?;
     text.extend_from_slice(b"]]`")
 }
@@ -196,7 +228,7 @@ fn has_home(version: Version, key: &str) -> bool
 fn push_home_words(text: &mut Vec<u8>, version: Version, key: &str) -> Result<(), AllocError>
     ensures { OnOk result (text.new.items ≡ text.old.items ++ home_words version key.now) }
 {
-    text.extend_from_slice(b"; hint: it is a key of")?;
+    text.extend_from_slice(b"it is a key of")?;
     push_homes(text, version, key)
 }
 
@@ -237,7 +269,7 @@ pub fn push_key_hint(
     ensures { OnOk result (text.new.items ≡ text.old.items ++ key_hint version kind key.now) }
 {
     if has_key(rules_of(Version::Two, kind), key) {
-        return text.extend_from_slice(b"; hint: it needs `version = 2`");
+        return text.extend_from_slice(b"it needs `version = 2`");
     }
     let near = near_key(rules_of(version, kind), key.as_bytes());
     push_other_hint(text, version, near, key)

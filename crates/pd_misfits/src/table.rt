@@ -1,23 +1,26 @@
 //! Where one table breaks the rule of a refusal.
 
-ghost use Rattle.std.specs.Prelude.{◌≡◌, ◌++◌, OnOk};
+ghost use Rattle.std.specs.Prelude.{◌≡◌, [], ◌++◌, OnOk};
 ghost use Rattle.std.specs.List.{flat_map};
 ghost use Rattle.toml.specs.View.{view, table_view};
 ghost use Rattle.pd_scenario_tables.specs.Schema.{text_of, rules_of};
 ghost use Rattle.pd_scenario_tables.specs.Tables.{value_at, keys_of};
-ghost use Rattle.pd_misfits.specs.Sentences.{plain_sentence, shown_text, value_sentence, missing_sentence, unknown_sentence};
+ghost use Rattle.pd_misfits.specs.Sentences.{shown_text, value_sentence, missing_sentence, unknown_sentence};
 ghost use Rattle.pd_misfits.specs.Lines.{line, value_part, missing_part, rule_part, key_word, known_keys, unknown_line};
 ghost use Rattle.pd_misfits.specs.Lines.{key_part, table_text};
+ghost use Rattle.pd_misfits.specs.Hints.{value_hint};
 
 use crate::hints::{push_key_hint, push_value_hint};
 use crate::supplies::push_supplies;
-use crate::values::{push_quoted, push_value};
+use crate::text::push_line;
+use crate::values::{push_printable, push_quoted, push_value};
 use crate::wanted::push_wanted;
 use pd_scenario_tables::{
     Form, Key, Rule, ScenarioFault, TableKind, Version, has_key, is_required, passes, rules_of,
     value_at,
 };
-use std::alloc::AllocError;
+use pd_text::Front;
+use std::alloc::{AllocError, Global};
 use toml::{Table, Value};
 
 /// A refusal, in a file of a version for so many ports.
@@ -44,15 +47,15 @@ fn push_shown(
 }
 
 /// Writes what stands at a key, and what is wanted there.
-#[tactic(auto, unfolding(crate::specs::Sentences::plain_sentence))]
-fn push_plain_sentence(
+#[tactic(auto, unfolding(crate::specs::Sentences::value_sentence))]
+fn push_value_sentence(
     text: &mut Vec<u8>,
     refused: Refused,
     rule: &Rule,
     value: &Value,
 ) -> Result<(), AllocError>
     ensures { OnOk result (text.new.items
-        ≡ text.old.items ++ plain_sentence refused.fault refused.ports rule.now.key rule.now.form (view value.now)) }
+        ≡ text.old.items ++ value_sentence refused.fault refused.ports rule.now.key rule.now.form (view value.now)) }
 {
     push_quoted(text, rule.key.text().as_bytes())?;
     text.extend_from_slice(b" is ")?;
@@ -61,50 +64,38 @@ fn push_plain_sentence(
     push_wanted(text, refused.fault, refused.ports, rule.form)
 }
 
-/// Writes that, and what is likelier meant.
-#[tactic(auto, unfolding(crate::specs::Sentences::value_sentence))]
-fn push_value_sentence(
+fn push_value_line(
+    alloc: Global,
     text: &mut Vec<u8>,
+    front: &Front,
     refused: Refused,
     rule: &Rule,
     value: &Value,
 ) -> Result<(), AllocError>
     ensures { OnOk result (text.new.items ≡ text.old.items
-        ++ value_sentence refused.fault refused.version refused.ports rule.now.key rule.now.form (view value.now)) }
+        ++ line front.now (text_of rule.now.key) (value_sentence refused.fault refused.ports rule.now.key rule.now.form (view value.now))
+        (value_hint refused.fault refused.version rule.now.key rule.now.form (view value.now))) }
 {
-    push_plain_sentence(text, refused, rule, value)?;
+    let mut sentence = Vec::new(alloc);
+    push_value_sentence(&mut sentence, refused, rule, value)?;
+    let mut hint = Vec::new(alloc);
     push_value_hint(
-        text,
+        &mut hint,
         refused.fault,
         refused.version,
         rule.key,
         rule.form,
         value,
-    )
-}
-
-#[tactic(auto, unfolding(crate::specs::Lines::line))]
-fn push_value_line(
-    text: &mut Vec<u8>,
-    front: &[u8],
-    refused: Refused,
-    rule: &Rule,
-    value: &Value,
-) -> Result<(), AllocError>
-    ensures { OnOk result (text.new.items
-        ≡ text.old.items ++ line front.now
-        (value_sentence refused.fault refused.version refused.ports rule.now.key rule.now.form (view value.now))) }
-{
-    text.extend_from_slice(front)?;
-    push_value_sentence(text, refused, rule, value)?;
-    text.push(b'\n')?;
-    Ok(())
+    )?;
+    let key = rule.key.text().as_bytes();
+    push_line(text, front, key, sentence.as_slice(), hint.as_slice())
 }
 
 /// Writes a line where what stands at a rule's key is a value to which the refusal applies.
 fn push_value_part(
+    alloc: Global,
     text: &mut Vec<u8>,
-    front: &[u8],
+    front: &Front,
     refused: Refused,
     table: &Table,
     rule: &Rule,
@@ -120,7 +111,7 @@ fn push_value_part(
                 refused.ports,
                 rule.form,
                 value,
-            ) => { push_value_line(text, front, refused, rule, value) }
+            ) => { push_value_line(alloc, text, front, refused, rule, value) }
         _ => Ok(()),
     }
 }
@@ -133,20 +124,24 @@ fn push_missing(text: &mut Vec<u8>, key: Key) -> Result<(), AllocError>
     text.extend_from_slice(b" is missing")
 }
 
-#[tactic(auto, unfolding(crate::specs::Lines::line))]
-fn push_missing_line(text: &mut Vec<u8>, front: &[u8], key: Key) -> Result<(), AllocError>
-    ensures { OnOk result (text.new.items ≡ text.old.items ++ line front.now (missing_sentence key)) }
+fn push_missing_line(
+    alloc: Global,
+    text: &mut Vec<u8>,
+    front: &Front,
+    key: Key,
+) -> Result<(), AllocError>
+    ensures { OnOk result (text.new.items ≡ text.old.items ++ line front.now (text_of key) (missing_sentence key) []) }
 {
-    text.extend_from_slice(front)?;
-    push_missing(text, key)?;
-    text.push(b'\n')?;
-    Ok(())
+    let mut sentence = Vec::new(alloc);
+    push_missing(&mut sentence, key)?;
+    push_line(text, front, key.text().as_bytes(), sentence.as_slice(), b"")
 }
 
 /// Writes a line where a rule's key is absent and nothing stands for it.
 fn push_missing_part(
+    alloc: Global,
     text: &mut Vec<u8>,
-    front: &[u8],
+    front: &Front,
     table: &Table,
     rule: &Rule,
 ) -> Result<(), AllocError>
@@ -154,15 +149,16 @@ fn push_missing_part(
         ≡ text.old.items ++ missing_part front.now rule.now (value_at rule.now.key (table_view table.now))) }
 {
     match value_at(table, rule.key) {
-        None if is_required(rule.need) => push_missing_line(text, front, rule.key),
+        None if is_required(rule.need) => push_missing_line(alloc, text, front, rule.key),
         _ => Ok(()),
     }
 }
 
 /// Writes a line where the rule of a refusal is broken at a key.
 fn push_rule(
+    alloc: Global,
     text: &mut Vec<u8>,
-    front: &[u8],
+    front: &Front,
     refused: Refused,
     table: &Table,
     rule: &Rule,
@@ -171,14 +167,15 @@ fn push_rule(
         ≡ text.old.items ++ rule_part front.now refused.fault refused.version refused.ports (table_view table.now) rule.now) }
 {
     match refused.fault {
-        ScenarioFault::MissingKey => push_missing_part(text, front, table, rule),
-        _ => push_value_part(text, front, refused, table, rule),
+        ScenarioFault::MissingKey => push_missing_part(alloc, text, front, table, rule),
+        _ => push_value_part(alloc, text, front, refused, table, rule),
     }
 }
 
 fn push_rules(
+    alloc: Global,
     text: &mut Vec<u8>,
-    front: &[u8],
+    front: &Front,
     refused: Refused,
     table: &Table,
     rules: &[Rule],
@@ -187,7 +184,7 @@ fn push_rules(
         ++ flat_map (rule_part front.now refused.fault refused.version refused.ports (table_view table.now)) rules.now) }
 {
     for rule in rules {
-        push_rule(text, front, refused, table, rule)?;
+        push_rule(alloc, text, front, refused, table, rule)?;
     }
     Ok(())
 }
@@ -226,28 +223,38 @@ fn push_known_keys(text: &mut Vec<u8>, version: Version, kind: TableKind) -> Res
     push_key_words(text, rules_of(version, kind))
 }
 
-#[tactic(auto, unfolding(crate::specs::Lines::line, crate::specs::Lines::unknown_line))]
+#[tactic(auto, unfolding(crate::specs::Lines::unknown_line))]
 fn push_unknown_line(
+    alloc: Global,
     text: &mut Vec<u8>,
-    front: &[u8],
+    front: &Front,
     version: Version,
     kind: TableKind,
     key: &str,
 ) -> Result<(), AllocError>
     ensures { OnOk result (text.new.items ≡ text.old.items ++ unknown_line front.now version kind key.now) }
 {
-    text.extend_from_slice(front)?;
-    push_unknown(text, key.as_bytes())?;
-    push_known_keys(text, version, kind)?;
-    push_key_hint(text, version, kind, key)?;
-    text.push(b'\n')?;
-    Ok(())
+    let mut shown = Vec::new(alloc);
+    push_printable(&mut shown, key.as_bytes())?;
+    let mut sentence = Vec::new(alloc);
+    push_unknown(&mut sentence, key.as_bytes())?;
+    push_known_keys(&mut sentence, version, kind)?;
+    let mut hint = Vec::new(alloc);
+    push_key_hint(&mut hint, version, kind, key)?;
+    push_line(
+        text,
+        front,
+        shown.as_slice(),
+        sentence.as_slice(),
+        hint.as_slice(),
+    )
 }
 
 /// Writes a line where no rule has a key.
 fn push_key(
+    alloc: Global,
     text: &mut Vec<u8>,
-    front: &[u8],
+    front: &Front,
     version: Version,
     kind: TableKind,
     key: &str,
@@ -257,12 +264,13 @@ fn push_key(
     if has_key(rules_of(version, kind), key) {
         return Ok(());
     }
-    push_unknown_line(text, front, version, kind, key)
+    push_unknown_line(alloc, text, front, version, kind, key)
 }
 
 fn push_keys(
+    alloc: Global,
     text: &mut Vec<u8>,
-    front: &[u8],
+    front: &Front,
     version: Version,
     kind: TableKind,
     table: &Table,
@@ -271,15 +279,16 @@ fn push_keys(
         ≡ text.old.items ++ flat_map (key_part front.now version kind) (keys_of (table_view table.now))) }
 {
     for key in table.keys() {
-        push_key(text, front, version, kind, key.as_str())?;
+        push_key(alloc, text, front, version, kind, key.as_str())?;
     }
     Ok(())
 }
 
 /// Writes a line for each key at which a table of a kind breaks the rule of a refusal.
 pub fn push_table(
+    alloc: Global,
     text: &mut Vec<u8>,
-    front: &[u8],
+    front: &Front,
     refused: Refused,
     kind: TableKind,
     table: &Table,
@@ -288,7 +297,14 @@ pub fn push_table(
         ≡ text.old.items ++ table_text front.now refused.fault refused.version refused.ports kind (table_view table.now)) }
 {
     match refused.fault {
-        ScenarioFault::UnknownKey => push_keys(text, front, refused.version, kind, table),
-        _ => push_rules(text, front, refused, table, rules_of(refused.version, kind)),
+        ScenarioFault::UnknownKey => push_keys(alloc, text, front, refused.version, kind, table),
+        _ => push_rules(
+            alloc,
+            text,
+            front,
+            refused,
+            table,
+            rules_of(refused.version, kind),
+        ),
     }
 }

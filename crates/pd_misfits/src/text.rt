@@ -2,10 +2,10 @@
 
 ghost use Rattle.std.specs.Prelude.{◌≡◌, ◌≤◌, ◌++◌, OnOk, IfOk, length};
 ghost use Rattle.pd_misfits.specs.Lines.{line};
-ghost use Rattle.pd_misfits.specs.Texts.{line_at, line_place, syntax_line, TellsError};
+ghost use Rattle.pd_misfits.specs.Texts.{line_at, syntax_front, TellsError};
 ghost use Rattle.toml.specs.Errors.{IsMemory, IsWithin};
 
-use crate::values::push_number;
+use pd_text::{Front, Piece, Unit};
 use std::alloc::{AllocError, Global};
 use toml::de::Error;
 
@@ -23,37 +23,37 @@ fn line_at(text: &[u8], at: usize) -> u64
     line
 }
 
-/// Writes in which line of a file a place is.
-#[tactic(auto, unfolding(crate::specs::Texts::line_place))]
-fn push_line_place(text: &mut Vec<u8>, name: &[u8], line: u64) -> Result<(), AllocError>
-    ensures { OnOk result (text.new.items ≡ text.old.items ++ line_place name.now line) }
+/// What is told first of a line from which on a file is no TOML.
+#[tactic(auto, unfolding(crate::specs::Texts::syntax_front))]
+fn syntax_front(alloc: Global, file: &Front, line: u64) -> Result<Front, AllocError>
+    ensures { IfOk result (λ front. front ≡ syntax_front file.now line) }
 {
-    text.extend_from_slice(name)?;
-    text.push(b':')?;
-    push_number(text, line)
+    file.with(
+        alloc,
+        &[
+            Piece::Number(b":", b"line", Unit::Plain, line),
+            Piece::Number(b": refused ", b"refusal", Unit::Plain, 1),
+            Piece::LineWords(b": "),
+        ],
+    )
 }
 
-/// Writes words behind what stands before them on their line.
+/// Writes a sentence behind what is told first, on a line of its own: the key that it is of, and behind it what is likelier meant,
+/// each where it isn't empty.
 ///
 /// # Errors
 /// There is no memory; some of the line may stand there.
 #[tactic(auto, unfolding(crate::specs::Lines::line))]
-pub fn push_line(text: &mut Vec<u8>, front: &[u8], words: &[u8]) -> Result<(), AllocError>
-    ensures { OnOk result (text.new.items ≡ text.old.items ++ line front.now words.now) }
+pub fn push_line(
+    text: &mut Vec<u8>,
+    front: &Front,
+    key: &[u8],
+    sentence: &[u8],
+    hint: &[u8],
+) -> Result<(), AllocError>
+    ensures { OnOk result (text.new.items ≡ text.old.items ++ line front.now key.now sentence.now hint.now) }
 {
-    text.extend_from_slice(front)?;
-    text.extend_from_slice(words)?;
-    text.push(b'\n')?;
-    Ok(())
-}
-
-/// Writes that a text is no TOML, from which line on, and why.
-#[tactic(auto, unfolding(crate::specs::Texts::syntax_line))]
-fn push_syntax(text: &mut Vec<u8>, name: &[u8], line: u64, message: &str) -> Result<(), AllocError>
-    ensures { OnOk result (text.new.items ≡ text.old.items ++ syntax_line name.now line message.now) }
-{
-    push_line_place(text, name, line)?;
-    push_line(text, b": refused 1: ", message.as_bytes())
+    front.say(text, key, sentence, hint)
 }
 
 /// What is wrong in a text that is no TOML, by the error of the library that read it: the line in which that begins, and its words.
@@ -62,17 +62,18 @@ fn push_syntax(text: &mut Vec<u8>, name: &[u8], line: u64, message: &str) -> Res
 /// There is no memory, or there was none as the text was read.
 pub fn explain_error(
     alloc: Global,
-    name: &[u8],
+    file: &Front,
     text: &[u8],
     error: &Error,
 ) -> Result<Vec<u8>, AllocError>
     requires within { IsWithin text.now error.now }
-    ensures { IfOk result (λ v. (¬ IsMemory error.now) × TellsError name.now text.now error.now v.items) }
+    ensures { IfOk result (λ v. (¬ IsMemory error.now) × TellsError file.now text.now error.now v.items) }
 {
     let Some(span) = error.span() else {
         return Err(AllocError);
     };
+    let front = syntax_front(alloc, file, line_at(text, span.start))?;
     let mut said = Vec::new(alloc);
-    push_syntax(&mut said, name, line_at(text, span.start), error.message())?;
+    push_line(&mut said, &front, b"", error.message().as_bytes(), b"")?;
     Ok(said)
 }

@@ -1,9 +1,9 @@
 //! What stands at a key, as it is shown.
 
-ghost use Rattle.std.specs.Prelude.{◌≡◌, ◌++◌, OnOk, map, decimal};
+ghost use Rattle.std.specs.Prelude.{◌≡◌, ◌++◌, OnOk, decimal};
 ghost use Rattle.std.specs.Fmt.{signed_decimal};
 ghost use Rattle.toml.specs.View.{view};
-ghost use Rattle.pd_misfits.specs.Values.{printable, quoted, value_text};
+ghost use Rattle.pd_misfits.specs.Values.{printable, quoted, shown, value_text};
 
 use itoa::Buffer;
 use std::alloc::AllocError;
@@ -47,8 +47,9 @@ fn printable(byte: u8) -> u8
     }
 }
 
-fn push_printable(text: &mut Vec<u8>, word: &[u8]) -> Result<(), AllocError>
-    ensures { OnOk result (text.new.items ≡ text.old.items ++ map printable word.now) }
+/// Writes a word; what is no printable ASCII character is shown as a question mark.
+pub(crate) fn push_printable(text: &mut Vec<u8>, word: &[u8]) -> Result<(), AllocError>
+    ensures { OnOk result (text.new.items ≡ text.old.items ++ shown word.now) }
 {
     for byte in word {
         text.push(printable(*byte))?;

@@ -1,13 +1,21 @@
 -- What is told of a text begins with the number that it is answered by.
-use Rattle.std.proofs.Common.{◌≡◌, ◌⊎◌, ℕ, ◌+◌, ◌-◌, ◌<◌, ◌≤◌, ◌^◌, ◌%◌, false, ◌==◌, List, [], ◌∷◌, ◌++◌, codes, decimal, length}
+use Rattle.std.proofs.Common.{◌≡◌, ◌⊎◌, ℕ, ◌+◌, ◌-◌, ◌<◌, ◌≤◌, ◌^◌, ◌/◌, ◌%◌, Bool, true, false, ◌==◌, List, [], ◌∷◌, ◌++◌, codes}
+use Rattle.std.proofs.Common.{decimal, length}
 use Rattle.std.proofs.Common.{nat_lt, take, drop, refl, sym, ap, ◌∙◌, subst, arith, inl, inr, Ok, Err, append_assoc}
-use Rattle.std.specs.Prelude.{Result, filter}
+use Rattle.std.specs.Prelude.{Result, filter, if◌then◌else◌}
+use Rattle.std.specs.List.{flat_map}
+use Rattle.std.specs.Str.{is_utf8}
 use Rattle.std.proofs.lemmas.Bool.{cases_Bool, cases_lt}
 use Rattle.std.proofs.lemmas.Bool.Decides.{nat_tests}
 use Rattle.std.proofs.lemmas.List.{take-append-drop, take-append-le, length-append}
 use Rattle.std.proofs.lemmas.List.Elements.{filter-append}
 use Rattle.std.proofs.lemmas.Fmt.{decimal_by_steps}
 use Rattle.std.proofs.Math.Seq.{take-append-add}
+use Rattle.pd_text.specs.declared.piece.Form.{Form}
+use Rattle.pd_text.specs.declared.piece.Form.TheVariants.{Words, Json}
+use Rattle.pd_text.specs.Strings.{ascii_byte, escaped_byte, hex_digit, shown, string_text}
+use Rattle.pd_text.specs.Texts.{key_text, line_end, text_of_all}
+use Rattle.pd_text.specs.Fronts.{FrontData, line_with, refusal_pieces, said}
 use Rattle.toml.specs.Data.{Members}
 use Rattle.toml.specs.Errors.{span_start}
 use Rattle.pd_scenario_tables.specs.declared.fault.ScenarioFault.{ScenarioFault}
@@ -17,10 +25,10 @@ use Rattle.pd_scenario_tables.specs.Numbers.{number_of}
 use Rattle.pd_scenario_tables.specs.Ports.{counted}
 use Rattle.pd_scenario_text.specs.Reading.{reading, IsTextOf}
 use Rattle.pd_misfits.specs.Lines.{line, file_front}
-use Rattle.pd_misfits.specs.Texts.{ends_line, line_at, line_place, syntax_line, TellsSyntax}
+use Rattle.pd_misfits.specs.Texts.{ends_line, line_at, syntax_front, TellsSyntax}
 use Rattle.pd_places.specs.FirstLines.{line_count, most_places}
-use Rattle.pd_places.specs.Places.{IsCut, IsShort, more_text, one_line_byte, one_line, places_text, TellsPlaces}
-use Rattle.pd_places.specs.First.{Begins, IsRefusedFor, IsAnswered, TellsFirst}
+use Rattle.pd_places.specs.Places.{IsCut, IsShort, more_text, one_line_byte, one_line, file_of, places_text, TellsPlaces}
+use Rattle.pd_places.specs.First.{Begins, BeginsWith, IsRefusedFor, IsAnswered, TellsFirst}
 use Rattle.pd_places.proofs.LeastFirst.{least_first}
 
 -- ---- no line ends in what stands before a sentence
@@ -69,12 +77,82 @@ small_number UnknownName = omega arith
 small_number Limit = omega arith
 small_number Memory = omega arith
 
-none_in_front : (name : List ℕ) (k : ScenarioFault) → filter ends_line (file_front (one_line name) k) ≡ []
+-- ---- nor in a name that is escaped
+
+no_hex : (n : ℕ) → filter ends_line (hex_digit n ∷ []) ≡ []
+no_hex n = elim (cases_Bool (nat_lt n 10)) [ inl small ↦ rw small (no_digit n) | inr large ↦ rw (large, letter_ends n) refl ]
+  where
+    letter_ends : (m : ℕ) → ends_line (87 + m) ≡ false
+    letter_ends m = grind (arith, nat_tests)
+
+none_in_control : (byte : ℕ) → filter ends_line (codes "\\u00" ++ (hex_digit (byte / 16) ∷ hex_digit (byte % 16) ∷ [])) ≡ []
+none_in_control byte =
+    none_in_both (codes "\\u00") (hex_digit (byte / 16) ∷ hex_digit (byte % 16) ∷ []) refl
+    (none_in_both (hex_digit (byte / 16) ∷ []) (hex_digit (byte % 16) ∷ []) (no_hex (byte / 16)) (no_hex (byte % 16)))
+
+printed_ends : (byte : ℕ) → nat_lt byte 32 ≡ false → ends_line byte ≡ false
+printed_ends byte h = grind (arith, nat_tests)
+
+none_in_escape : (byte : ℕ) → filter ends_line (escaped_byte byte) ≡ []
+none_in_escape byte =
+    elim (cases_Bool (byte == 34)) [
+      | inl quote ↦ rw quote refl
+      | inr other ↦
+          elim (cases_Bool (byte == 92)) [
+            | inl slash ↦ rw (other, slash) refl
+            | inr more ↦
+                elim (cases_Bool (nat_lt byte 32)) [
+                  | inl control ↦ rw (other, more, control) (none_in_control byte)
+                  | inr printed ↦ rw (other, more, printed, printed_ends byte printed) refl
+                ]
+          ]
+    ]
+
+none_in_ascii : (byte : ℕ) → filter ends_line (ascii_byte byte) ≡ []
+none_in_ascii byte =
+    elim (cases_Bool (nat_lt byte 128)) [ inl ascii ↦ rw ascii (none_in_escape byte) | inr beyond ↦ rw beyond refl ]
+
+none_in_each : (shown : ℕ → List ℕ) → ((byte : ℕ) → filter ends_line (shown byte) ≡ []) → (bytes : List ℕ)
+    → filter ends_line (flat_map shown bytes) ≡ []
+none_in_each shown none [] = refl
+none_in_each shown none (byte ∷ bytes) = none_in_both (shown byte) (flat_map shown bytes) (none byte) (none_in_each shown none bytes)
+
+none_in_string : (name : List ℕ) → filter ends_line (string_text name) ≡ []
+unfolding string_text
+none_in_string name = none_in_both (34 ∷ []) (shown name ++ 34 ∷ []) refl (none_in_both (shown name) (34 ∷ []) (by (is_utf8 name)) refl)
+  where
+    by : (b : Bool) → filter ends_line (if b then flat_map escaped_byte name else flat_map ascii_byte name) ≡ []
+    by true = none_in_each escaped_byte none_in_escape name
+    by false = none_in_each ascii_byte none_in_ascii name
+
+-- ---- nor in the front of a refusal
+
+none_in_file : (form : Form) (name : List ℕ) → filter ends_line (file_of form name).text ≡ []
+unfolding text_of_all
+none_in_file Words name = none_in_both (one_line name) [] (none_in_name name) refl
+none_in_file Json name =
+    none_in_both (codes "{\"file\":") (string_text name ++ []) refl (none_in_both (string_text name) [] (none_in_string name) refl)
+
+none_in_number_of : (k : ScenarioFault) → filter ends_line (decimal (number_of k)) ≡ []
+none_in_number_of k = none_in_number (number_of k) (small_number k)
+
+none_in_refusal : (form : Form) (k : ScenarioFault) → filter ends_line (text_of_all form (refusal_pieces (number_of k))) ≡ []
+unfolding text_of_all key_text
+none_in_refusal Words k =
+    none_in_both (codes ": refused " ++ decimal (number_of k)) (codes ": ")
+    (none_in_both (codes ": refused ") (decimal (number_of k)) refl (none_in_number_of k)) refl
+none_in_refusal Json k =
+    none_in_both (codes ",\"refusal\":" ++ decimal (number_of k)) []
+    (none_in_both (codes ",\"refusal\":") (decimal (number_of k)) refl (none_in_number_of k)) refl
+
+none_in_front : (form : Form) (name : List ℕ) (k : ScenarioFault) → filter ends_line (file_front (file_of form name) k).text ≡ []
 unfolding file_front
-none_in_front name k =
-    none_in_both (one_line name) (codes ": refused " ++ (decimal (number_of k) ++ codes ": ")) (none_in_name name)
-    (none_in_both (codes ": refused ") (decimal (number_of k) ++ codes ": ") refl
-    (none_in_both (decimal (number_of k)) (codes ": ") (none_in_number (number_of k) (small_number k)) refl))
+none_in_front Words name k =
+    none_in_both (file_of Words name).text (text_of_all Words (refusal_pieces (number_of k)))
+    (none_in_file Words name) (none_in_refusal Words k)
+none_in_front Json name k =
+    none_in_both (file_of Json name).text (text_of_all Json (refusal_pieces (number_of k)))
+    (none_in_file Json name) (none_in_refusal Json k)
 
 -- ---- the first lines of a text begin with it
 
@@ -92,20 +170,20 @@ cut_past front rest cut none is =
       | inr past ↦ past
     ]
 
-cut_begins : (front rest : List ℕ) (cut : ℕ) → length front ≤ cut → Begins front (take cut (front ++ rest))
+cut_begins : (front rest : List ℕ) (cut : ℕ) → length front ≤ cut → BeginsWith front (take cut (front ++ rest))
 cut_begins front rest cut past =
     let left = cut - length front in
     let whole : cut ≡ length front + left = omega (arith, past) in
     (take left rest, ap (λ n. take n (front ++ rest)) whole ∙ take-append-add front rest left)
 
-short_begins : (front name text said : List ℕ) → filter ends_line front ≡ [] → Begins front text
-    → IsShort most_places name text said → Begins front said
-short_begins front name text said none (rest, is) (cut, is_cut, says) =
-    let past = cut_past front rest cut none (subst (λ v. IsCut most_places v cut) is is_cut) in
-    let (some, part) = cut_begins front rest cut past in
-    let more = more_text name (nat_lt cut (length text)) in (
+short_begins : (front file : FrontData) (text said : List ℕ) → filter ends_line front.text ≡ [] → Begins front text
+    → IsShort most_places file text said → Begins front said
+short_begins front file text said none (rest, is) (cut, is_cut, says) =
+    let past = cut_past front.text rest cut none (subst (λ v. IsCut most_places v cut) is is_cut) in
+    let (some, part) = cut_begins front.text rest cut past in
+    let more = more_text file (nat_lt cut (length text)) in (
       some ++ more,
-      says ∙ ap (λ v. take cut v ++ more) is ∙ ap (λ v. v ++ more) part ∙ append_assoc front some more,
+      says ∙ ap (λ v. take cut v ++ more) is ∙ ap (λ v. v ++ more) part ∙ append_assoc front.text some more,
     )
 
 -- ---- the tables that a text is
@@ -137,12 +215,13 @@ some_table : (k : ScenarioFault) (text : List ℕ) → RefusedFor k text → ((t
 some_table k text (inl (s, of, uncounted)) none = none s of
 some_table k text (inr (ports, (s, of, counts), more)) none = none s of
 
-tables_first : (name text said : List ℕ) (k : ScenarioFault) → RefusedFor k text → TellsPlaces (one_line name) text said
-    → Begins (file_front (one_line name) k) said
-tables_first name text said k refused (inl (t, is, short)) =
-    short_begins (file_front (one_line name) k) (one_line name) (places_text (one_line name) t) said (none_in_front name k)
-    (least_first (one_line name) k t (refused_table k text t is refused)) short
-tables_first name text said k refused (inr told) = absurd (some_table k text refused told.0)
+tables_first : (form : Form) (name text said : List ℕ) (k : ScenarioFault) → RefusedFor k text → TellsPlaces (file_of form name) text said
+    → Begins (file_front (file_of form name) k) said
+tables_first form name text said k refused (inl (t, is, short)) =
+    let file = file_of form name in
+    short_begins (file_front file k) file (places_text file t) said (none_in_front form name k)
+    (least_first file k t (refused_table k text t is refused)) short
+tables_first form name text said k refused (inr told) = absurd (some_table k text refused told.0)
 
 -- ---- no TOML
 
@@ -150,19 +229,18 @@ no_table : (text : List ℕ) → IsAnswered Toml text → (t : Members) → IsTe
 no_table text (inl none) t is = none t is
 no_table text (inr (ports, counts, none)) t is = none t is
 
-syntax_begins : (name text said : List ℕ) → TellsSyntax name text said → TellsFirst name Toml said
-unfolding syntax_line line
-syntax_begins name text said (none, e, some, within, (message, says)) =
+syntax_begins : (file : FrontData) (text told : List ℕ) → TellsSyntax file text told → TellsFirst file Toml told
+unfolding line line_with
+syntax_begins file text told (none, e, some, within, (message, says)) =
     let number = line_at text (span_start e) in
-    (number, (message ++ 10 ∷ [], says ∙ sym (append_assoc (line_place name number) (codes ": refused 1: ") (message ++ 10 ∷ []))))
+    let front = syntax_front file number in (number, (text_of_all front.form (said [] message []) ++ line_end front.form, says))
 
-syntax_first : (name text said : List ℕ) → IsAnswered Toml text → TellsPlaces (one_line name) text said
-    → TellsFirst (one_line name) Toml said
-syntax_first name text said answered (inl (t, is, short)) = absurd (no_table text answered t is)
-syntax_first name text said answered (inr told) = syntax_begins (one_line name) text said told
+syntax_first : (file : FrontData) (text told : List ℕ) → IsAnswered Toml text → TellsPlaces file text told → TellsFirst file Toml told
+syntax_first file text told answered (inl (t, is, short)) = absurd (no_table text answered t is)
+syntax_first file text told answered (inr syntax) = syntax_begins file text told syntax
 
-pub answer_first : (name text said : List ℕ) (k : ScenarioFault) → IsAnswered k text → TellsPlaces (one_line name) text said
-    → TellsFirst (one_line name) k said
-answer_first name text said Memory answered told = tt
-answer_first name text said Toml answered told = syntax_first name text said answered told
-answer_first name text said k answered told = tables_first name text said k answered told
+pub answer_first : (form : Form) (name text said : List ℕ) (k : ScenarioFault) → IsAnswered k text
+    → TellsPlaces (file_of form name) text said → TellsFirst (file_of form name) k said
+answer_first form name text said Memory answered told = tt
+answer_first form name text said Toml answered told = syntax_first (file_of form name) text said answered told
+answer_first form name text said k answered told = tables_first form name text said k answered told

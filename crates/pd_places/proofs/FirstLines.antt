@@ -5,6 +5,7 @@ use Rattle.std.specs.List.{flat_map}
 use Rattle.std.proofs.lemmas.Bool.{cases_Bool, cases_lt}
 use Rattle.std.proofs.lemmas.Bool.Decides.{nat_tests}
 use Rattle.std.proofs.lemmas.List.{append-nil, length-append, take-append-le, get_or_append_left}
+use Rattle.pd_text.specs.Fronts.{FrontData}
 use Rattle.pd_places.specs.FirstLines.{added, is_full, line_count, most_places, with_byte}
 use Rattle.pd_places.specs.Places.{IsCut, IsShort, more_text}
 
@@ -116,31 +117,32 @@ below_full kept cut full is =
           absurd (omega arith)
     ]
 
-told_too : (kept rest name : List ℕ) (cut : ℕ) → cut < length kept
-    → take cut kept ++ more_text name (nat_lt cut (length kept))
-    ≡ take cut (kept ++ rest) ++ more_text name (nat_lt cut (length (kept ++ rest)))
-told_too kept rest name cut less =
+told_too : (kept rest : List ℕ) (file : FrontData) (cut : ℕ) → cut < length kept
+    → take cut kept ++ more_text file (nat_lt cut (length kept))
+    ≡ take cut (kept ++ rest) ++ more_text file (nat_lt cut (length (kept ++ rest)))
+told_too kept rest file cut less =
     let long = length-append kept rest in
     let some : cut ≤ length kept = omega arith in
     let more : cut < length (kept ++ rest) = omega arith in
-    ap (λ b. take cut kept ++ more_text name b) (is_less cut (length kept) less ∙ sym (is_less cut (length (kept ++ rest)) more))
-    ∙ ap (λ t. t ++ more_text name (nat_lt cut (length (kept ++ rest)))) (sym (take-append-le cut kept rest some)) where
+    ap (λ b. take cut kept ++ more_text file b) (is_less cut (length kept) less ∙ sym (is_less cut (length (kept ++ rest)) more))
+    ∙ ap (λ t. t ++ more_text file (nat_lt cut (length (kept ++ rest)))) (sym (take-append-le cut kept rest some)) where
       is_less : (n m : ℕ) → n < m → nat_lt n m ≡ true
       is_less n m lt = grind (arith, nat_tests)
 
-short_by : (kept whole name said : List ℕ) (cut : ℕ) → IsCut most_places kept cut
-    → said ≡ take cut kept ++ more_text name (nat_lt cut (length kept)) → Keeps kept whole → IsShort most_places name whole said
-short_by kept whole name said cut is says k =
+short_by : (kept whole : List ℕ) (file : FrontData) (said : List ℕ) (cut : ℕ) → IsCut most_places kept cut
+    → said ≡ take cut kept ++ more_text file (nat_lt cut (length kept)) → Keeps kept whole → IsShort most_places file whole said
+short_by kept whole file said cut is says k =
     elim k.all_or_full [
       | inl all ↦
           let same : kept ≡ whole = sym (k.whole_is ∙ ap (λ r. kept ++ r) all ∙ append-nil kept) in
-          subst (λ t. IsShort most_places name t said) same (cut, is, says)
+          subst (λ t. IsShort most_places file t said) same (cut, is, says)
       | inr full ↦
           let less = below_full kept cut full is in
-          let P : List ℕ → Type 0 = λ t. IsShort most_places name t said in
-          subst P (sym k.whole_is) (cut, cut_too kept k.rest cut less is, says ∙ told_too kept k.rest name cut less)
+          let P : List ℕ → Type 0 = λ t. IsShort most_places file t said in
+          subst P (sym k.whole_is) (cut, cut_too kept k.rest cut less is, says ∙ told_too kept k.rest file cut less)
     ]
 
 -- so what is told of it is told of the whole
-pub short_of_kept : (whole name said : List ℕ) → IsShort most_places name (added [] whole) said → IsShort most_places name whole said
-short_of_kept whole name said (cut, is, says) = short_by (added [] whole) whole name said cut is says (keeps [] whole)
+pub short_of_kept : (whole : List ℕ) (file : FrontData) (said : List ℕ) → IsShort most_places file (added [] whole) said
+    → IsShort most_places file whole said
+short_of_kept whole file said (cut, is, says) = short_by (added [] whole) whole file said cut is says (keeps [] whole)

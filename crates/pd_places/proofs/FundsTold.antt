@@ -6,6 +6,7 @@ use Rattle.std.specs.Prelude.{Option, nat_lt, nat_le, min}
 use Rattle.std.specs.List.{list_any, filter_map, cons_option}
 use Rattle.std.proofs.lemmas.Bool.{or_parts}
 use Rattle.std.proofs.lemmas.Bool.Decides.{nat_tests}
+use Rattle.pd_text.specs.Fronts.{FrontData}
 use Rattle.toml.specs.Data.{Members}
 use Rattle.pd_setup.specs.Settings.{SettingsData}
 use Rattle.pd_scenario.specs.Limits.{allows}
@@ -20,7 +21,7 @@ use Rattle.pd_scenario_tables.specs.declared.schema.Key.TheVariants as key
 use Rattle.pd_scenario_tables.specs.declared.schema.Need.TheVariants.{Required}
 use Rattle.pd_scenario_tables.specs.declared.schema.Form.TheVariants as form
 use Rattle.pd_scenario_tables.specs.declared.fault.ScenarioFault.{ScenarioFault}
-use Rattle.pd_scenario_tables.specs.Schema.{rule, top_rules, port_rules}
+use Rattle.pd_scenario_tables.specs.Schema.{rule, text_of, top_rules, port_rules}
 use Rattle.pd_scenario_tables.specs.Tables.{number_at, event_at, fails, event_fails, is_sound, is_sound_event}
 use Rattle.pd_scenario_tables.specs.Convert.{settings_of, event_of, happening_of}
 use Rattle.pd_scenario.specs.Scenarios.{budget_in}
@@ -102,12 +103,12 @@ changes_are n version (t ∷ ts) =
 
 -- ---- a budget that is too low is told
 
-low_told : (front : List ℕ) (k : Key) (mw floors : ℕ) → nat_lt 0 mw ≡ true → Told front (nat_lt mw floors) (low_part front k mw floors)
+low_told : (front : FrontData) (k : Key) (mw floors : ℕ) → nat_lt 0 mw ≡ true → Told front (nat_lt mw floors) (low_part front k mw floors)
 low_told front k mw floors there =
     subst (λ b. Told front b (low_part front k mw floors)) (ap (λ b. b && nat_lt mw floors) there)
-    (if_told front (nat_lt 0 mw && nat_lt mw floors) (low_sentence k mw floors))
+    (if_told front (nat_lt 0 mw && nat_lt mw floors) (text_of k) (low_sentence k mw floors) [])
 
-named_told : (front : List ℕ) (version : Version) (ports floors : ℕ) (name : EventName) (t : Members)
+named_told : (front : FrontData) (version : Version) (ports floors : ℕ) (name : EventName) (t : Members)
     → is_sound version ports (Event name) t ≡ true
     → Told front (lowers floors (budget_in (happening_of name t))) (named_low_part front floors name t)
 named_told front version ports floors (event.OnPort kind) t sound = refl
@@ -115,7 +116,7 @@ named_told front version ports floors event.Budget t sound =
     low_told front key.Mw _ floors (some_power _ (budget_allowed version ports t sound))
 named_told front version ports floors event.Unknown t sound = refl
 
-top_told : (front : List ℕ) (ports floors : ℕ) (d : Tables) → Clean ports d
+top_told : (front : FrontData) (ports floors : ℕ) (d : Tables) → Clean ports d
     → Told front (nat_lt (number_at top_rules key.Budget d.top) floors)
     (low_part front key.Budget (number_at top_rules key.Budget d.top) floors)
 top_told front ports floors d clean =
@@ -135,7 +136,7 @@ budgets_are d =
     ap (λ b. nat_lt mw floors || b) (changes_are floors d.version d.events) ∙ below_least floors mw budgets
     ∙ ap (λ n. not (nat_le n (fold min mw budgets))) (sym (floors_from 0 d.ports))
 
-budgets_told : (front : List ℕ) (ports : ℕ) (d : Tables) → Clean ports d
+budgets_told : (front : FrontData) (ports : ℕ) (d : Tables) → Clean ports d
     → Told front (exceeds_budget (scenario_of d)) (budgets_text front d)
 unfolding budgets_text
 budgets_told front ports d clean =
@@ -147,6 +148,6 @@ budgets_told front ports d clean =
     (named_told (event_front front d.version number t) d.version ports floors (event_at d.version t) t sound))
     1 d.events (sound_events ports d clean)))
 
-pub funds_told : (front : List ℕ) (ports : ℕ) (d : Tables) → nat_lt 8 (length d.ports) ≡ false → Clean ports d
+pub funds_told : (front : FrontData) (ports : ℕ) (d : Tables) → nat_lt 8 (length d.ports) ≡ false → Clean ports d
     → Told front (exceeds_budget (scenario_of d)) (funds_text front d)
 funds_told front ports d few clean = rw few (budgets_told front ports d clean)

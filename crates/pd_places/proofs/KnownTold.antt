@@ -6,6 +6,7 @@ use Rattle.std.specs.List.{list_any, list_all}
 use Rattle.std.specs.Char.{is_ascii_alphanumeric}
 use Rattle.std.proofs.lemmas.Bool.{cases_Bool, and_parts}
 use Rattle.std.proofs.lemmas.Bool.Decides.{nat_tests}
+use Rattle.pd_text.specs.Fronts.{FrontData}
 use Rattle.toml.specs.Data.{Members}
 use Rattle.pd_setup.specs.Events.{KindWord}
 use Rattle.pd_setup.specs.declared.event.EventKind.TheVariants.{Attach}
@@ -26,6 +27,9 @@ use Rattle.pd_scenario_text.specs.Refusals.{has_unknown_name}
 use Rattle.pd_scenario_text.proofs.Decided.{Clean}
 use Rattle.pd_scenario_text.proofs.Valid.{sound_events}
 use Rattle.pd_places.specs.Same.{names_of}
+use Rattle.pd_scenario_tables.specs.Schema.{text_of}
+use Rattle.pd_hints.specs.Slips.{nearest}
+use Rattle.pd_misfits.specs.Hints.{meant_hint}
 use Rattle.pd_misfits.specs.Lines.{event_front}
 use Rattle.pd_places.specs.Known.{stranger_sentence, stranger_part, attach_part, kind_part, named_part, event_known_part, known_text}
 use Rattle.pd_places.proofs.Told.{Told, or_told, if_told, each_told}
@@ -41,12 +45,12 @@ name_there name h =
     let long = and_parts (not (length name == 0) && nat_le (length name) 16) (list_all is_ascii_alphanumeric name) h in
     some_letter (length name) ((and_parts (not (length name == 0)) (nat_le (length name) 16) long.0).0)
 
-stranger_told : (front : List ℕ) (k : Key) (names : List (List ℕ)) (name : List ℕ) → is_name name ≡ true
+stranger_told : (front : FrontData) (k : Key) (names : List (List ℕ)) (name : List ℕ) → is_name name ≡ true
     → Told front (not (list_any (λ other. bytes_eq other name) names)) (stranger_part front k names name)
 stranger_told front k names name there =
     let strange = not (list_any (λ other. bytes_eq other name) names) in
     subst (λ b. Told front b (stranger_part front k names name)) (ap (λ b. b && strange) (name_there name there))
-    (if_told front (nat_lt 0 (length name) && strange) (stranger_sentence k names name))
+    (if_told front (nat_lt 0 (length name) && strange) (text_of k) (stranger_sentence k names name) (meant_hint (nearest name names)))
 
 cable_there : (ts : List Members) (name : List ℕ) → is_some (cable_named (map cable_of ts) name)
     ≡ list_any (λ other. bytes_eq other name) (names_of ts)
@@ -66,7 +70,7 @@ one_of : (a b : Bool) → (not a || not b) ≡ not (a && b)
 one_of true b = refl
 one_of false b = refl
 
-attach_told : (front : List ℕ) (version : Version) (ports : ℕ) (cables sinks : List Members) (t : Members)
+attach_told : (front : FrontData) (version : Version) (ports : ℕ) (cables sinks : List Members) (t : Members)
     → is_sound version ports (Event (event.OnPort (Attach tt tt))) t ≡ true
     → Told front
     (not (is_some (cable_named (map cable_of cables) (word_at key.Cable t))
@@ -84,14 +88,14 @@ attach_told front version ports cables sinks t sound =
     (or_told front (not a) (not b) _ _ (stranger_told front key.Cable (names_of cables) cable named.0)
     (stranger_told front key.Sink (names_of sinks) sink named.1)))
 
-kind_told : (front : List ℕ) (version : Version) (ports : ℕ) (cables sinks : List Members) (kind : KindWord) (t : Members)
+kind_told : (front : FrontData) (version : Version) (ports : ℕ) (cables sinks : List Members) (kind : KindWord) (t : Members)
     → is_sound version ports (Event (event.OnPort kind)) t ≡ true
     → Told front (not (kind_is_known (map cable_of cables) (map sink_of sinks) (kind_in kind t)))
     (kind_part front (names_of cables) (names_of sinks) kind t)
 kind_told front version ports cables sinks (Attach cable sink) t sound = attach_told front version ports cables sinks t sound
 kind_told front version ports cables sinks _ t sound = refl
 
-named_told : (front : List ℕ) (version : Version) (ports : ℕ) (cables sinks : List Members) (name : EventName) (t : Members)
+named_told : (front : FrontData) (version : Version) (ports : ℕ) (cables sinks : List Members) (name : EventName) (t : Members)
     → is_sound version ports (Event name) t ≡ true
     → Told front (not (names_are_known (map cable_of cables) (map sink_of sinks) (happening_of name t)))
     (named_part front (names_of cables) (names_of sinks) name t)
@@ -106,7 +110,7 @@ pub not_all : {A B : Type 0} (q : B → Bool) (f : A → B) (xs : List A)
 not_all q f [] = refl
 not_all q f (x ∷ xs) = rw (not_all q f xs) (one_of (q (f x)) (list_all q (map f xs)))
 
-pub known_told : (front : List ℕ) (ports : ℕ) (d : Tables) → Clean ports d
+pub known_told : (front : FrontData) (ports : ℕ) (d : Tables) → Clean ports d
     → Told front (has_unknown_name (scenario_of d)) (known_text front d)
 unfolding has_unknown_name
 known_told front ports d clean =

@@ -5,6 +5,7 @@ use Rattle.std.specs.Prelude.{Option, Result, nat_lt, find}
 use Rattle.std.specs.List.{flat_map}
 use Rattle.std.proofs.lemmas.Bool.{or_parts}
 use Rattle.std.proofs.lemmas.Bool.Decides.{nat_tests}
+use Rattle.pd_text.specs.Fronts.{FrontData}
 use Rattle.toml.specs.Data.{Members}
 use Rattle.pd_scenario.specs.Scenarios.{ScenarioData}
 use Rattle.pd_scenario_tables.specs.declared.fault.ScenarioFault.{ScenarioFault}
@@ -27,53 +28,53 @@ use Rattle.pd_places.proofs.Counted.{counted_ports, uncounted_told}
 
 -- ---- the first of the refusals from one on
 
-abbrev texts_of : List ℕ → Tables → List ScenarioFault → List ℕ
-texts_of name d faults = flat_map (λ (f : ScenarioFault). refusal_text name f d) faults
+abbrev texts_of : FrontData → Tables → List ScenarioFault → List ℕ
+texts_of file d faults = flat_map (λ (f : ScenarioFault). refusal_text file f d) faults
 
 abbrev first_of : Tables → List ScenarioFault → Option ScenarioFault
 first_of d faults = find (λ (f : ScenarioFault). applies f (length d.ports) d) faults
 
 -- where the first that applies is this one, the text begins with it
-abbrev Leads : List ℕ → Tables → List ScenarioFault → Type 0
-Leads name d faults = (k : ScenarioFault) → first_of d faults ≡ Some k → Begins (file_front name k) (texts_of name d faults)
+abbrev Leads : FrontData → Tables → List ScenarioFault → Type 0
+Leads file d faults = (k : ScenarioFault) → first_of d faults ≡ Some k → Begins (file_front file k) (texts_of file d faults)
 
-none_leads : (name : List ℕ) (d : Tables) → Leads name d []
-none_leads name d k is = absurd (cc)
+none_leads : (file : FrontData) (d : Tables) → Leads file d []
+none_leads file d k is = absurd (cc)
 
 -- one more refusal, before those
-leads : (name : List ℕ) (d : Tables) (f : ScenarioFault) (faults : List ScenarioFault)
-    → Told (file_front name f) (applies f (length d.ports) d) (refusal_text name f d)
-    → (applies f (length d.ports) d ≡ false → Leads name d faults) → Leads name d (f ∷ faults)
-leads name d f faults told others k is =
-    one_told (file_front name) (applies f (length d.ports) d) f k (first_of d faults) (refusal_text name f d) (texts_of name d faults)
+leads : (file : FrontData) (d : Tables) (f : ScenarioFault) (faults : List ScenarioFault)
+    → Told (file_front file f) (applies f (length d.ports) d) (refusal_text file f d)
+    → (applies f (length d.ports) d ≡ false → Leads file d faults) → Leads file d (f ∷ faults)
+leads file d f faults told others k is =
+    one_told (file_front file) (applies f (length d.ports) d) f k (first_of d faults) (refusal_text file f d) (texts_of file d faults)
     told is (λ passed found. others passed k found)
 
 pub few_ports : (n : ℕ) → nat_lt 8 n ≡ false → n ≤ 8
 few_ports n h = grind (arith, nat_tests)
 
 -- from the limits up, and from the names
-later_lead : (name : List ℕ) (d : Tables) → (nat_lt (length d.ports) 1 || nat_lt 8 (length d.ports)) ≡ false → Clean (length d.ports) d
-    → Leads name d (Duplicate ∷ Supplies ∷ Floors ∷ UnknownName ∷ Limit ∷ [])
-later_lead name d within clean =
+later_lead : (file : FrontData) (d : Tables) → (nat_lt (length d.ports) 1 || nat_lt 8 (length d.ports)) ≡ false → Clean (length d.ports) d
+    → Leads file d (Duplicate ∷ Supplies ∷ Floors ∷ UnknownName ∷ Limit ∷ [])
+later_lead file d within clean =
     let n = length d.ports in
     let few = (or_parts (nat_lt n 1) (nat_lt 8 n) within).1 in
-    leads name d Duplicate (Supplies ∷ Floors ∷ UnknownName ∷ Limit ∷ [])
-    (duplicates_told (file_front name Duplicate) n d (few_ports n few) clean)
-    (λ single. leads name d Supplies (Floors ∷ UnknownName ∷ Limit ∷ []) (tables_told (file_front name Supplies) Supplies n d)
-    (λ supplied. leads name d Floors (UnknownName ∷ Limit ∷ []) (funds_told (file_front name Floors) n d few clean)
-    (λ funded. leads name d UnknownName (Limit ∷ []) (known_told (file_front name UnknownName) n d clean)
-    (λ known. leads name d Limit [] (limits_told (file_front name Limit) d within) (λ last. none_leads name d)))))
+    leads file d Duplicate (Supplies ∷ Floors ∷ UnknownName ∷ Limit ∷ [])
+    (duplicates_told (file_front file Duplicate) n d (few_ports n few) clean)
+    (λ single. leads file d Supplies (Floors ∷ UnknownName ∷ Limit ∷ []) (tables_told (file_front file Supplies) Supplies n d)
+    (λ supplied. leads file d Floors (UnknownName ∷ Limit ∷ []) (funds_told (file_front file Floors) n d few clean)
+    (λ funded. leads file d UnknownName (Limit ∷ []) (known_told (file_front file UnknownName) n d clean)
+    (λ known. leads file d Limit [] (limits_told (file_front file Limit) d within) (λ last. none_leads file d)))))
 
-all_lead : (name : List ℕ) (d : Tables) → (nat_lt (length d.ports) 1 || nat_lt 8 (length d.ports)) ≡ false → Leads name d refusals
-all_lead name d within =
+all_lead : (file : FrontData) (d : Tables) → (nat_lt (length d.ports) 1 || nat_lt 8 (length d.ports)) ≡ false → Leads file d refusals
+all_lead file d within =
     let n = length d.ports in
     let later = Duplicate ∷ Supplies ∷ Floors ∷ UnknownName ∷ Limit ∷ [] in
-    leads name d UnknownKey (WrongType ∷ MissingKey ∷ Range ∷ Name ∷ later) (tables_told (file_front name UnknownKey) UnknownKey n d)
-    (λ keys. leads name d WrongType (MissingKey ∷ Range ∷ Name ∷ later) (tables_told (file_front name WrongType) WrongType n d)
-    (λ types. leads name d MissingKey (Range ∷ Name ∷ later) (tables_told (file_front name MissingKey) MissingKey n d)
-    (λ complete. leads name d Range (Name ∷ later) (tables_told (file_front name Range) Range n d)
-    (λ ranged. leads name d Name later (tables_told (file_front name Name) Name n d)
-    (λ named. later_lead name d within
+    leads file d UnknownKey (WrongType ∷ MissingKey ∷ Range ∷ Name ∷ later) (tables_told (file_front file UnknownKey) UnknownKey n d)
+    (λ keys. leads file d WrongType (MissingKey ∷ Range ∷ Name ∷ later) (tables_told (file_front file WrongType) WrongType n d)
+    (λ types. leads file d MissingKey (Range ∷ Name ∷ later) (tables_told (file_front file MissingKey) MissingKey n d)
+    (λ complete. leads file d Range (Name ∷ later) (tables_told (file_front file Range) Range n d)
+    (λ ranged. leads file d Name later (tables_told (file_front file Name) Name n d)
+    (λ named. later_lead file d within
     (record { keys = keys; types = types; complete = complete; ranged = ranged; named = named }))))))
 
 -- ---- a file
@@ -82,14 +83,14 @@ refused_for : (o : Option ScenarioFault) (c : ScenarioData) (k : ScenarioFault) 
 refused_for None c k h = absurd (cc)
 refused_for (Some first) c k h = let same : first ≡ k = cc in ap (λ (f : ScenarioFault). Some f) same
 
-pub least_first : (name : List ℕ) (k : ScenarioFault) (t : Members) → IsRefusedFor k t → Begins (file_front name k) (places_text name t)
-least_first name k t (inl uncounted) =
-    subst (λ (r : Result ℕ ScenarioFault). Begins (file_front name k) (counted_text name (tables_of t) r)) (sym uncounted)
-    (begins_on (file_front name k) (refusal_text name k (tables_of t)) (flat_map (other_text name k (tables_of t)) top_refusals)
-    (uncounted_told name t k uncounted))
-least_first name k t (inr (ports, is, read)) =
+pub least_first : (file : FrontData) (k : ScenarioFault) (t : Members) → IsRefusedFor k t → Begins (file_front file k) (places_text file t)
+least_first file k t (inl uncounted) =
+    subst (λ (r : Result ℕ ScenarioFault). Begins (file_front file k) (counted_text file (tables_of t) r)) (sym uncounted)
+    (begins_on (file_front file k) (refusal_text file k (tables_of t)) (flat_map (other_text file k (tables_of t)) top_refusals)
+    (uncounted_told file t k uncounted))
+least_first file k t (inr (ports, is, read)) =
     let d = tables_of t in
     let (same, within) = counted_ports t ports is in
     let refused = subst (λ n. reading n t ≡ Err k) (sym same) read in
-    subst (λ (r : Result ℕ ScenarioFault). Begins (file_front name k) (counted_text name d r)) (sym is)
-    (all_lead name d within k (refused_for (refusal (length d.ports) d) (scenario_of d) k refused))
+    subst (λ (r : Result ℕ ScenarioFault). Begins (file_front file k) (counted_text file d r)) (sym is)
+    (all_lead file d within k (refused_for (refusal (length d.ports) d) (scenario_of d) k refused))

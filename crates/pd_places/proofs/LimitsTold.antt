@@ -1,8 +1,9 @@
 -- Refusal 11 is told exactly where it applies to a file whose ports are counted.
-use Rattle.std.proofs.Common.{◌≡◌, ℕ, Bool, true, false, ◌||◌, ◌==◌, List, codes, length, refl, ap, subst, arith}
+use Rattle.std.proofs.Common.{◌≡◌, ℕ, Bool, true, false, ◌||◌, ◌==◌, List, [], codes, length, refl, ap, subst, arith}
 use Rattle.std.specs.Prelude.{nat_lt}
 use Rattle.std.proofs.lemmas.Bool.Decides.{nat_tests}
 use Rattle.std.proofs.lemmas.List.{length-map}
+use Rattle.pd_text.specs.Fronts.{FrontData}
 use Rattle.pd_scenario_tables.specs.Convert.{settings_of, cable_of, sink_of, event_of}
 use Rattle.pd_scenario_text.specs.FileTables.{Tables, scenario_of}
 use Rattle.pd_scenario_text.specs.Refusals.{exceed_limits, exceeds_limit}
@@ -16,16 +17,16 @@ none_below n = grind (arith, nat_tests)
 own : (n : ℕ) → (n == n) ≡ true
 own n = grind (arith, nat_tests)
 
-ports_told : (front : List ℕ) (n : ℕ) → Told front (nat_lt n 1 || nat_lt 8 n) (count_part front (codes "ports") 1 8 n)
-ports_told front n = if_told front (nat_lt n 1 || nat_lt 8 n) (count_sentence (codes "ports") 1 8 n)
+ports_told : (front : FrontData) (n : ℕ) → Told front (nat_lt n 1 || nat_lt 8 n) (count_part front (codes "ports") 1 8 n)
+ports_told front n = if_told front (nat_lt n 1 || nat_lt 8 n) [] (count_sentence (codes "ports") 1 8 n) []
 
-most_told : (front noun : List ℕ) (most n : ℕ) → Told front (nat_lt most n) (count_part front noun 0 most n)
+most_told : (front : FrontData) (noun : List ℕ) (most n : ℕ) → Told front (nat_lt most n) (count_part front noun 0 most n)
 most_told front noun most n =
     subst (λ b. Told front b (count_part front noun 0 most n)) (ap (λ b. b || nat_lt most n) (none_below n))
-    (if_told front (nat_lt n 0 || nat_lt most n) (count_sentence noun 0 most n))
+    (if_told front (nat_lt n 0 || nat_lt most n) [] (count_sentence noun 0 most n) [])
 
 -- too many ports, or none
-pub too_many_told : (front : List ℕ) (d : Tables) → (nat_lt (length d.ports) 1 || nat_lt 8 (length d.ports)) ≡ true
+pub too_many_told : (front : FrontData) (d : Tables) → (nat_lt (length d.ports) 1 || nat_lt 8 (length d.ports)) ≡ true
     → Begins front (counts_text front d)
 unfolding counts_text
 too_many_told front d h =
@@ -53,7 +54,7 @@ limits_are d =
     )
     (turned (nat_lt 4096 (length d.events)) (nat_lt 64 (length d.cables)) (nat_lt 64 (length d.sinks)))
 
-pub limits_told : (front : List ℕ) (d : Tables) → (nat_lt (length d.ports) 1 || nat_lt 8 (length d.ports)) ≡ false
+pub limits_told : (front : FrontData) (d : Tables) → (nat_lt (length d.ports) 1 || nat_lt 8 (length d.ports)) ≡ false
     → Told front (exceeds_limit (length d.ports) (scenario_of d)) (counts_text front d)
 unfolding counts_text
 limits_told front d few =

@@ -8,6 +8,7 @@ use Rattle.std.proofs.lemmas.Bool.Decides.{nat_tests}
 use Rattle.std.proofs.lemmas.List.{append-nil}
 use Rattle.std.proofs.lemmas.Simd.{map-map}
 use Rattle.std.proofs.lemmas.Slice.Eq.{bytes_eq-Decides}
+use Rattle.pd_text.specs.Fronts.{FrontData}
 use Rattle.toml.specs.Data.{Members}
 use Rattle.pd_scenario.specs.Limits.{allows}
 use Rattle.pd_scenario.specs.Scenarios.{names_differ, ids_differ, happening_fits}
@@ -29,6 +30,7 @@ use Rattle.pd_scenario_text.specs.Refusals.{has_duplicate}
 use Rattle.pd_scenario_text.proofs.Decided.{Clean}
 use Rattle.pd_scenario_text.proofs.Differing.{differ, differ-part, differ-last, turn_from}
 use Rattle.pd_scenario_text.proofs.Valid.{sound_cables, sound_sinks, sound_events}
+use Rattle.pd_scenario_tables.specs.Schema.{text_of}
 use Rattle.pd_misfits.specs.Values.{quoted}
 use Rattle.pd_misfits.specs.Lines.{table_front}
 use Rattle.pd_places.specs.Numbered.{numbered}
@@ -57,13 +59,14 @@ position_before p i (x ∷ xs) rest h =
 less_is : (a b : ℕ) → a < b → nat_lt a b ≡ true
 less_is a b h = grind (arith, nat_tests)
 
-same_told : (front word : List ℕ) (k : Key) (value : List ℕ) (number j : ℕ)
+same_told : (front : FrontData) (word : List ℕ) (k : Key) (value : List ℕ) (number j : ℕ)
     → Told front (nat_lt (j + 1) number) (same_part front word k value number (Some j))
 same_told front word k value number j =
     numbered_told front word number _ _
-    (if_told (table_front front word number) (nat_lt (j + 1) number) (same_sentence k value word (j + 1)))
+    (if_told (table_front front word number) (nat_lt (j + 1) number) (text_of k) (same_sentence k value word (j + 1)) [])
 
-at_told : {V : Type 0} (front word : List ℕ) (k : Key) (value : List ℕ) (p : V → Bool) (before rest : List V) (x : V) → p x ≡ true
+at_told : {V : Type 0} (front : FrontData) (word : List ℕ) (k : Key) (value : List ℕ) (p : V
+    → Bool) (before rest : List V) (x : V) → p x ≡ true
     → Told front (list_any p before)
     (same_part front word k value (length before + 1) (position_from p 0 (before ++ x ∷ rest)))
 at_told front word k value p before rest x own =
@@ -85,12 +88,13 @@ one_more (y ∷ ys) x = let h = one_more ys x in omega (arith, h)
 
 -- ---- values that differ
 
-abbrev part_of : {V : Type 0} → (V → V → Bool) → (V → Bool) → (V → List ℕ) → List ℕ → List ℕ → Key → List V → ℕ → V → List ℕ
+abbrev part_of : {V : Type 0} → (V → V → Bool) → (V → Bool) → (V → List ℕ) → FrontData → List ℕ → Key → List V → ℕ → V → List ℕ
 part_of eq good value front word k all number x =
     cond (good x) (same_part front word k (value x) number (position_from (λ other. eq other x) 0 all)) []
 
 walk : {V : Type 0} (eq : V → V → Bool) (turn : (a b : V) → eq a b ≡ eq b a) (own : (a : V) → eq a a ≡ true) (good : V → Bool)
-    (value : V → List ℕ) (front word : List ℕ) (k : Key) (before rest all : List V) → all ≡ before ++ rest → differ eq before ≡ true
+    (value : V → List ℕ) (front : FrontData) (word : List ℕ) (k : Key) (before rest all : List V) → all ≡ before ++ rest
+    → differ eq before ≡ true
     → list_all good rest ≡ true
     → Told front (not (differ eq all)) (numbered (part_of eq good value front word k all) (length before + 1) rest)
 unfolding numbered
@@ -127,7 +131,7 @@ names_are (x ∷ xs) = ap (λ b. not (list_any (λ other. bytes_eq other x) xs) 
 abbrev some_text : List ℕ → Bool
 some_text name = nat_lt 0 (length name)
 
-names_told : (front word : List ℕ) (names : List (List ℕ)) → list_all some_text names ≡ true
+names_told : (front : FrontData) (word : List ℕ) (names : List (List ℕ)) → list_all some_text names ≡ true
     → Told front (not (names_differ names)) (same_names_text front word names)
 names_told front word names each =
     subst (λ b. Told front (not b) (same_names_text front word names)) (names_are names)
@@ -152,7 +156,7 @@ own_number a = grind (arith, nat_tests)
 abbrev some_number : ℕ → Bool
 some_number id = nat_lt 0 id
 
-ids_told : (front : List ℕ) (ids : List ℕ) → list_all some_number ids ≡ true
+ids_told : (front : FrontData) (ids : List ℕ) → list_all some_number ids ≡ true
     → Told front (not (differ same_number ids)) (same_ids_text front ids)
 ids_told front ids each =
     walk same_number turn_numbers own_number some_number decimal front (codes "event") key.Id [] ids ids refl refl each
@@ -177,7 +181,7 @@ id_there version ports t few sound =
     let numbers = and_parts (allows quantity.EventId e.id && allows quantity.Time e.at) (happening_fits ports e.happening) fits in
     some_id e.id ((and_parts (allows quantity.EventId e.id) (allows quantity.Time e.at) numbers.0).0)
 
-cables_told : (front : List ℕ) (ports : ℕ) (d : Tables) → Clean ports d
+cables_told : (front : FrontData) (ports : ℕ) (d : Tables) → Clean ports d
     → Told front (not (names_differ (map (λ (cable : NamedCable). cable.name) (map cable_of d.cables))))
     (same_names_text front (codes "cable") (names_of d.cables))
 cables_told front ports d clean =
@@ -186,7 +190,7 @@ cables_told front ports d clean =
     (all_of (is_sound d.version ports Cable) some_text (word_at key.Name)
     (λ t s. name_there (word_at key.Name t) (cable_named d.version ports t s)) d.cables (sound_cables ports d clean)))
 
-sinks_told : (front : List ℕ) (ports : ℕ) (d : Tables) → Clean ports d
+sinks_told : (front : FrontData) (ports : ℕ) (d : Tables) → Clean ports d
     → Told front (not (names_differ (map (λ (sink : NamedSink). sink.name) (map sink_of d.sinks))))
     (same_names_text front (codes "sink") (names_of d.sinks))
 sinks_told front ports d clean =
@@ -195,7 +199,7 @@ sinks_told front ports d clean =
     (all_of (is_sound d.version ports Sink) some_text (word_at key.Name)
     (λ t s. name_there (word_at key.Name t) (sink_named d.version ports t s)) d.sinks (sound_sinks ports d clean)))
 
-events_told : (front : List ℕ) (ports : ℕ) (d : Tables) → ports ≤ 8 → Clean ports d
+events_told : (front : FrontData) (ports : ℕ) (d : Tables) → ports ≤ 8 → Clean ports d
     → Told front (not (ids_differ (map (event_of d.version) d.events))) (same_ids_text front (ids_of d.events))
 events_told front ports d few clean =
     let ids = map-map (λ (e : ScenarioEvent). e.id) (event_of d.version) d.events in
@@ -205,7 +209,7 @@ events_told front ports d few clean =
     (all_of (is_sound_event d.version ports) some_number (λ t. (event_of d.version t).id)
     (λ t s. id_there d.version ports t few s) d.events (sound_events ports d clean)))
 
-pub duplicates_told : (front : List ℕ) (ports : ℕ) (d : Tables) → ports ≤ 8 → Clean ports d
+pub duplicates_told : (front : FrontData) (ports : ℕ) (d : Tables) → ports ≤ 8 → Clean ports d
     → Told front (has_duplicate (scenario_of d)) (same_text front d)
 unfolding has_duplicate same_text
 duplicates_told front ports d few clean =

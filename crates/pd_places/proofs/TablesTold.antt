@@ -1,6 +1,7 @@
 -- The refusals of single tables are told exactly where they apply.
-use Rattle.std.proofs.Common.{ℕ, ◌+◌, Bool, not, ◌&&◌, List, [], ◌∷◌, ◌++◌, codes, decimal, is_none, Option, Some, None, refl}
+use Rattle.std.proofs.Common.{ℕ, ◌+◌, Bool, not, ◌&&◌, List, [], ◌∷◌, ◌++◌, codes, is_none, Option, Some, None, refl}
 use Rattle.std.specs.List.{list_any}
+use Rattle.pd_text.specs.Fronts.{FrontData}
 use Rattle.toml.specs.Data.{Data, Members}
 use Rattle.pd_scenario_tables.specs.declared.schema.Version.{Version}
 use Rattle.pd_scenario_tables.specs.declared.schema.TableKind.{TableKind}
@@ -8,37 +9,39 @@ use Rattle.pd_scenario_tables.specs.declared.schema.TableKind.TheVariants.{Top, 
 use Rattle.pd_scenario_tables.specs.declared.schema.Rule.{Rule}
 use Rattle.pd_scenario_tables.specs.declared.fault.ScenarioFault.{ScenarioFault}
 use Rattle.pd_scenario_tables.specs.declared.fault.ScenarioFault.TheVariants as fault
-use Rattle.pd_scenario_tables.specs.Schema.{rules_of}
+use Rattle.pd_scenario_tables.specs.Schema.{rules_of, text_of}
 use Rattle.pd_scenario_tables.specs.Tables.{value_at, value_fails, event_at, keys_of, has_key, is_required, fails, event_fails}
 use Rattle.pd_scenario_tables.specs.Values.{passes}
 use Rattle.pd_scenario_text.specs.FileTables.{Tables}
 use Rattle.pd_scenario_text.specs.Refusals.{fails_somewhere}
 use Rattle.pd_misfits.specs.Sentences.{value_sentence, missing_sentence, unknown_sentence}
-use Rattle.pd_misfits.specs.Hints.{key_hint}
+use Rattle.pd_misfits.specs.Hints.{key_hint, value_hint}
+use Rattle.pd_misfits.specs.Values.{shown}
 use Rattle.pd_misfits.specs.Lines.{value_part, missing_part, rule_part, key_part, unknown_line, known_keys, table_text, table_front}
-use Rattle.pd_misfits.specs.Lines.{event_front, event_parts, bracketed}
+use Rattle.pd_misfits.specs.Lines.{event_front, event_pieces, table_pieces}
 use Rattle.pd_misfits.specs.Lines.{list_text, events_text, lists_text, tables_text}
 use Rattle.pd_places.proofs.Told.{Told, or_told, any_told, shorter, unless_told, required_told, none_told}
 
-value_told : (front : List ℕ) (refusal : ScenarioFault) (version : Version) (ports : ℕ) (r : Rule) (o : Option Data)
+value_told : (front : FrontData) (refusal : ScenarioFault) (version : Version) (ports : ℕ) (r : Rule) (o : Option Data)
     → Told front (value_fails (passes refusal version ports r.form) o) (value_part front refusal version ports r o)
 value_told front refusal version ports r None = refl
 value_told front refusal version ports r (Some d) =
-    unless_told front (passes refusal version ports r.form d) (value_sentence refusal version ports r.key r.form d)
+    unless_told front (passes refusal version ports r.form d) (text_of r.key)
+    (value_sentence refusal ports r.key r.form d) (value_hint refusal version r.key r.form d)
 
-missing_told : (front : List ℕ) (r : Rule) (o : Option Data) → Told front (is_required r.need && is_none o) (missing_part front r o)
-missing_told front r None = required_told front (is_required r.need) (missing_sentence r.key)
+missing_told : (front : FrontData) (r : Rule) (o : Option Data) → Told front (is_required r.need && is_none o) (missing_part front r o)
+missing_told front r None = required_told front (is_required r.need) (text_of r.key) (missing_sentence r.key) []
 missing_told front r (Some d) = none_told front (is_required r.need)
 
-unknown_told : (front : List ℕ) (version : Version) (kind : TableKind) (k : List ℕ)
+unknown_told : (front : FrontData) (version : Version) (kind : TableKind) (k : List ℕ)
     → Told front (not (has_key (rules_of version kind) k)) (key_part front version kind k)
 unfolding unknown_line
 unknown_told front version kind k =
     unless_told front (has_key (rules_of version kind) k)
-    (unknown_sentence k ++ (known_keys version kind ++ key_hint version kind k))
+    (shown k) (unknown_sentence k ++ known_keys version kind) (key_hint version kind k)
 
 -- one table
-pub table_told : (front : List ℕ) (refusal : ScenarioFault) (version : Version) (ports : ℕ) (kind : TableKind) (t : Members)
+pub table_told : (front : FrontData) (refusal : ScenarioFault) (version : Version) (ports : ℕ) (kind : TableKind) (t : Members)
     → Told front (fails refusal version ports kind t) (table_text front refusal version ports kind t)
 unfolding fails
 table_told front fault.UnknownKey version ports kind t =
@@ -53,18 +56,19 @@ table_told front refusal version ports kind t =
     (rule_part front refusal version ports t) (rules_of version kind)
     (λ (r : Rule). value_told front refusal version ports r (value_at r.key t))
 
-pub numbered_told : (front word : List ℕ) (number : ℕ) (b : Bool) (text : List ℕ) → Told (table_front front word number) b text
+pub numbered_told : (front : FrontData) (word : List ℕ) (number : ℕ) (b : Bool) (text : List ℕ)
+    → Told (table_front front word number) b text
     → Told front b text
 unfolding table_front
-numbered_told front word number b text told = shorter front (word ++ (32 ∷ (decimal number ++ codes ": "))) b text told
+numbered_told front word number b text told = shorter front (table_pieces word number) b text told
 
-pub event_told : (front : List ℕ) (version : Version) (number : ℕ) (t : Members) (b : Bool) (text : List ℕ)
+pub event_told : (front : FrontData) (version : Version) (number : ℕ) (t : Members) (b : Bool) (text : List ℕ)
     → Told (event_front front version number t) b text → Told front b text
 unfolding event_front
 event_told front version number t b text told =
-    shorter front (codes "event " ++ (decimal number ++ (bracketed (event_parts version t) ++ codes ": "))) b text told
+    shorter front (event_pieces version number t) b text told
 
-list_told : (front word : List ℕ) (refusal : ScenarioFault) (version : Version) (ports : ℕ) (kind : TableKind) (number : ℕ)
+list_told : (front : FrontData) (word : List ℕ) (refusal : ScenarioFault) (version : Version) (ports : ℕ) (kind : TableKind) (number : ℕ)
     (ts : List Members)
     → Told front (list_any (fails refusal version ports kind) ts) (list_text front word refusal version ports kind number ts)
 unfolding list_text
@@ -76,7 +80,7 @@ list_told front word refusal version ports kind number (t ∷ ts) =
     (numbered_told front word number _ _ (table_told (table_front front word number) refusal version ports kind t))
     (list_told front word refusal version ports kind (number + 1) ts)
 
-events_told : (front : List ℕ) (refusal : ScenarioFault) (version : Version) (ports number : ℕ) (ts : List Members)
+events_told : (front : FrontData) (refusal : ScenarioFault) (version : Version) (ports number : ℕ) (ts : List Members)
     → Told front (list_any (event_fails refusal version ports) ts) (events_text front refusal version ports number ts)
 unfolding events_text
 events_told front refusal version ports number [] = refl
@@ -89,7 +93,7 @@ events_told front refusal version ports number (t ∷ ts) =
     (events_told front refusal version ports (number + 1) ts)
 
 -- all tables
-pub tables_told : (front : List ℕ) (refusal : ScenarioFault) (ports : ℕ) (d : Tables)
+pub tables_told : (front : FrontData) (refusal : ScenarioFault) (ports : ℕ) (d : Tables)
     → Told front (fails_somewhere refusal ports d) (tables_text front refusal ports d)
 unfolding fails_somewhere tables_text lists_text
 tables_told front refusal ports d =

@@ -1,5 +1,6 @@
 -- Refusal 11: more tables, or fewer, than there may be.
 use Rattle.std.specs.Prelude.{ℕ, ◌||◌, nat_lt, List, [], ◌∷◌, ◌++◌, length, codes, decimal, if◌then◌else◌}
+use Rattle.pd_text.specs.Fronts.{FrontData}
 use Rattle.pd_scenario.specs.Limits.{most_ports, most_names, most_events}
 use Rattle.pd_scenario_text.specs.FileTables.{Tables}
 use Rattle.pd_misfits.specs.Lines.{line}
@@ -8,13 +9,13 @@ unfoldable pub count_sentence : List ℕ → ℕ → ℕ → ℕ → List ℕ
 count_sentence noun low high count =
     codes "there are " ++ (decimal count ++ (32 ∷ (noun ++ (codes ", not " ++ (decimal low ++ (codes " to " ++ decimal high))))))
 
-abbrev pub count_part : List ℕ → List ℕ → ℕ → ℕ → ℕ → List ℕ
+abbrev pub count_part : FrontData → List ℕ → ℕ → ℕ → ℕ → List ℕ
 count_part front noun low high count =
-    if nat_lt count low || nat_lt high count then line front (count_sentence noun low high count) else []
+    if nat_lt count low || nat_lt high count then line front [] (count_sentence noun low high count) [] else []
 
 -- ---- a file
 
-unfoldable pub counts_text : List ℕ → Tables → List ℕ
+unfoldable pub counts_text : FrontData → Tables → List ℕ
 counts_text front d =
     count_part front (codes "ports") 1 most_ports (length d.ports)
     ++ (count_part front (codes "cables") 0 most_names (length d.cables)

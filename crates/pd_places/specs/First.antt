@@ -1,6 +1,8 @@
 -- What the first line of a file's places tells: the number that `check` answers.
-use Rattle.std.specs.Prelude.{◌≡◌, ◌⊎◌, ℕ, true, false, List, [], ◌∷◌, ◌++◌, codes, Ok, Err, All}
+use Rattle.std.specs.Prelude.{◌≡◌, ◌⊎◌, ℕ, true, false, List, [], ◌∷◌, ◌++◌, Ok, Err, All}
 use Rattle.std.specs.List.{list_any}
+use Rattle.pd_text.specs.declared.piece.Form.{Form}
+use Rattle.pd_text.specs.Fronts.{FrontData}
 use Rattle.toml.specs.Data.{Members}
 use Rattle.pd_scenario_tables.specs.declared.fault.ScenarioFault.{ScenarioFault}
 use Rattle.pd_scenario_tables.specs.declared.fault.ScenarioFault.TheVariants.{Toml, UnknownKey, WrongType, MissingKey, Range, Name}
@@ -10,20 +12,24 @@ use Rattle.pd_scenario_text.specs.FileTables.{Tables, tables_of}
 use Rattle.pd_scenario_text.specs.Refusals.{applies, refusals, table_refusals}
 use Rattle.pd_scenario_text.specs.Reading.{reading, Counts, Reads}
 use Rattle.pd_misfits.specs.Lines.{file_front}
-use Rattle.pd_misfits.specs.Texts.{line_place}
-use Rattle.pd_places.specs.Places.{refusal_text, places_text, one_line, TellsPlaces}
+use Rattle.pd_misfits.specs.Texts.{syntax_front}
+use Rattle.pd_places.specs.Places.{refusal_text, places_text, file_of, TellsPlaces}
 
 -- a text begins with another
-abbrev pub Begins : List ℕ → List ℕ → Type 0
-Begins front text = (rest : List ℕ) × (text ≡ front ++ rest)
+abbrev pub BeginsWith : List ℕ → List ℕ → Type 0
+BeginsWith front text = (rest : List ℕ) × (text ≡ front ++ rest)
+
+-- what is told begins so
+abbrev pub Begins : FrontData → List ℕ → Type 0
+Begins front text = BeginsWith front.text text
 
 -- ---- of each refusal
 
 -- where a refusal applies there are places, and the first of them tells its number; where it doesn't, there are none
-abbrev pub IsToldOf : List ℕ → ℕ → Tables → ScenarioFault → Type 0
-IsToldOf name ports d refusal =
-    ((applies refusal ports d ≡ true) × Begins (file_front name refusal) (refusal_text name refusal d))
-    ⊎ ((applies refusal ports d ≡ false) × (refusal_text name refusal d ≡ []))
+abbrev pub IsToldOf : FrontData → ℕ → Tables → ScenarioFault → Type 0
+IsToldOf file ports d refusal =
+    ((applies refusal ports d ≡ true) × Begins (file_front file refusal) (refusal_text file refusal d))
+    ⊎ ((applies refusal ports d ≡ false) × (refusal_text file refusal d ≡ []))
 
 -- none of the refusals up to the names, 2 to 6, applies
 abbrev pub ArePlain : ℕ → Tables → Type 0
@@ -37,9 +43,9 @@ always_told = UnknownKey ∷ WrongType ∷ MissingKey ∷ Range ∷ Name ∷ Sup
 -- where none up to 6 applies.
 abbrev pub ToldWhereItApplies : Type 0
 ToldWhereItApplies =
-    (name : List ℕ) (ports : ℕ) (t : Members) → counted t ≡ Ok ports
-    → All (IsToldOf name ports (tables_of t)) always_told
-    × (ArePlain ports (tables_of t) → All (IsToldOf name ports (tables_of t)) refusals)
+    (file : FrontData) (ports : ℕ) (t : Members) → counted t ≡ Ok ports
+    → All (IsToldOf file ports (tables_of t)) always_told
+    × (ArePlain ports (tables_of t) → All (IsToldOf file ports (tables_of t)) refusals)
 
 -- ---- of the tables of a file
 
@@ -51,8 +57,8 @@ IsRefusedFor refusal t =
 -- Then there is a place, and the first line tells the number of that refusal.
 abbrev pub TheLeastIsFirst : Type 0
 TheLeastIsFirst =
-    (name : List ℕ) (refusal : ScenarioFault) (t : Members) → IsRefusedFor refusal t
-    → Begins (file_front name refusal) (places_text name t)
+    (file : FrontData) (refusal : ScenarioFault) (t : Members) → IsRefusedFor refusal t
+    → Begins (file_front file refusal) (places_text file t)
 
 -- ---- of the text of a file
 
@@ -62,15 +68,15 @@ abbrev pub IsAnswered : ScenarioFault → List ℕ → Type 0
 IsAnswered refusal text =
     Counts text (Err refusal) ⊎ ((ports : ℕ) × Counts text (Ok ports) × Reads ports text (Err refusal))
 
--- What is said begins with the number of a refusal, behind the file's name; that of no TOML, behind the number of a line
+-- What is said begins with the number of a refusal, behind the file; that of no TOML, behind the number of a line
 -- too. Nothing is said of want of memory.
-abbrev pub TellsFirst : List ℕ → ScenarioFault → List ℕ → Type 0
-TellsFirst name Memory said = Unit {0}
-TellsFirst name Toml said = (number : ℕ) × Begins (line_place name number ++ codes ": refused 1: ") said
-TellsFirst name refusal said = Begins (file_front name refusal) said
+abbrev pub TellsFirst : FrontData → ScenarioFault → List ℕ → Type 0
+TellsFirst file Memory said = Unit {0}
+TellsFirst file Toml said = (number : ℕ) × Begins (syntax_front file number) said
+TellsFirst file refusal said = Begins (file_front file refusal) said
 
 -- What is told of a text begins with the number of the refusal that it is answered by.
 abbrev pub TheAnswerIsFirst : Type 0
 TheAnswerIsFirst =
-    (name text said : List ℕ) (refusal : ScenarioFault) → IsAnswered refusal text → TellsPlaces (one_line name) text said
-    → TellsFirst (one_line name) refusal said
+    (form : Form) (name text said : List ℕ) (refusal : ScenarioFault) → IsAnswered refusal text → TellsPlaces (file_of form name) text said
+    → TellsFirst (file_of form name) refusal said

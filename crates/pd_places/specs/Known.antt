@@ -1,8 +1,9 @@
 -- Refusal 10: an attach by a name that no cable, or no sink, has.
 use Rattle.std.specs.Prelude.{ℕ, ◌-◌, ◌&&◌, ◌==◌, not, nat_lt, List, [], ◌∷◌, ◌++◌, length, take, codes, decimal, bytes_eq, if◌then◌else◌}
 use Rattle.std.specs.List.{list_any, flat_map}
+use Rattle.pd_text.specs.Fronts.{FrontData}
 use Rattle.toml.specs.Data.{Members}
-use Rattle.pd_hints.specs.Slips.{nearest, meant_text}
+use Rattle.pd_hints.specs.Slips.{nearest}
 use Rattle.pd_setup.specs.Events.{KindWord}
 use Rattle.pd_setup.specs.declared.event.EventKind.TheVariants.{Attach}
 use Rattle.pd_scenario_tables.specs.declared.schema.Version.{Version}
@@ -14,6 +15,7 @@ use Rattle.pd_scenario_tables.specs.Schema.{text_of}
 use Rattle.pd_scenario_tables.specs.Tables.{word_at, event_at}
 use Rattle.pd_scenario_text.specs.FileTables.{Tables}
 use Rattle.pd_misfits.specs.Values.{quoted}
+use Rattle.pd_misfits.specs.Hints.{meant_hint}
 use Rattle.pd_misfits.specs.Lines.{line, event_front}
 use Rattle.pd_places.specs.Numbered.{numbered}
 use Rattle.pd_places.specs.Same.{names_of}
@@ -36,38 +38,35 @@ names_text names =
 unfoldable pub stranger_words : Key → List (List ℕ) → List ℕ
 stranger_words k names = codes ", the name of no " ++ (text_of k ++ (codes "; there are" ++ names_text names))
 
-unfoldable pub plain_stranger : Key → List (List ℕ) → List ℕ → List ℕ
-plain_stranger k names name = quoted (text_of k) ++ (codes " is " ++ (quoted name ++ stranger_words k names))
-
--- and the first of the names of which it is a slip, where it is one
 unfoldable pub stranger_sentence : Key → List (List ℕ) → List ℕ → List ℕ
-stranger_sentence k names name = plain_stranger k names name ++ meant_text (nearest name names)
+stranger_sentence k names name = quoted (text_of k) ++ (codes " is " ++ (quoted name ++ stranger_words k names))
 
--- a name that isn't there; one that is empty, or doesn't stand there, is told for another refusal
-abbrev pub stranger_part : List ℕ → Key → List (List ℕ) → List ℕ → List ℕ
+-- a name that isn't there, and the first of the names of which it is a slip, where it is one; a name that is empty, or doesn't
+-- stand there, is told for another refusal
+abbrev pub stranger_part : FrontData → Key → List (List ℕ) → List ℕ → List ℕ
 stranger_part front k names name =
     if nat_lt 0 (length name) && not (list_any (λ other. bytes_eq other name) names)
-    then line front (stranger_sentence k names name)
+    then line front (text_of k) (stranger_sentence k names name) (meant_hint (nearest name names))
     else []
 
-unfoldable pub attach_part : List ℕ → List (List ℕ) → List (List ℕ) → Members → List ℕ
+unfoldable pub attach_part : FrontData → List (List ℕ) → List (List ℕ) → Members → List ℕ
 attach_part front cables sinks t =
     stranger_part front key.Cable cables (word_at key.Cable t) ++ stranger_part front key.Sink sinks (word_at key.Sink t)
 
-abbrev pub kind_part : List ℕ → List (List ℕ) → List (List ℕ) → KindWord → Members → List ℕ
+abbrev pub kind_part : FrontData → List (List ℕ) → List (List ℕ) → KindWord → Members → List ℕ
 kind_part front cables sinks (Attach cable sink) t = attach_part front cables sinks t
 kind_part front cables sinks _ t = []
 
-abbrev pub named_part : List ℕ → List (List ℕ) → List (List ℕ) → EventName → Members → List ℕ
+abbrev pub named_part : FrontData → List (List ℕ) → List (List ℕ) → EventName → Members → List ℕ
 named_part front cables sinks (event.OnPort kind) t = kind_part front cables sinks kind t
 named_part front cables sinks event.Budget t = []
 named_part front cables sinks event.Unknown t = []
 
-abbrev pub event_known_part : List ℕ → Version → List (List ℕ) → List (List ℕ) → ℕ → Members → List ℕ
+abbrev pub event_known_part : FrontData → Version → List (List ℕ) → List (List ℕ) → ℕ → Members → List ℕ
 event_known_part front version cables sinks number t =
     named_part (event_front front version number t) cables sinks (event_at version t) t
 
 -- ---- a file
 
-abbrev pub known_text : List ℕ → Tables → List ℕ
+abbrev pub known_text : FrontData → Tables → List ℕ
 known_text front d = numbered (event_known_part front d.version (names_of d.cables) (names_of d.sinks)) 1 d.events

@@ -5,6 +5,7 @@ ghost use Rattle.pd_misfits.specs.Lines.{line};
 ghost use Rattle.pd_places.specs.Counts.{count_sentence, count_part};
 
 use pd_misfits::{push_line, push_number};
+use pd_text::Front;
 use std::alloc::{AllocError, Global};
 
 /// Writes how many there are, and how many there may be.
@@ -32,7 +33,7 @@ fn push_count_sentence(
 pub fn push_count(
     alloc: Global,
     text: &mut Vec<u8>,
-    front: &[u8],
+    front: &Front,
     noun: &str,
     low: u64,
     high: u64,
@@ -45,5 +46,5 @@ pub fn push_count(
     }
     let mut sentence = Vec::new(alloc);
     push_count_sentence(&mut sentence, noun, low, high, count)?;
-    push_line(text, front, sentence.as_slice())
+    push_line(text, front, b"", sentence.as_slice(), b"")
 }

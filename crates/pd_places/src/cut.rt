@@ -4,6 +4,7 @@ ghost use Rattle.std.specs.Prelude.{◌≡◌, ◌<◌, ◌++◌, OnOk, IfOk};
 ghost use Rattle.pd_misfits.specs.Texts.{ends_line};
 ghost use Rattle.pd_places.specs.Places.{IsCut, IsShort, more_line};
 
+use pd_text::{Front, Piece};
 use std::alloc::{AllocError, Global};
 
 /// How many bytes the first lines of a text have, at most so many.
@@ -25,28 +26,27 @@ fn cut_len(text: &[u8], most: u64) -> usize
 
 /// Writes that there are more places.
 #[tactic(auto, unfolding(crate::specs::Places::more_line))]
-fn push_more_line(text: &mut Vec<u8>, name: &[u8]) -> Result<(), AllocError>
-    ensures { OnOk result (text.new.items ≡ text.old.items ++ more_line name.now) }
+fn push_more_line(text: &mut Vec<u8>, file: &Front) -> Result<(), AllocError>
+    ensures { OnOk result (text.new.items ≡ text.old.items ++ more_line file.now) }
 {
-    text.extend_from_slice(name)?;
-    text.extend_from_slice(b": more places\n")
+    file.push_line(text, &[Piece::Text(b": ", b"sentence", b"more places")])
 }
 
-/// The first lines of a text, at most so many, and a line behind a name where there are more.
+/// The first lines of a text, at most so many, and a line behind the front of a file where there are more.
 pub fn first_lines(
     alloc: Global,
-    name: &[u8],
+    file: &Front,
     text: &[u8],
     most: u64,
 ) -> Result<Vec<u8>, AllocError>
     requires { 0 < most }
-    ensures { IfOk result (λ v. IsShort most name.now text.now v.items) }
+    ensures { IfOk result (λ v. IsShort most file.now text.now v.items) }
 {
     let cut = cut_len(text, most);
     let mut said = Vec::new(alloc);
     said.extend_from_slice(&text[..cut])?;
     if cut < text.len() {
-        push_more_line(&mut said, name)?;
+        push_more_line(&mut said, file)?;
     }
     Ok(said)
 }

@@ -9,6 +9,7 @@ ghost use Rattle.pd_places.specs.Funds.{low_sentence, low_part, event_low_part};
 
 use pd_misfits::{event_front, push_line, push_number, push_quoted};
 use pd_scenario_tables::{EventName, Key, Version, event_at, number_at};
+use pd_text::Front;
 use std::alloc::{AllocError, Global};
 use toml::Table;
 
@@ -29,7 +30,7 @@ fn push_low_sentence(text: &mut Vec<u8>, key: Key, mw: u64, floors: u64) -> Resu
 pub fn push_low(
     alloc: Global,
     text: &mut Vec<u8>,
-    front: &[u8],
+    front: &Front,
     key: Key,
     mw: u64,
     floors: u64,
@@ -41,14 +42,15 @@ pub fn push_low(
     }
     let mut sentence = Vec::new(alloc);
     push_low_sentence(&mut sentence, key, mw, floors)?;
-    push_line(text, front, sentence.as_slice())
+    let word = key.text().as_bytes();
+    push_line(text, front, word, sentence.as_slice(), b"")
 }
 
 /// Writes a line for an event that changes the budget to one that is too low.
 fn push_event_low(
     alloc: Global,
     text: &mut Vec<u8>,
-    front: &[u8],
+    front: &Front,
     version: Version,
     floors: u64,
     number: u64,
@@ -60,7 +62,7 @@ fn push_event_low(
         EventName::Budget => {
             let own = event_front(alloc, front, version, number, table)?;
             let mw = u64::from(number_at(table, Key::Mw));
-            push_low(alloc, text, own.as_slice(), Key::Mw, mw, floors)
+            push_low(alloc, text, &own, Key::Mw, mw, floors)
         }
         EventName::OnPort(_) | EventName::Unknown => Ok(()),
     }
@@ -70,7 +72,7 @@ fn push_event_low(
 pub fn push_events_low(
     alloc: Global,
     text: &mut Vec<u8>,
-    front: &[u8],
+    front: &Front,
     version: Version,
     floors: u64,
     tables: &[&Table],

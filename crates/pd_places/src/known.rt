@@ -8,15 +8,16 @@ ghost use Rattle.pd_scenario_text.specs.Names.{texts};
 ghost use Rattle.pd_misfits.specs.Lines.{line};
 ghost use Rattle.pd_places.specs.Numbered.{numbered};
 ghost use Rattle.pd_places.specs.FirstLines.{added};
-ghost use Rattle.pd_places.specs.Known.{more_names, most_names, name_word, names_text, plain_stranger, stranger_words, stranger_sentence};
+ghost use Rattle.pd_places.specs.Known.{more_names, most_names, name_word, names_text, stranger_words, stranger_sentence};
 ghost use Rattle.pd_places.specs.Known.{event_known_part, stranger_part, attach_part};
 
 use crate::collect::word_at;
 use crate::first_lines::FirstLines;
-use pd_hints::{nearest, push_meant};
-use pd_misfits::{event_front, push_line, push_number, push_quoted};
+use pd_hints::nearest;
+use pd_misfits::{event_front, push_line, push_meant, push_number, push_quoted};
 use pd_scenario_tables::{EventName, Key, Version, event_at};
 use pd_setup::EventKind;
+use pd_text::Front;
 use std::alloc::{AllocError, Global};
 use toml::Table;
 
@@ -88,22 +89,6 @@ fn push_stranger_words(text: &mut Vec<u8>, key: Key, names: &[&str]) -> Result<(
 }
 
 /// Writes a name that no table has, and those that there are.
-#[tactic(auto, unfolding(crate::specs::Known::plain_stranger))]
-fn push_plain_stranger(
-    text: &mut Vec<u8>,
-    key: Key,
-    names: &[&str],
-    name: &str,
-) -> Result<(), AllocError>
-    ensures { OnOk result (text.new.items ≡ text.old.items ++ plain_stranger key (texts names.now) name.now) }
-{
-    push_quoted(text, key.text().as_bytes())?;
-    text.extend_from_slice(b" is ")?;
-    push_quoted(text, name.as_bytes())?;
-    push_stranger_words(text, key, names)
-}
-
-/// Writes that, and which name may have been meant.
 #[tactic(auto, unfolding(crate::specs::Known::stranger_sentence))]
 fn push_stranger_sentence(
     text: &mut Vec<u8>,
@@ -113,8 +98,10 @@ fn push_stranger_sentence(
 ) -> Result<(), AllocError>
     ensures { OnOk result (text.new.items ≡ text.old.items ++ stranger_sentence key (texts names.now) name.now) }
 {
-    push_plain_stranger(text, key, names, name)?;
-    push_meant(text, nearest(name.as_bytes(), names))
+    push_quoted(text, key.text().as_bytes())?;
+    text.extend_from_slice(b" is ")?;
+    push_quoted(text, name.as_bytes())?;
+    push_stranger_words(text, key, names)
 }
 
 /// Whether a name is one of some.
@@ -136,7 +123,7 @@ fn has_name(names: &[&str], name: &str) -> bool
 fn push_stranger(
     alloc: Global,
     told: &mut FirstLines,
-    front: &[u8],
+    front: &Front,
     key: Key,
     names: &[&str],
     name: &str,
@@ -148,8 +135,11 @@ fn push_stranger(
     }
     let mut sentence = Vec::new(alloc);
     push_stranger_sentence(&mut sentence, key, names, name)?;
+    let mut hint = Vec::new(alloc);
+    push_meant(&mut hint, nearest(name.as_bytes(), names))?;
+    let word = key.text().as_bytes();
     let mut line = Vec::new(alloc);
-    push_line(&mut line, front, sentence.as_slice())?;
+    push_line(&mut line, front, word, sentence.as_slice(), hint.as_slice())?;
     told.add(line.as_slice())
 }
 
@@ -158,7 +148,7 @@ fn push_stranger(
 fn push_attach(
     alloc: Global,
     told: &mut FirstLines,
-    front: &[u8],
+    front: &Front,
     cables: &[&str],
     sinks: &[&str],
     table: &Table,
@@ -189,7 +179,7 @@ fn push_attach(
 fn push_event_known(
     alloc: Global,
     told: &mut FirstLines,
-    front: &[u8],
+    front: &Front,
     version: Version,
     names: (&[&str], &[&str]),
     number: u64,
@@ -202,7 +192,7 @@ fn push_event_known(
     match event_at(version, table) {
         EventName::OnPort(EventKind::Attach { .. }) => {
             let own = event_front(alloc, front, version, number, table)?;
-            push_attach(alloc, told, own.as_slice(), names.0, names.1, table)
+            push_attach(alloc, told, &own, names.0, names.1, table)
         }
         _ => Ok(()),
     }
@@ -213,7 +203,7 @@ fn push_event_known(
 pub fn push_events_known(
     alloc: Global,
     told: &mut FirstLines,
-    front: &[u8],
+    front: &Front,
     version: Version,
     names: (&[&str], &[&str]),
     tables: &[&Table],

@@ -23,6 +23,7 @@ use crate::known::push_events_known;
 use crate::same::push_same_values;
 use pd_misfits::{explain_tables, explain_top, file_front};
 use pd_scenario_tables::{Key, ScenarioFault, counted, number_at, tables_at, version_at};
+use pd_text::Front;
 use std::alloc::{AllocError, Global};
 use toml::Table;
 
@@ -53,7 +54,7 @@ const REFUSALS: [ScenarioFault; 10] = [
 fn push_duplicates(
     alloc: Global,
     told: &mut FirstLines,
-    front: &[u8],
+    front: &Front,
     top: &Table,
 ) -> Result<(), AllocError>
     ensures { OnOk result (told.new ≡ added told.old (same_text front.now (tables_of (table_view top.now)))) }
@@ -72,7 +73,7 @@ fn push_duplicates(
 fn push_budgets(
     alloc: Global,
     text: &mut Vec<u8>,
-    front: &[u8],
+    front: &Front,
     ports: &[&Table],
     top: &Table,
 ) -> Result<(), AllocError>
@@ -91,7 +92,7 @@ fn push_budgets(
 fn push_funds(
     alloc: Global,
     text: &mut Vec<u8>,
-    front: &[u8],
+    front: &Front,
     top: &Table,
 ) -> Result<(), AllocError>
     ensures { OnOk result (text.new.items ≡ text.old.items ++ funds_text front.now (tables_of (table_view top.now))) }
@@ -107,7 +108,7 @@ fn push_funds(
 fn push_known(
     alloc: Global,
     told: &mut FirstLines,
-    front: &[u8],
+    front: &Front,
     top: &Table,
 ) -> Result<(), AllocError>
     ensures { OnOk result (told.new ≡ added told.old (known_text front.now (tables_of (table_view top.now)))) }
@@ -126,7 +127,7 @@ fn push_known(
 fn push_counts(
     alloc: Global,
     text: &mut Vec<u8>,
-    front: &[u8],
+    front: &Front,
     top: &Table,
 ) -> Result<(), AllocError>
     ensures { OnOk result (text.new.items ≡ text.old.items ++ counts_text front.now (tables_of (table_view top.now))) }
@@ -145,13 +146,13 @@ fn push_counts(
 fn push_misfits(
     alloc: Global,
     text: &mut Vec<u8>,
-    name: &[u8],
+    file: &Front,
     fault: ScenarioFault,
     top: &Table,
 ) -> Result<(), AllocError>
-    ensures { OnOk result (text.new.items ≡ text.old.items ++ file_text name.now fault (tables_of (table_view top.now))) }
+    ensures { OnOk result (text.new.items ≡ text.old.items ++ file_text file.now fault (tables_of (table_view top.now))) }
 {
-    let said = explain_tables(alloc, name, fault, top)?;
+    let said = explain_tables(alloc, file, fault, top)?;
     text.extend_from_slice(said.as_slice())
 }
 
@@ -159,21 +160,20 @@ fn push_misfits(
 fn push_refusal(
     alloc: Global,
     told: &mut FirstLines,
-    name: &[u8],
+    file: &Front,
     fault: ScenarioFault,
     top: &Table,
 ) -> Result<(), AllocError>
-    ensures { OnOk result (told.new ≡ added told.old (refusal_text name.now fault (tables_of (table_view top.now)))) }
+    ensures { OnOk result (told.new ≡ added told.old (refusal_text file.now fault (tables_of (table_view top.now)))) }
 {
-    let front = file_front(alloc, name, fault)?;
-    let front = front.as_slice();
+    let front = file_front(alloc, file, fault)?;
     let mut text = Vec::new(alloc);
     match fault {
-        ScenarioFault::Duplicate => return push_duplicates(alloc, told, front, top),
-        ScenarioFault::UnknownName => return push_known(alloc, told, front, top),
-        ScenarioFault::Floors => push_funds(alloc, &mut text, front, top)?,
-        ScenarioFault::Limit => push_counts(alloc, &mut text, front, top)?,
-        _ => push_misfits(alloc, &mut text, name, fault, top)?,
+        ScenarioFault::Duplicate => return push_duplicates(alloc, told, &front, top),
+        ScenarioFault::UnknownName => return push_known(alloc, told, &front, top),
+        ScenarioFault::Floors => push_funds(alloc, &mut text, &front, top)?,
+        ScenarioFault::Limit => push_counts(alloc, &mut text, &front, top)?,
+        _ => push_misfits(alloc, &mut text, file, fault, top)?,
     }
     told.add(text.as_slice())
 }
@@ -182,18 +182,18 @@ fn push_refusal(
 fn push_refusals(
     alloc: Global,
     told: &mut FirstLines,
-    name: &[u8],
+    file: &Front,
     faults: &[ScenarioFault],
     top: &Table,
 ) -> Result<(), AllocError>
     ensures { OnOk result (told.new
-        ≡ added told.old (flat_map (λ refusal. refusal_text name.now refusal (tables_of (table_view top.now))) faults.now)) }
+        ≡ added told.old (flat_map (λ refusal. refusal_text file.now refusal (tables_of (table_view top.now))) faults.now)) }
 {
     for fault in faults {
         if told.is_full() {
             return Ok(());
         }
-        push_refusal(alloc, told, name, *fault, top)?;
+        push_refusal(alloc, told, file, *fault, top)?;
     }
     Ok(())
 }
@@ -203,17 +203,17 @@ fn push_refusals(
 fn push_other(
     alloc: Global,
     told: &mut FirstLines,
-    name: &[u8],
+    file: &Front,
     fault: ScenarioFault,
     top: &Table,
     other: ScenarioFault,
 ) -> Result<(), AllocError>
-    ensures { OnOk result (told.new ≡ added told.old (other_text name.now fault (tables_of (table_view top.now)) other)) }
+    ensures { OnOk result (told.new ≡ added told.old (other_text file.now fault (tables_of (table_view top.now)) other)) }
 {
     if other.number() == fault.number() {
         return Ok(());
     }
-    let said = explain_top(alloc, name, other, top)?;
+    let said = explain_top(alloc, file, other, top)?;
     told.add(said.as_slice())
 }
 
@@ -221,16 +221,16 @@ fn push_other(
 fn push_others(
     alloc: Global,
     told: &mut FirstLines,
-    name: &[u8],
+    file: &Front,
     fault: ScenarioFault,
     top: &Table,
     others: &[ScenarioFault],
 ) -> Result<(), AllocError>
     ensures { OnOk result (told.new
-        ≡ added told.old (flat_map (other_text name.now fault (tables_of (table_view top.now))) others.now)) }
+        ≡ added told.old (flat_map (other_text file.now fault (tables_of (table_view top.now))) others.now)) }
 {
     for other in others {
-        push_other(alloc, told, name, fault, top, *other)?;
+        push_other(alloc, told, file, fault, top, *other)?;
     }
     Ok(())
 }
@@ -244,16 +244,16 @@ fn push_others(
 pub(crate) fn push_places(
     alloc: Global,
     told: &mut FirstLines,
-    name: &[u8],
+    file: &Front,
     top: &Table,
 ) -> Result<(), AllocError>
-    ensures { OnOk result (told.new ≡ added told.old (places_text name.now (table_view top.now))) }
+    ensures { OnOk result (told.new ≡ added told.old (places_text file.now (table_view top.now))) }
 {
     match counted(top) {
-        Ok(_) => push_refusals(alloc, told, name, &REFUSALS, top),
+        Ok(_) => push_refusals(alloc, told, file, &REFUSALS, top),
         Err(fault) => {
-            push_refusal(alloc, told, name, fault, top)?;
-            push_others(alloc, told, name, fault, top, &TOP_REFUSALS)
+            push_refusal(alloc, told, file, fault, top)?;
+            push_others(alloc, told, file, fault, top, &TOP_REFUSALS)
         }
     }
 }

@@ -12,6 +12,7 @@ ghost use Rattle.pd_places.specs.Same.{first_id, same_id_part, same_ids_text};
 use crate::first_lines::FirstLines;
 use pd_misfits::{push_line, push_number, push_quoted, table_front};
 use pd_scenario_tables::Key;
+use pd_text::Front;
 use std::alloc::{AllocError, Global};
 use std::collections::BTreeSet;
 
@@ -39,7 +40,7 @@ fn push_same_sentence(
 fn push_same(
     alloc: Global,
     text: &mut Vec<u8>,
-    front: &[u8],
+    front: &Front,
     word: &str,
     key: Key,
     value: &[u8],
@@ -53,7 +54,8 @@ fn push_same(
             let own = table_front(alloc, front, word, number as u64)?;
             let mut sentence = Vec::new(alloc);
             push_same_sentence(&mut sentence, key, value, word, before as u64 + 1)?;
-            push_line(text, own.as_slice(), sentence.as_slice())
+            let named = key.text().as_bytes();
+            push_line(text, &own, named, sentence.as_slice(), b"")
         }
         _ => Ok(()),
     }
@@ -78,7 +80,7 @@ fn first_name(names: &[&str], name: &str) -> Option<usize>
 fn push_same_name(
     alloc: Global,
     told: &mut FirstLines,
-    front: &[u8],
+    front: &Front,
     word: &str,
     names: &[&str],
     number: usize,
@@ -117,7 +119,7 @@ fn push_same_name(
 fn push_same_names(
     alloc: Global,
     told: &mut FirstLines,
-    front: &[u8],
+    front: &Front,
     word: &str,
     names: &[&str],
 ) -> Result<(), AllocError>
@@ -148,7 +150,7 @@ fn first_id(ids: &[u32], id: u32) -> Option<usize>
 fn push_same_id(
     alloc: Global,
     told: &mut FirstLines,
-    front: &[u8],
+    front: &Front,
     ids: &[u32],
     number: usize,
     id: u32,
@@ -185,7 +187,7 @@ fn push_same_id(
 fn push_same_ids(
     alloc: Global,
     told: &mut FirstLines,
-    front: &[u8],
+    front: &Front,
     ids: &[u32],
 ) -> Result<(), AllocError>
     ensures { OnOk result (told.new ≡ added told.old (same_ids_text front.now ids.now)) }
@@ -207,7 +209,7 @@ fn push_same_ids(
 pub fn push_same_values(
     alloc: Global,
     told: &mut FirstLines,
-    front: &[u8],
+    front: &Front,
     cables: &[&str],
     sinks: &[&str],
     ids: &[u32],

@@ -3,12 +3,13 @@
 ghost use Rattle.std.specs.Prelude.{◌≡◌, ◌++◌, map, IfOk, OnOk};
 ghost use Rattle.toml.specs.View.{table_view};
 ghost use Rattle.pd_places.specs.FirstLines.{most_places};
-ghost use Rattle.pd_places.specs.Places.{one_line_byte, one_line, places_text, IsShort, TellsPlaces};
+ghost use Rattle.pd_places.specs.Places.{one_line_byte, one_line, file_of, places_text, IsShort, TellsPlaces};
 
 use crate::cut::first_lines;
 use crate::first_lines::{FirstLines, MOST_PLACES};
 use crate::places::push_places;
 use pd_misfits::explain_error;
+use pd_text::{Form, Front};
 use std::alloc::{AllocError, Global};
 use toml::Table;
 
@@ -30,13 +31,26 @@ fn one_line(alloc: Global, name: &[u8]) -> Result<Vec<u8>, AllocError>
     Ok(line)
 }
 
+/// What is told first of a file.
+fn file_of(alloc: Global, form: Form, name: &[u8]) -> Result<Front, AllocError>
+    ensures { IfOk result (λ file. file ≡ file_of form name.now) }
+{
+    match form {
+        Form::Words => {
+            let line = one_line(alloc, name)?;
+            Front::of_file(alloc, form, line.as_slice())
+        }
+        Form::Json => Front::of_file(alloc, form, name),
+    }
+}
+
 /// Twenty of the places of a file's tables, and that there are more.
-fn explain_table(alloc: Global, name: &[u8], top: &Table) -> Result<Vec<u8>, AllocError>
-    ensures { IfOk result (λ v. IsShort most_places name.now (places_text name.now (table_view top.now)) v.items) }
+fn explain_table(alloc: Global, file: &Front, top: &Table) -> Result<Vec<u8>, AllocError>
+    ensures { IfOk result (λ v. IsShort most_places file.now (places_text file.now (table_view top.now)) v.items) }
 {
     let mut told = FirstLines::new(alloc);
-    push_places(alloc, &mut told, name, top)?;
-    first_lines(alloc, name, told.as_slice(), MOST_PLACES)
+    push_places(alloc, &mut told, file, top)?;
+    first_lines(alloc, file, told.as_slice(), MOST_PLACES)
 }
 
 /// Where a scenario file breaks rules: a line for each place of its tables, of twenty at most, and a line where there are more; and
@@ -44,13 +58,17 @@ fn explain_table(alloc: Global, name: &[u8], top: &Table) -> Result<Vec<u8>, All
 ///
 /// # Errors
 /// There is no memory.
-pub fn explain_places(alloc: Global, name: &[u8], text: &[u8]) -> Result<Vec<u8>, AllocError>
-    ensures { IfOk result (λ v. TellsPlaces (one_line name.now) text.now v.items) }
+pub fn explain_places(
+    alloc: Global,
+    form: Form,
+    name: &[u8],
+    text: &[u8],
+) -> Result<Vec<u8>, AllocError>
+    ensures { IfOk result (λ v. TellsPlaces (file_of form name.now) text.now v.items) }
 {
-    let name = one_line(alloc, name)?;
-    let name = name.as_slice();
+    let file = file_of(alloc, form, name)?;
     match toml::table_from_slice(alloc, text) {
-        Ok(table) => explain_table(alloc, name, &table),
-        Err(error) => explain_error(alloc, name, text, &error),
+        Ok(table) => explain_table(alloc, &file, &table),
+        Err(error) => explain_error(alloc, &file, text, &error),
     }
 }

@@ -4,34 +4,11 @@ use crate::Ending;
 use crate::fault::{output, tell, tell_unread};
 use crate::script_file::{read_input, read_script};
 use pd_device::{BenchFault, write_all};
-use pd_explain_text::{Form, SceneFault, Telling, explain_text, push_objects};
+use pd_explain_text::{Form, SceneFault, Telling, explain_text};
 use pd_places::explain_places;
 use pd_port::Meter;
 use std::alloc::Global;
 use std::rt::Files;
-
-/// Writes what is told of the places of a scenario's file: lines as they are, or as JSON objects.
-fn write_places<R: Print + Alloc<A = Global>, E: Print>(
-    rt: &R,
-    errors: &E,
-    telling: &Telling<'_>,
-    lines: &[u8],
-) -> Ending {
-    let mut objects = Vec::new(rt.alloc());
-    let told = match telling.form {
-        Form::Words => lines,
-        Form::Json => {
-            if push_objects(&mut objects, telling.file, telling.file, lines).is_err() {
-                return tell(errors, BenchFault::Memory);
-            }
-            objects.as_slice()
-        }
-    };
-    match write_all(&mut output(rt), told) {
-        Ok(()) => Ending::Refused,
-        Err(fault) => tell(errors, fault),
-    }
-}
 
 /// Tells where the scenario of a file, which couldn't be read, breaks rules. Where it breaks none, it was memory that was wanting.
 fn tell_places<R: Print + Alloc<A = Global>, E: Print>(
@@ -40,12 +17,11 @@ fn tell_places<R: Print + Alloc<A = Global>, E: Print>(
     telling: &Telling<'_>,
     text: &[u8],
 ) -> Ending {
-    let name = match telling.form {
-        Form::Words => telling.file,
-        Form::Json => b"",
-    };
-    match explain_places(rt.alloc(), name, text) {
-        Ok(said) if !said.is_empty() => write_places(rt, errors, telling, said.as_slice()),
+    match explain_places(rt.alloc(), telling.form, telling.file, text) {
+        Ok(said) if !said.is_empty() => match write_all(&mut output(rt), said.as_slice()) {
+            Ok(()) => Ending::Refused,
+            Err(fault) => tell(errors, fault),
+        },
         _ => tell(errors, BenchFault::Memory),
     }
 }

@@ -17,11 +17,11 @@ loop-table-preserved c =
           ∙ next_left
           (λ ts. c.loop-table.text.items ++ events_text c.args.front.now told.fault told.version told.ports c.loop-table.number (views ts))
           c.args.tables.now c.loop-table.table-index c.table-item.result c.loop-table-test.true c.table-item.is)
-          (c.as_slice.ensures.value ∙ c.in_ok-own.ensures)
+          c.in_ok-own.ensures
           (c.in_ok-push_table.ensures
           ∙ ap
           (λ name. c.loop-table.text.items
-          ++ table_text c.as_slice.result.now told.fault told.version told.ports (Event name) (table_view c.table-item.result.now))
+          ++ table_text c.in_ok-own.own told.fault told.version told.ports (Event name) (table_view c.table-item.result.now))
           c.event_at.ensures);
       count = omega (arith, c.loop-table.invariant.count);
     }

@@ -10,14 +10,14 @@ loop-table-preserved c =
     let told = c.args.refused in
     record {
       text =
-          more_listed _ c.loop-table.text.items _ c.args.front.now c.args.word.now _ told.fault told.version told.ports c.args.kind
+          more_listed _ c.loop-table.text.items _ c.args.front.now _ c.args.word.now told.fault told.version told.ports c.args.kind
           c.loop-table.number _ _
           (c.loop-table.invariant.text
           ∙ next_left
           (λ ts. c.loop-table.text.items
           ++ list_text c.args.front.now c.args.word.now told.fault told.version told.ports c.args.kind c.loop-table.number (views ts))
           c.args.tables.now c.loop-table.table-index c.table-item.result c.loop-table-test.true c.table-item.is)
-          (c.as_slice.ensures.value ∙ c.in_ok-own.ensures) c.in_ok-push_table.ensures;
+          c.in_ok-own.ensures c.in_ok-push_table.ensures;
       count = omega (arith, c.loop-table.invariant.count);
     }
 

@@ -1,5 +1,6 @@
 use Rattle.std.proofs.Common.{◌≡◌, ◌++◌, ◌∙◌, ℕ, List, sym, ap}
 use Rattle.std.proofs.lemmas.Result.{on_ok_weaker}
+use Rattle.pd_text.specs.Fronts.{FrontData}
 use Rattle.toml.specs.Data.{Members}
 use Rattle.toml.specs.View.{table_view}
 use Rattle.pd_scenario_tables.specs.declared.schema.Key.TheVariants as key
@@ -11,7 +12,8 @@ use Rattle.pd_places.proofs.FirstLines.{both_added}
 use Rattle.pd_places.proofs.known.push_attach.Goals as goal
 
 -- the name of the cable, and that of the sink
-both_names : (text one two front cable sink : List ℕ) (cables sinks : List (List ℕ)) (t : Members) → cable ≡ word_at key.Cable t
+both_names : (text one two : List ℕ) (front : FrontData) (cable sink : List ℕ) (cables sinks : List (List ℕ)) (t : Members)
+    → cable ≡ word_at key.Cable t
     → sink ≡ word_at key.Sink t → one ≡ added text (stranger_part front key.Cable cables cable)
     → two ≡ added one (stranger_part front key.Sink sinks sink) → two ≡ added text (attach_part front cables sinks t)
 unfolding attach_part

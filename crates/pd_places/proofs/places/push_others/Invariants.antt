@@ -8,5 +8,5 @@ use Rattle.pd_places.proofs.places.push_others.Given as goal
 
 abbrev pub invariant-loop-other : goal.invariant-loop-other
 invariant-loop-other l =
-    added l.initial.told (flat_map (other_text l.name l.fault (tables_of (table_view l.top))) l.others)
-    ≡ added l.told (flat_map (other_text l.name l.fault (tables_of (table_view l.top))) (drop l.other-index l.others))
+    added l.initial.told (flat_map (other_text l.file l.fault (tables_of (table_view l.top))) l.others)
+    ≡ added l.told (flat_map (other_text l.file l.fault (tables_of (table_view l.top))) (drop l.other-index l.others))

@@ -10,9 +10,9 @@ use Rattle.pd_places.proofs.places.push_refusals.Goals as goal
 
 pub loop-fault-preserved : goal.loop-fault-preserved
 loop-fault-preserved c =
-    more_parts (λ refusal. refusal_text c.args.name.now refusal (tables_of (table_view c.args.top.now))) _ c.loop-fault.told _ _ _
+    more_parts (λ refusal. refusal_text c.args.file.now refusal (tables_of (table_view c.args.top.now))) _ c.loop-fault.told _ _ _
     (c.loop-fault.invariant
-    ∙ at_drop_more (λ xs. added c.loop-fault.told (flat_map (λ refusal. refusal_text c.args.name.now refusal (tables_of
+    ∙ at_drop_more (λ xs. added c.loop-fault.told (flat_map (λ refusal. refusal_text c.args.file.now refusal (tables_of
     (table_view c.args.top.now))) xs)) c.args.faults.now c.loop-fault.fault-index _
     c.loop-fault-test.true)
     c.in_ok-push_refusal.ensures
@@ -21,7 +21,7 @@ pub returns : goal.returns
 returns c =
     no_bytes _ c.loop-fault.told
     (c.loop-fault.invariant
-    ∙ at_drop_all (λ xs. added c.loop-fault.told (flat_map (λ refusal. refusal_text c.args.name.now refusal (tables_of
+    ∙ at_drop_all (λ xs. added c.loop-fault.told (flat_map (λ refusal. refusal_text c.args.file.now refusal (tables_of
     (table_view c.args.top.now))) xs)) c.args.faults.now c.loop-fault.fault-index
     c.loop-fault-test.false)
 

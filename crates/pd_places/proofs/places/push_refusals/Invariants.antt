@@ -8,5 +8,5 @@ use Rattle.pd_places.proofs.places.push_refusals.Given as goal
 
 abbrev pub invariant-loop-fault : goal.invariant-loop-fault
 invariant-loop-fault l =
-    added l.initial.told (flat_map (λ refusal. refusal_text l.name refusal (tables_of (table_view l.top))) l.faults)
-    ≡ added l.told (flat_map (λ refusal. refusal_text l.name refusal (tables_of (table_view l.top))) (drop l.fault-index l.faults))
+    added l.initial.told (flat_map (λ refusal. refusal_text l.file refusal (tables_of (table_view l.top))) l.faults)
+    ≡ added l.told (flat_map (λ refusal. refusal_text l.file refusal (tables_of (table_view l.top))) (drop l.fault-index l.faults))

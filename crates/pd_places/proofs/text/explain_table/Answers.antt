@@ -1,5 +1,6 @@
 use Rattle.std.proofs.Common.{◌≡◌, ◌∙◌, ap, subst, ℕ, List, [], Result, Ok, Err}
 use Rattle.std.specs.Prelude.{IfOk}
+use Rattle.pd_text.specs.Fronts.{FrontData}
 use Rattle.toml.specs.View.{table_view}
 use Rattle.pd_places.specs.FirstLines.{added, most_places}
 use Rattle.pd_places.specs.Places.{IsShort, places_text}
@@ -11,16 +12,16 @@ if_ok-map : {T E : Type 0} (r : Result T E) (P Q : T → Type 0) → ((v : T) �
 if_ok-map (Ok v) P Q follows holds = follows v holds
 if_ok-map (Err e) P Q follows holds = holds
 
-short : (whole name kept said : List ℕ) → kept ≡ added [] whole → IsShort most_places name kept said
-    → IsShort most_places name whole said
-short whole name kept said is told = short_of_kept whole name said (subst (λ t. IsShort most_places name t said) is told)
+short : (whole : List ℕ) (file : FrontData) (kept said : List ℕ) → kept ≡ added [] whole → IsShort most_places file kept said
+    → IsShort most_places file whole said
+short whole file kept said is told = short_of_kept whole file said (subst (λ t. IsShort most_places file t said) is told)
 
 pub returns : goal.returns
 returns c =
-    if_ok-map c.first_lines.result (λ v. IsShort most_places c.args.name.now c.as_slice.result.now v.items)
-    (λ v. IsShort most_places c.args.name.now (places_text c.args.name.now (table_view c.args.top.now)) v.items)
-    (λ v told. short (places_text c.args.name.now (table_view c.args.top.now)) c.args.name.now c.as_slice.result.now v.items
-    (c.as_slice.ensures ∙ c.in_ok-push_places.ensures ∙ ap (λ t. added t (places_text c.args.name.now
+    if_ok-map c.first_lines.result (λ v. IsShort most_places c.args.file.now c.as_slice.result.now v.items)
+    (λ v. IsShort most_places c.args.file.now (places_text c.args.file.now (table_view c.args.top.now)) v.items)
+    (λ v told. short (places_text c.args.file.now (table_view c.args.top.now)) c.args.file.now c.as_slice.result.now v.items
+    (c.as_slice.ensures ∙ c.in_ok-push_places.ensures ∙ ap (λ t. added t (places_text c.args.file.now
     (table_view c.args.top.now))) c.new-told.ensures)
     told)
     c.first_lines.ensures

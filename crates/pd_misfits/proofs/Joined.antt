@@ -1,0 +1,5 @@
+-- Texts that are written part by part.
+use Rattle.std.proofs.Common.{◌≡◌, ℕ, List, ◌++◌, ap, ◌∙◌, append_assoc}
+
+pub joined_two : (t t1 t2 a b : List ℕ) → t1 ≡ t ++ a → t2 ≡ t1 ++ b → t2 ≡ t ++ (a ++ b)
+joined_two t t1 t2 a b h1 h2 = h2 ∙ ap (λ x. x ++ b) h1 ∙ append_assoc t a b
