@@ -10,3 +10,4 @@ mod RowLemmas
 mod TruthLemmas
 pub mod WalkLemmas
 mod WatchLemmas
+mod WholeLemmas

@@ -24,7 +24,9 @@ use Rattle.pd_sweep.specs.declared.tally.Tally.{Tally}
 use Rattle.pd_sweep.specs.declared.packets.Target.{Target}
 use Rattle.pd_sweep.specs.declared.trial.Trial.{Trial}
 use Rattle.pd_sweep.specs.Forms.{head, tally_text, trial_text}
+use Rattle.pd_sweep.specs.Parts.{part_of}
 use Rattle.pd_sweep.specs.declared.form.Form.{Form}
+use Rattle.pd_sweep.specs.declared.part.Part.{Part}
 
 -- the trials of the first packets, whose lines were written, and their tally
 pub record Progress (n : ℕ) (c : ScenarioData) (order : Campaign) (form : Form) (old : Findings) (targets : List Target) (i : ℕ)
@@ -69,13 +71,13 @@ module _ (n : ℕ) (c : ScenarioData) (order : Campaign) (form : Form) (old : Fi
         rw (lines_push p.trials trial) (Appends-trans a b d (lines_of form old p.trials) (trial_text form old trial) p.appends wrote);
   }
 
-  module _ (base : List (ℕ × Entry)) (shows : Shows (plan_of c) base) (old_is : AreFindings (plan_of c) base old)
-      (targets_are : targets ≡ chosen order.choice base) where
+  module _ (piece : Option Part) (base : List (ℕ × Entry)) (shows : Shows (plan_of c) base) (old_is : AreFindings (plan_of c) base old)
+      (targets_are : targets ≡ part_of piece (chosen order.choice base)) where
     -- what was written of the lines of these trials
     pub began : (i : ℕ) (trials : List Trial) (a b : Option (List ℕ)) → packets trials ≡ take i targets →
         AllByRecursion (IsTrial n c order) trials →
         WrotePart a b (lines_of form old trials ++ tally_text form order.reserve (tally_of order.reserve old trials)) →
-        BeganSweep n c order form a b
+        BeganSweep n c order piece form a b
     began i trials a b here each part = record {
       base = base;
       shows = shows;
@@ -85,11 +87,11 @@ module _ (n : ℕ) (c : ScenarioData) (order : Campaign) (form : Form) (old : Fi
       rest = drop i targets;
       packets_are = ap (λ v. v ++ drop i targets) here ∙ take-append-drop i targets ∙ targets_are;
       each = each;
-      part = part;
+      wrote = part;
     }
 
     -- what stands before the first line is written in part
-    pub began_head : (a b : Option (List ℕ)) → WrotePart a b (head form) → BeganSweep n c order form a b
+    pub began_head : (a b : Option (List ℕ)) → WrotePart a b (head form) → BeganSweep n c order piece form a b
     began_head a b part =
         let none : List Trial = [] in
         began 0 none a b refl tt
@@ -97,7 +99,7 @@ module _ (n : ℕ) (c : ScenarioData) (order : Campaign) (form : Form) (old : Fi
         (rw (append-nil (head form)) part))
 
     pub began_so_far : (i : ℕ) (tally : Tally) (a b : Option (List ℕ)) → Progress n c order form old targets i tally a b →
-        BeganSweep n c order form a b
+        BeganSweep n c order piece form a b
     began_so_far i tally a b p =
         began i p.trials a b p.packets_are p.each (record {
           out = lines_of form old p.trials;
@@ -108,7 +110,7 @@ module _ (n : ℕ) (c : ScenarioData) (order : Campaign) (form : Form) (old : Fi
     -- a line that is written in part
     pub began_torn : (i : ℕ) (tally : Tally) (a b d : Option (List ℕ)) (trial : Trial) → Progress n c order form old targets i tally a b →
         take (i + 1) targets ≡ take i targets ++ trial.target ∷ [] → IsTrial n c order trial → WrotePart b d (trial_text form old trial) →
-        BeganSweep n c order form a d
+        BeganSweep n c order piece form a d
     began_torn i tally a b d trial p here is part =
         let trials : List Trial = p.trials ++ trial ∷ [] in
         let all : WrotePart a d (lines_of form old trials) =
@@ -120,7 +122,7 @@ module _ (n : ℕ) (c : ScenarioData) (order : Campaign) (form : Form) (old : Fi
 
     -- the summary that is written in part
     pub began_closing : (i : ℕ) (tally : Tally) (a b d : Option (List ℕ)) → Progress n c order form old targets i tally a b →
-        WrotePart b d (tally_text form order.reserve tally) → BeganSweep n c order form a d
+        WrotePart b d (tally_text form order.reserve tally) → BeganSweep n c order piece form a d
     began_closing i tally a b d p part =
         let P : Tally → Type 0 = λ t. WrotePart b d (tally_text form order.reserve t) in
         began i p.trials a d p.packets_are p.each
@@ -129,15 +131,17 @@ module _ (n : ℕ) (c : ScenarioData) (order : Campaign) (form : Form) (old : Fi
 
     -- all
     pub wrote : (i : ℕ) (tally : Tally) (a b d : Option (List ℕ)) → length targets ≤ i → Progress n c order form old targets i tally a b →
-        Appends b d (tally_text form order.reserve tally) → WroteSweep n c order form a d tally
+        Appends b d (tally_text form order.reserve tally) → WroteSweep n c order piece form a d tally
     wrote i tally a b d past p closing = record {
-      base = base;
-      shows = shows;
       without = old;
-      without_is = old_is;
       trials = p.trials;
-      packets_are = p.packets_are ∙ take_all i targets past ∙ targets_are;
-      each = p.each;
+      are_trials = record {
+        base = base;
+        shows = shows;
+        without_is = old_is;
+        packets_are = p.packets_are ∙ take_all i targets past ∙ targets_are;
+        each = p.each;
+      };
       tally_is = p.tally_is;
       appends = Appends-trans a b d (lines_of form old p.trials) (tally_text form order.reserve tally) p.appends closing;
     }

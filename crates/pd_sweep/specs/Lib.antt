@@ -3,6 +3,7 @@ pub mod Counts
 pub mod Forms
 pub mod Names
 pub mod Objects
+pub mod Parts
 pub mod Rows
 pub mod Sweeps
 pub mod Texts
@@ -14,3 +15,4 @@ pub mod Tallies
 pub mod Trials
 pub mod Variants
 pub mod Words
+pub mod Whole

@@ -19,7 +19,9 @@ use Rattle.pd_sweep.specs.declared.tally.Tally.{Tally}
 use Rattle.pd_sweep.specs.declared.packets.Target.{Target}
 use Rattle.pd_sweep.specs.declared.trial.Trial.{Trial}
 use Rattle.pd_sweep.specs.Forms.{head, tally_text, trial_text}
+use Rattle.pd_sweep.specs.Parts.{part_of}
 use Rattle.pd_sweep.specs.declared.form.Form.{Form}
+use Rattle.pd_sweep.specs.declared.part.Part.{Part}
 
 -- the packets of trials
 abbrev pub packets : List Trial → List Target
@@ -29,36 +31,43 @@ packets trials = map (λ (trial : Trial). trial.target) trials
 abbrev pub lines_of : Form → Findings → List Trial → List ℕ
 lines_of form old trials = head form ++ flat_map (trial_text form old) trials
 
--- Each packet that is chosen of the scenario's run, which is safe, has its trial, in the run's order, and the text tells of these.
-pub record WroteSweep (n : ℕ) (c : ScenarioData) (campaign : Campaign) (form : Form) (old new : Option (List ℕ)) (tally : Tally)
+-- Each packet that is chosen of the scenario's run, which is safe, or each of a part of these, has its trial, in the run's order; and
+-- these are the findings of that run, in which none is lost.
+pub record AreTrials (n : ℕ) (c : ScenarioData) (campaign : Campaign) (part : Option Part) (without : Findings) (trials : List Trial)
+    : Type 0 where
+  pub base : List (ℕ × Entry)
+  pub shows : Shows (plan_of c) base
+  pub without_is : AreFindings (plan_of c) base without
+  pub packets_are : packets trials ≡ part_of part (chosen campaign.choice base)
+  pub each : AllByRecursion (IsTrial n c campaign) trials
+
+-- the text tells of these trials
+pub record WroteSweep (n : ℕ) (c : ScenarioData) (campaign : Campaign) (part : Option Part) (form : Form) (old new : Option (List ℕ))
+    (tally : Tally) : Type 0 where
+  pub without : Findings
+  pub trials : List Trial
+  pub are_trials : AreTrials n c campaign part without trials
+  pub tally_is : tally ≡ tally_of campaign.reserve without trials
+  pub appends : Appends old new (lines_of form without trials ++ tally_text form campaign.reserve tally)
+
+-- the first bytes of the text of the first of these packets were written
+pub record BeganSweep (n : ℕ) (c : ScenarioData) (campaign : Campaign) (part : Option Part) (form : Form) (old new : Option (List ℕ))
     : Type 0 where
   pub base : List (ℕ × Entry)
   pub shows : Shows (plan_of c) base
   pub without : Findings
   pub without_is : AreFindings (plan_of c) base without
   pub trials : List Trial
-  pub packets_are : packets trials ≡ chosen campaign.choice base
-  pub each : AllByRecursion (IsTrial n c campaign) trials
-  pub tally_is : tally ≡ tally_of campaign.reserve without trials
-  pub appends : Appends old new (lines_of form without trials ++ tally_text form campaign.reserve tally)
-
--- the first bytes of the text of the first of the chosen packets were written
-pub record BeganSweep (n : ℕ) (c : ScenarioData) (campaign : Campaign) (form : Form) (old new : Option (List ℕ)) : Type 0 where
-  pub base : List (ℕ × Entry)
-  pub shows : Shows (plan_of c) base
-  pub without : Findings
-  pub without_is : AreFindings (plan_of c) base without
-  pub trials : List Trial
   pub rest : List Target
-  pub packets_are : packets trials ++ rest ≡ chosen campaign.choice base
+  pub packets_are : packets trials ++ rest ≡ part_of part (chosen campaign.choice base)
   pub each : AllByRecursion (IsTrial n c campaign) trials
-  pub part :
+  pub wrote :
       WrotePart old new (lines_of form without trials ++ tally_text form campaign.reserve (tally_of campaign.reserve without trials))
 
 -- where the run of the scenario itself has no memory, nothing is written
-abbrev pub Sweeps : ℕ → ScenarioData → Campaign → Form → Result Tally BenchFault → Option (List ℕ) → Option (List ℕ) → Type 0
-Sweeps n c campaign form (Ok tally) old new = WroteSweep n c campaign form old new tally
-Sweeps n c campaign form (Err fault) old new = (new ≡ old) ⊎ BeganSweep n c campaign form old new
+abbrev pub Sweeps : ℕ → ScenarioData → Campaign → Option Part → Form → Result Tally BenchFault → Option (List ℕ) → Option (List ℕ) → Type 0
+Sweeps n c campaign part form (Ok tally) old new = WroteSweep n c campaign part form old new tally
+Sweeps n c campaign part form (Err fault) old new = (new ≡ old) ⊎ BeganSweep n c campaign part form old new
 
 -- whether a write failed, by the count of failed calls; no read does
 abbrev pub CountsSweep : {X : Type 0} → Result X BenchFault → ℕ → ℕ → Type 0

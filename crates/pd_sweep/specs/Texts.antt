@@ -6,9 +6,11 @@ use Rattle.pd_sweep.specs.declared.choice.Campaign.{Campaign}
 use Rattle.pd_sweep.specs.declared.tally.Tally.{Tally}
 use Rattle.pd_sweep.specs.Sweeps.{CountsSweep, Sweeps}
 use Rattle.pd_sweep.specs.declared.form.Form.{Form}
+use Rattle.pd_sweep.specs.declared.part.Part.{Part}
 
--- the sweep of a scenario of n ports, or some first bytes of it where a run fails; and the count of failed writes says whether one failed
-pub record SweepsScene (campaign : Campaign) (form : Form) (n : ℕ) (s : ScenarioData) (result : Result Tally BenchFault)
-    (taken taken' : Option (List ℕ)) (writes writes' : ℕ) : Type 0 where
-  pub text : Sweeps n s campaign form result taken taken'
+-- the sweep of a scenario of n ports or a part of it, or some first bytes of that where a run fails; and the count of failed writes says
+-- whether one failed
+pub record SweepsScene (campaign : Campaign) (part : Option Part) (form : Form) (n : ℕ) (s : ScenarioData)
+    (result : Result Tally BenchFault) (taken taken' : Option (List ℕ)) (writes writes' : ℕ) : Type 0 where
+  pub text : Sweeps n s campaign part form result taken taken'
   pub counts : CountsSweep result writes writes'

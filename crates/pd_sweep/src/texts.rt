@@ -1,10 +1,11 @@
 //! Each packet of a run lost in turn, for the scenarios of texts.
 
+ghost use Rattle.std.specs.Prelude.{None, Some};
 ghost use Rattle.pd_scene.specs.Outlet.{SameEnds};
 ghost use Rattle.pd_scene.specs.Scene.{Scene, follows};
 ghost use Rattle.pd_sweep.specs.Texts.{SweepsScene};
 
-use crate::{Campaign, Form, Tally, sweep};
+use crate::{Campaign, Form, Part, Tally, sweep};
 use pd_device::{BenchFault, TextOut};
 use pd_keep::Kept;
 use pd_port::Meter;
@@ -13,10 +14,11 @@ use pd_scenario::Scenario;
 use pd_scene::{Job, JobOn, Outlet, SceneFault, on_scene};
 use std::alloc::Global;
 
-// Which packets are lost, and how that is told.
+// Which packets are lost, all of them or a part, and how that is told.
 #[derive(Drop)]
 struct Sweeping<'a> {
     campaign: &'a Campaign,
+    part: Option<Part>,
     form: Form,
 }
 
@@ -26,7 +28,7 @@ impl<'w, W: TextOut> Job<Outlet<'w, W, Meter>> for Sweeping<'_> {
     ghost needs = { λ j. j.campaign.now.choice.port };
 
     ghost does = { λ j n s r old new. SameEnds old new
-        × SweepsScene j.campaign.now j.form n s r (W.taken old.writer.now) (W.taken new.writer.now)
+        × SweepsScene j.campaign.now j.part j.form n s r (W.taken old.writer.now) (W.taken new.writer.now)
         (W.failures old.writer.now) (W.failures new.writer.now) };
 
     fn port(&self) -> Option<usize> {
@@ -42,7 +44,7 @@ impl<'w, const N: usize, W: TextOut> JobOn<N, Outlet<'w, W, Meter>> for Sweeping
         to: &mut Outlet<'w, W, Meter>,
     ) -> Result<Tally, BenchFault>
         ensures { SameEnds to.old to.new
-            × SweepsScene self.now.campaign.now self.now.form N scenario.entry result
+            × SweepsScene self.now.campaign.now self.now.part self.now.form N scenario.entry result
             (W.taken to.old.writer.now) (W.taken to.new.writer.now) (W.failures to.old.writer.now) (W.failures to.new.writer.now) }
     {
         let mut run: Kept<N> = Kept::empty(alloc);
@@ -51,11 +53,34 @@ impl<'w, const N: usize, W: TextOut> JobOn<N, Outlet<'w, W, Meter>> for Sweeping
             &mut run,
             &scenario,
             self.campaign,
+            self.part,
             self.form,
             to.writer,
             to.meter,
         )
     }
+}
+
+// Loses packets of the run of the scenario of a text, as an edit script leaves it.
+fn on_sweep<W: TextOut>(
+    alloc: Global,
+    text: &[u8],
+    script: &[u8],
+    sweeping: &Sweeping<'_>,
+    writer: &mut W,
+    meter: &mut Meter,
+) -> Result<Tally, SceneFault>
+    ensures { Scene sweeping.now.campaign.now.choice.port (follows (λ n s r old new. SweepsScene sweeping.now.campaign.now sweeping.now.part
+        sweeping.now.form n s r (W.taken old) (W.taken new) (W.failures old) (W.failures new)) script.now)
+        result text.now writer.old writer.new }
+{
+    let mut outlet = Outlet { writer, meter };
+    let answer = on_scene(alloc, text, script, sweeping, &mut outlet);
+    let Outlet {
+        writer: _,
+        meter: _,
+    } = outlet;
+    answer
 }
 
 /// Loses each packet that is chosen of the run of the scenario of a text, which has 1 to 8 ports, as an edit script leaves it, and
@@ -73,21 +98,38 @@ pub fn sweep_text<W: TextOut>(
     writer: &mut W,
     meter: &mut Meter,
 ) -> Result<Tally, SceneFault>
-    ensures { Scene campaign.now.choice.port (follows
-        (λ n s r old new. SweepsScene campaign.now form n s r (W.taken old) (W.taken new) (W.failures old) (W.failures new)) script.now)
-        result text.now writer.old writer.new }
+    ensures { Scene campaign.now.choice.port (follows (λ n s r old new. SweepsScene campaign.now None form n s r
+        (W.taken old) (W.taken new) (W.failures old) (W.failures new)) script.now) result text.now writer.old writer.new }
 {
-    let mut outlet = Outlet { writer, meter };
-    let answer = on_scene(
-        alloc,
-        text,
-        script,
-        &Sweeping { campaign, form },
-        &mut outlet,
-    );
-    let Outlet {
-        writer: _,
-        meter: _,
-    } = outlet;
-    answer
+    let sweeping = Sweeping {
+        campaign,
+        part: None,
+        form,
+    };
+    on_sweep(alloc, text, script, &sweeping, writer, meter)
+}
+
+/// The same for a part of these packets alone, and the summary of these. The run itself is made first, in each part.
+///
+/// # Errors
+/// As of `sweep_text`.
+pub fn sweep_part_text<W: TextOut>(
+    alloc: Global,
+    text: &[u8],
+    script: &[u8],
+    campaign: &Campaign,
+    part: Part,
+    form: Form,
+    writer: &mut W,
+    meter: &mut Meter,
+) -> Result<Tally, SceneFault>
+    ensures { Scene campaign.now.choice.port (follows (λ n s r old new. SweepsScene campaign.now (Some part) form n s r
+        (W.taken old) (W.taken new) (W.failures old) (W.failures new)) script.now) result text.now writer.old writer.new }
+{
+    let sweeping = Sweeping {
+        campaign,
+        part: Some(part),
+        form,
+    };
+    on_sweep(alloc, text, script, &sweeping, writer, meter)
 }

@@ -7,7 +7,8 @@ ghost use Rattle.pd_sweep.specs.Forms.{head, tally_text, trial_text};
 ghost use Rattle.pd_sweep.specs.Sweeps.{CountsSweep, Sweeps};
 
 use crate::form::{head, push_tally_text, push_trial_text};
-use crate::{Campaign, Findings, Form, Tally, Trial, chosen, try_packet};
+use crate::part::part_of;
+use crate::{Campaign, Findings, Form, Part, Tally, Trial, chosen, try_packet};
 use pd_device::{BenchFault, TextOut, write_all};
 use pd_port::Meter;
 use pd_run::Runner;
@@ -50,8 +51,8 @@ fn write_head<W: TextOut>(writer: &mut W, form: Form) -> Result<(), BenchFault>
     write_all(writer, head(form))
 }
 
-/// Runs a scenario, and once more for each packet that is chosen of that run, with the packet lost; writes a line for each of these
-/// runs, and their summary. A runner that keeps its run makes each at the cost of what it changes.
+/// Runs a scenario, and once more for each packet that is chosen of that run, or each of a part of these, with the packet lost; writes
+/// a line for each of these runs, and their summary. A runner that keeps its run makes each at the cost of what it changes.
 ///
 /// # Errors
 /// `Memory` where there is none, `WriteFailed` where the writer failed or took no byte; the first few bytes of the text have
@@ -61,11 +62,12 @@ pub fn sweep<const N: usize, T: Runner<N>, W: TextOut>(
     run: &mut T,
     scenario: &Scenario<N>,
     campaign: &Campaign,
+    part: Option<Part>,
     form: Form,
     writer: &mut W,
     meter: &mut Meter,
 ) -> Result<Tally, BenchFault>
-    ensures text { Sweeps N scenario.now campaign.now form result (W.taken writer.old) (W.taken writer.new) }
+    ensures text { Sweeps N scenario.now campaign.now part form result (W.taken writer.old) (W.taken writer.new) }
     ensures counts { CountsSweep result (W.failures writer.old) (W.failures writer.new) }
 {
     let Ok(()) = run.replace(alloc, scenario, meter) else {
@@ -77,7 +79,8 @@ pub fn sweep<const N: usize, T: Runner<N>, W: TextOut>(
     let base = Findings::of(run, scenario);
     write_head(writer, form)?;
     let mut tally = Tally::none();
-    for target in &targets {
+    let tried = part_of(part, targets.as_slice());
+    for target in tried {
         let Ok(trial) = try_packet(alloc, run, scenario, campaign, *target, meter) else {
             return Err(BenchFault::Memory);
         };

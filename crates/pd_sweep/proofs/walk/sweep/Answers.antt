@@ -2,6 +2,7 @@ use Rattle.std.proofs.Common.{◌≡◌, ◌+◌, ◌++◌, ◌∷◌, ◌∙◌
 use Rattle.std.proofs.lemmas.List.{take_more}
 use Rattle.std.proofs.lemmas.Result.{err_from_is_err_and}
 use Rattle.pd_sweep.specs.declared.packets.Target.{Target}
+use Rattle.pd_sweep.specs.Parts.{part_of}
 use Rattle.pd_sweep.proofs.SweepLemmas.{began_closing, began_head, began_so_far, began_torn}
 use Rattle.pd_sweep.proofs.SweepLemmas.{progress_more, progress_none, wrote}
 use Rattle.pd_sweep.proofs.walk.sweep.Goals as goal
@@ -9,43 +10,48 @@ use Rattle.pd_sweep.proofs.walk.sweep.Goals as goal
 pub returns-in_err-write_head-clause-text : goal.returns-in_err-write_head-clause-text
 returns-in_err-write_head-clause-text g c =
     let p = err_from_is_err_and c.from_residual.result c.from_residual.ensures.1 in
-    rw (p.1) (inr (began_head g.row.N c.args.scenario.now c.args.campaign.now c.args.form c.of-base.result c.in-Ok-chosen.targets.items
-    (g.T.Runner.entries c.replace.new.self) c.in-Ok.ensures.run c.of-base.ensures c.in-Ok-chosen.ensures _ _
+    rw (p.1) (inr (began_head g.row.N c.args.scenario.now c.args.campaign.now c.args.form c.of-base.result
+    (part_of c.args.part c.in-Ok-chosen.targets.items) c.args.part (g.T.Runner.entries c.replace.new.self) c.in-Ok.ensures.run
+    c.of-base.ensures (ap (part_of c.args.part) c.in-Ok-chosen.ensures) _ _
     c.in_err-write_head.ensures.text.1))
 
 pub returns-in_default-try_packet-clause-text : goal.returns-in_default-try_packet-clause-text
 returns-in_default-try_packet-clause-text g c =
-    let targets = c.deref-target-items.result.now in
-    inr (began_so_far g.row.N c.args.scenario.now c.args.campaign.now c.args.form c.of-base.result targets
+    let targets = c.part_of-tried.result.now in
+    inr (began_so_far g.row.N c.args.scenario.now c.args.campaign.now c.args.form c.of-base.result targets c.args.part
     (g.T.Runner.entries c.replace.new.self) c.in-Ok.ensures.run c.of-base.ensures
-    (c.deref-target-items.ensures.value ∙ c.in-Ok-chosen.ensures) c.loop-target.target-index c.loop-target.tally _ _
+    (c.part_of-tried.ensures ∙ ap (part_of c.args.part) (c.as_slice.ensures.value ∙ c.in-Ok-chosen.ensures))
+    c.loop-target.target-index c.loop-target.tally _ _
     c.loop-target.invariant.progress)
 
 pub returns-in_default-trial_text-clause-text : goal.returns-in_default-trial_text-clause-text
 returns-in_default-trial_text-clause-text g c =
-    let targets = c.deref-target-items.result.now in
-    inr (began_so_far g.row.N c.args.scenario.now c.args.campaign.now c.args.form c.of-base.result targets
+    let targets = c.part_of-tried.result.now in
+    inr (began_so_far g.row.N c.args.scenario.now c.args.campaign.now c.args.form c.of-base.result targets c.args.part
     (g.T.Runner.entries c.replace.new.self) c.in-Ok.ensures.run c.of-base.ensures
-    (c.deref-target-items.ensures.value ∙ c.in-Ok-chosen.ensures) c.loop-target.target-index c.loop-target.tally _ _
+    (c.part_of-tried.ensures ∙ ap (part_of c.args.part) (c.as_slice.ensures.value ∙ c.in-Ok-chosen.ensures))
+    c.loop-target.target-index c.loop-target.tally _ _
     c.loop-target.invariant.progress)
 
 pub returns-in_err-write_all-clause-text : goal.returns-in_err-write_all-clause-text
 returns-in_err-write_all-clause-text g c =
-    let targets = c.deref-target-items.result.now in
+    let targets = c.part_of-tried.result.now in
     let i = c.loop-target.target-index in
     let trial = c.in-Ok-try_packet.trial in
     let here : take (i + 1) targets ≡ take i targets ++ trial.target ∷ [] =
     take_more targets i _ c.loop-target-test.true ∙ ap (λ (t : Target). take i targets ++ t ∷ []) (sym c.in-Ok-try_packet.ensures.packet) in
     let p = err_from_is_err_and c.from_residual-in_err-write_all.result c.from_residual-in_err-write_all.ensures.1 in
-    rw (p.1) (inr (began_torn g.row.N c.args.scenario.now c.args.campaign.now c.args.form c.of-base.result targets
+    rw (p.1) (inr (began_torn g.row.N c.args.scenario.now c.args.campaign.now c.args.form c.of-base.result targets c.args.part
     (g.T.Runner.entries c.replace.new.self) c.in-Ok.ensures.run c.of-base.ensures
-    (c.deref-target-items.ensures.value ∙ c.in-Ok-chosen.ensures) i c.loop-target.tally _ _ _ trial c.loop-target.invariant.progress here
-    c.in-Ok-try_packet.ensures.value (rw (sym c.in-Ok-trial_text.ensures, sym c.as_slice.ensures.value) c.in_err-write_all.ensures.text.1)))
+    (c.part_of-tried.ensures ∙ ap (part_of c.args.part) (c.as_slice.ensures.value ∙ c.in-Ok-chosen.ensures))
+    i c.loop-target.tally _ _ _ trial c.loop-target.invariant.progress here
+    c.in-Ok-try_packet.ensures.value
+    (rw (sym c.in-Ok-trial_text.ensures, sym c.as_slice-in-loop-target.ensures.value) c.in_err-write_all.ensures.text.1)))
 
 pub loop-target-init : goal.loop-target-init
 loop-target-init g c = record {
   progress =
-      progress_none g.row.N c.args.scenario.now c.args.campaign.now c.args.form c.of-base.result c.deref-target-items.result.now
+      progress_none g.row.N c.args.scenario.now c.args.campaign.now c.args.form c.of-base.result c.part_of-tried.result.now
       c.none-tally.result _ _ c.none-tally.ensures c.in_ok-write_head.ensures.text;
   counts = c.in_ok-write_head.ensures.counts;
   tried = rw c.none-tally.ensures (omega arith);
@@ -55,7 +61,7 @@ loop-target-init g c = record {
 
 pub loop-target-preserved : goal.loop-target-preserved
 loop-target-preserved g c =
-    let targets = c.deref-target-items.result.now in
+    let targets = c.part_of-tried.result.now in
     let i = c.loop-target.target-index in
     let trial = c.in-Ok-try_packet.trial in
     let here : take (i + 1) targets ≡ take i targets ++ trial.target ∷ [] =
@@ -64,7 +70,8 @@ loop-target-preserved g c =
       progress =
           progress_more g.row.N c.args.scenario.now c.args.campaign.now c.args.form c.of-base.result targets i c.loop-target.tally
           c.after-tally.result _ _ _ trial c.loop-target.invariant.progress here c.in-Ok-try_packet.ensures.value
-          c.after-tally.ensures.value (rw (sym c.in-Ok-trial_text.ensures, sym c.as_slice.ensures.value) c.in_ok-write_all.ensures.text);
+          c.after-tally.ensures.value
+          (rw (sym c.in-Ok-trial_text.ensures, sym c.as_slice-in-loop-target.ensures.value) c.in_ok-write_all.ensures.text);
       counts = c.in_ok-write_all.ensures.counts ∙ c.loop-target.invariant.counts;
       tried = omega (arith, c.after-tally.ensures.one, c.loop-target.invariant.tried);
       changed = c.after-tally.ensures.few;
@@ -73,27 +80,30 @@ loop-target-preserved g c =
 
 pub returns-in_default-tally_text-clause-text : goal.returns-in_default-tally_text-clause-text
 returns-in_default-tally_text-clause-text g c =
-    let targets = c.deref-target-items.result.now in
-    inr (began_so_far g.row.N c.args.scenario.now c.args.campaign.now c.args.form c.of-base.result targets
+    let targets = c.part_of-tried.result.now in
+    inr (began_so_far g.row.N c.args.scenario.now c.args.campaign.now c.args.form c.of-base.result targets c.args.part
     (g.T.Runner.entries c.replace.new.self) c.in-Ok.ensures.run c.of-base.ensures
-    (c.deref-target-items.ensures.value ∙ c.in-Ok-chosen.ensures) c.loop-target.target-index c.loop-target.tally _ _
+    (c.part_of-tried.ensures ∙ ap (part_of c.args.part) (c.as_slice.ensures.value ∙ c.in-Ok-chosen.ensures))
+    c.loop-target.target-index c.loop-target.tally _ _
     c.loop-target.invariant.progress)
 
 pub returns-in_err-write_all-2-clause-text : goal.returns-in_err-write_all-2-clause-text
 returns-in_err-write_all-2-clause-text g c =
-    let targets = c.deref-target-items.result.now in
+    let targets = c.part_of-tried.result.now in
     let p = err_from_is_err_and c.from_residual-in_err-write_all-2.result c.from_residual-in_err-write_all-2.ensures.1 in
-    rw (p.1) (inr (began_closing g.row.N c.args.scenario.now c.args.campaign.now c.args.form c.of-base.result targets
+    rw (p.1) (inr (began_closing g.row.N c.args.scenario.now c.args.campaign.now c.args.form c.of-base.result targets c.args.part
     (g.T.Runner.entries c.replace.new.self) c.in-Ok.ensures.run c.of-base.ensures
-    (c.deref-target-items.ensures.value ∙ c.in-Ok-chosen.ensures) c.loop-target.target-index c.loop-target.tally _ _ _
+    (c.part_of-tried.ensures ∙ ap (part_of c.args.part) (c.as_slice.ensures.value ∙ c.in-Ok-chosen.ensures))
+    c.loop-target.target-index c.loop-target.tally _ _ _
     c.loop-target.invariant.progress
     (rw (sym c.in-Ok-tally_text.ensures, sym c.as_slice-2.ensures.value) c.in_err-write_all-2.ensures.text.1)))
 
 pub returns-clause-text : goal.returns-clause-text
 returns-clause-text g c =
-    let targets = c.deref-target-items.result.now in
-    wrote g.row.N c.args.scenario.now c.args.campaign.now c.args.form c.of-base.result targets
+    let targets = c.part_of-tried.result.now in
+    wrote g.row.N c.args.scenario.now c.args.campaign.now c.args.form c.of-base.result targets c.args.part
     (g.T.Runner.entries c.replace.new.self) c.in-Ok.ensures.run c.of-base.ensures
-    (c.deref-target-items.ensures.value ∙ c.in-Ok-chosen.ensures) c.loop-target.target-index c.loop-target.tally _ _ _
+    (c.part_of-tried.ensures ∙ ap (part_of c.args.part) (c.as_slice.ensures.value ∙ c.in-Ok-chosen.ensures))
+    c.loop-target.target-index c.loop-target.tally _ _ _
     (omega (arith, c.loop-target-test.false)) c.loop-target.invariant.progress
     (rw (sym c.in-Ok-tally_text.ensures, sym c.as_slice-2.ensures.value) c.in_ok-write_all-2.ensures.text)
