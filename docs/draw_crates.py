@@ -42,6 +42,7 @@ def read_groups():
             groups.append(Group(line[1:].strip()))
         elif ":" in line:
             name, used = line.split(":")
+            name = name.split()[0]
             groups[-1].crates.append(name)
             uses[name] = used.split()
     return groups, {name: [it for it in used if it in uses] for name, used in uses.items()}

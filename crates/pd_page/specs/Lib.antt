@@ -1,0 +1,6 @@
+pub mod Answers
+pub mod Calls
+pub mod Choices
+pub mod Endings
+pub mod Explained
+pub mod Logs
