@@ -10,7 +10,9 @@ import sys
 import tempfile
 import time
 
-WAIT = 60
+WAIT = 120
+# A registry that doesn't answer is given up soon.
+APT = ["-o", "Acquire::Retries=1", "-o", "Acquire::http::Timeout=30"]
 
 
 class PageFault(Exception):
@@ -23,7 +25,7 @@ def chromium():
     if not found and os.geteuid() == 0:
         print("browser: installing chromium", file=sys.stderr, flush=True)
         for words in (["update"], ["install", "-y", "--no-install-recommends", "chromium"]):
-            subprocess.run(["apt-get", "-qq", *words], stdin=subprocess.DEVNULL, stdout=sys.stderr)
+            subprocess.run(["apt-get", "-qq", *APT, *words], stdin=subprocess.DEVNULL, stdout=sys.stderr)
         found = shutil.which("chromium")
     return found
 
