@@ -42,9 +42,9 @@ def browser(*flags):
             for place, end in enumerate(ends):
                 os.dup2(end, 3 + place)
 
-        words = [chromium(), "--headless=new", "--no-sandbox", "--disable-gpu", "--no-first-run", "--disable-extensions",
-            "--disable-component-update",
-                 "--disable-background-networking", f"--user-data-dir={profile}", "--remote-debugging-pipe", *flags, "about:blank"]
+        words = [chromium(), "--headless=new", "--no-sandbox", "--disable-dev-shm-usage", "--disable-gpu", "--no-first-run",
+                 "--disable-extensions", "--disable-component-update", "--disable-background-networking",
+                 f"--user-data-dir={profile}", "--remote-debugging-pipe", *flags, "about:blank"]
         process = subprocess.Popen(words, stdin=subprocess.DEVNULL, stdout=subprocess.DEVNULL, stderr=subprocess.DEVNULL,
             close_fds=False, preexec_fn=streams)
         os.close(to_read[0])
