@@ -4,6 +4,8 @@
 export const Ending = { DONE: 0, REFUSED: 1, NO_PORT: 2, MEMORY: 3, LONG: 4, STOPPED: 5 };
 
 const FOREVER = 2n ** 64n - 1n;
+/** The exports that run nothing, and so count no steps. */
+const RUN_NOTHING = new Set(["page_list", "page_decode"]);
 /** The longest answer of most scenarios has room in it. */
 const FIRST_ROOM = 16n << 20n;
 /** A module that has nothing but a memory of 64 bits. */
@@ -42,6 +44,8 @@ export class Engine {
   take(instance) {
     this.exports = instance.exports;
     this.lengthAt = this.exports.room(8n);
+    this.meterAt = this.exports.room(8n);
+    this.numbers().setBigUint64(Number(this.meterAt), 0n, true);
     this.roomLength = FIRST_ROOM;
     this.roomAt = this.exports.room(FIRST_ROOM);
   }
@@ -55,9 +59,19 @@ export class Engine {
     return [place, BigInt(bytes.length)];
   }
 
-  /** A number that the module has written. */
+  /** The module's memory as numbers. */
+  numbers() {
+    return new DataView(this.exports.memory.buffer);
+  }
+
+  /** The length, or the count, that the module has written last. */
   length() {
-    return new DataView(this.exports.memory.buffer).getBigUint64(Number(this.lengthAt), true);
+    return this.numbers().getBigUint64(Number(this.lengthAt), true);
+  }
+
+  /** How many steps of ports all calls have taken. */
+  steps() {
+    return this.numbers().getBigUint64(Number(this.meterAt), true);
   }
 
   /** Calls an export again with more room until its answer fits. */
@@ -95,7 +109,8 @@ export class Engine {
       const places = [];
       try {
         for (const text of texts) places.push(this.given(text));
-        return this.answer(name, [...places.flat(), ...choices]);
+        const meter = RUN_NOTHING.has(name) ? [] : [this.meterAt];
+        return this.answer(name, [...places.flat(), ...choices, ...meter]);
       } finally {
         for (const [place] of places) this.exports.unroom(place);
       }
@@ -132,7 +147,7 @@ export class Engine {
       const places = [];
       try {
         for (const text of [scenario, script]) places.push(this.given(text));
-        const ending = this.exports.page_packet_count(...places.flat(), port, BigInt(from), BigInt(to), this.lengthAt);
+        const ending = this.exports.page_packet_count(...places.flat(), port, BigInt(from), BigInt(to), this.meterAt, this.lengthAt);
         return { ending, text: "", count: Number(this.length()) };
       } finally {
         for (const [place] of places) this.exports.unroom(place);

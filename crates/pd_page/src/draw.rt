@@ -13,10 +13,10 @@ use pd_port::Meter;
 use std::alloc::Global;
 
 /// The picture of the run of the scenario of a text, as an edit script leaves it.
-fn drawn(alloc: Global, scenario: &[u8], script: &[u8], look: Look) -> Answer
+fn drawn(alloc: Global, scenario: &[u8], script: &[u8], look: Look, meter: &mut Meter) -> Answer
     ensures { Draws look script.now scenario.now result.ending result.text.items }
 {
-    match draw_text(alloc, scenario, script, look, &mut Meter::new()) {
+    match draw_text(alloc, scenario, script, look, meter) {
         Ok(picture) => Answer {
             ending: Ending::Done,
             text: picture,
@@ -36,6 +36,7 @@ pub extern "C" fn page_draw(
     to: u64,
     width: u32,
     port: u32,
+    meter: &mut Meter,
     room: &mut [u8],
     len: &mut u64,
 ) -> u32
@@ -48,5 +49,5 @@ pub extern "C" fn page_draw(
         width,
         port,
     };
-    drawn(alloc, scenario, script, look).hand_over(room, len)
+    drawn(alloc, scenario, script, look, meter).hand_over(room, len)
 }

@@ -42,7 +42,14 @@ fn refused(alloc: Global, file: &[u8], scenario: &[u8], fault: ScenarioFault) ->
 }
 
 /// What is told of a scenario's file and a script of these names.
-fn explained(alloc: Global, file: &[u8], scenario: &[u8], edits: &[u8], script: &[u8]) -> Answer
+fn explained(
+    alloc: Global,
+    file: &[u8],
+    scenario: &[u8],
+    edits: &[u8],
+    script: &[u8],
+    meter: &mut Meter,
+) -> Answer
     ensures { Explains file.now edits.now script.now scenario.now result.ending result.text.items }
 {
     let telling = Telling {
@@ -52,14 +59,7 @@ fn explained(alloc: Global, file: &[u8], scenario: &[u8], edits: &[u8], script: 
         warns: true,
     };
     let mut output = no_output(alloc);
-    match explain_text(
-        alloc,
-        scenario,
-        &telling,
-        script,
-        &mut Meter::new(),
-        &mut output,
-    ) {
+    match explain_text(alloc, scenario, &telling, script, meter, &mut output) {
         Ok(_) => Answer {
             ending: Ending::Done,
             text: output.writer,
@@ -78,10 +78,11 @@ pub extern "C" fn page_explain(
     scenario: &[u8],
     edits: &[u8],
     script: &[u8],
+    meter: &mut Meter,
     room: &mut [u8],
     len: &mut u64,
 ) -> u32
     ensures { Answers (Explains file.now edits.now script.now scenario.now) result len.new room.old room.new }
 {
-    explained(alloc, file, scenario, edits, script).hand_over(room, len)
+    explained(alloc, file, scenario, edits, script, meter).hand_over(room, len)
 }

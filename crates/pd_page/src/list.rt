@@ -9,7 +9,6 @@ ghost use Rattle.pd_page.specs.Calls.{ListsEdited};
 use crate::Ending;
 use crate::answer::Answer;
 use crate::ending::scene_ending;
-use pd_port::Meter;
 use pd_save::list_scenario;
 use pd_scenario::Scenario;
 use pd_scene::{BenchFault, Job, JobOn, on_scene};
@@ -19,7 +18,7 @@ use std::alloc::Global;
 #[derive(Drop)]
 struct Listing;
 
-impl Job<Meter> for Listing {
+impl Job<()> for Listing {
     type Answer = Vec<u8>;
 
     ghost needs = { λ j. None };
@@ -31,13 +30,8 @@ impl Job<Meter> for Listing {
     }
 }
 
-impl<const N: usize> JobOn<N, Meter> for Listing {
-    fn on(
-        &self,
-        alloc: Global,
-        scenario: Scenario<N>,
-        to: &mut Meter,
-    ) -> Result<Vec<u8>, BenchFault>
+impl<const N: usize> JobOn<N, ()> for Listing {
+    fn on(&self, alloc: Global, scenario: Scenario<N>, to: &mut ()) -> Result<Vec<u8>, BenchFault>
         ensures { MatchResult result (λ text. Lists scenario.entry text.items) (λ fault. fault ≡ memory) }
     {
         match list_scenario(alloc, &scenario) {
@@ -51,7 +45,7 @@ impl<const N: usize> JobOn<N, Meter> for Listing {
 fn listed(alloc: Global, scenario: &[u8], script: &[u8]) -> Answer
     ensures { ListsEdited script.now scenario.now result.ending result.text.items }
 {
-    match on_scene(alloc, scenario, script, &Listing, &mut Meter::new()) {
+    match on_scene(alloc, scenario, script, &Listing, &mut ()) {
         Ok(text) => Answer {
             ending: Ending::Done,
             text,

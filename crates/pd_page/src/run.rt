@@ -12,11 +12,11 @@ use pd_port::Meter;
 use std::alloc::Global;
 
 /// What a session over an edit script writes for the scenario of a text.
-fn ran(alloc: Global, scenario: &[u8], script: &[u8]) -> Answer
+fn ran(alloc: Global, scenario: &[u8], script: &[u8], meter: &mut Meter) -> Answer
     ensures { Runs script.now scenario.now result.ending result.text.items }
 {
     let mut output = no_output(alloc);
-    match run_kept(alloc, scenario, script, &mut output, &mut Meter::new()) {
+    match run_kept(alloc, scenario, script, &mut output, meter) {
         Ok(_) => Answer {
             ending: Ending::Done,
             text: output.writer,
@@ -33,10 +33,11 @@ pub extern "C" fn page_run(
     alloc: Global,
     scenario: &[u8],
     script: &[u8],
+    meter: &mut Meter,
     room: &mut [u8],
     len: &mut u64,
 ) -> u32
     ensures { Answers (Runs script.now scenario.now) result len.new room.old room.new }
 {
-    ran(alloc, scenario, script).hand_over(room, len)
+    ran(alloc, scenario, script, meter).hand_over(room, len)
 }

@@ -13,18 +13,17 @@ use pd_show::{Choice, Form, show_text};
 use std::alloc::Global;
 
 /// The run of the scenario of a text, as an edit script leaves it.
-fn shown(alloc: Global, scenario: &[u8], script: &[u8], choice: &Choice) -> Answer
+fn shown(
+    alloc: Global,
+    scenario: &[u8],
+    script: &[u8],
+    choice: &Choice,
+    meter: &mut Meter,
+) -> Answer
     ensures { Shows choice.now script.now scenario.now result.ending result.text.items }
 {
     let mut output = no_output(alloc);
-    match show_text(
-        alloc,
-        scenario,
-        script,
-        choice,
-        &mut output,
-        &mut Meter::new(),
-    ) {
+    match show_text(alloc, scenario, script, choice, &mut output, meter) {
         Ok(()) => Answer {
             ending: Ending::Done,
             text: output.writer,
@@ -46,6 +45,7 @@ pub extern "C" fn page_show(
     to: u64,
     good_crc: bool,
     codes: bool,
+    meter: &mut Meter,
     room: &mut [u8],
     len: &mut u64,
 ) -> u32
@@ -60,5 +60,5 @@ pub extern "C" fn page_show(
         codes,
         form: Form::Json,
     };
-    shown(alloc, scenario, script, &choice).hand_over(room, len)
+    shown(alloc, scenario, script, &choice, meter).hand_over(room, len)
 }

@@ -33,7 +33,14 @@ fn loss_of(damaged: bool) -> Loss
 }
 
 /// A part of the sweep of the scenario of a text, as an edit script leaves it.
-fn swept(alloc: Global, scenario: &[u8], script: &[u8], campaign: &Campaign, part: Part) -> Answer
+fn swept(
+    alloc: Global,
+    scenario: &[u8],
+    script: &[u8],
+    campaign: &Campaign,
+    part: Part,
+    meter: &mut Meter,
+) -> Answer
     ensures { Sweeps campaign.now part script.now scenario.now result.ending result.text.items }
 {
     let mut output = no_output(alloc);
@@ -45,7 +52,7 @@ fn swept(alloc: Global, scenario: &[u8], script: &[u8], campaign: &Campaign, par
         part,
         Form::Json,
         &mut output,
-        &mut Meter::new(),
+        meter,
     ) {
         Ok(_) => Answer {
             ending: Ending::Done,
@@ -65,12 +72,13 @@ pub extern "C" fn page_packet_count(
     port: u32,
     from: u64,
     to: u64,
+    meter: &mut Meter,
     count: &mut u64,
 ) -> u32
     ensures { Counted (Counts (packets_of port from to) script.now scenario.now) result count.new }
 {
     let choice = packets_of(port, from, to);
-    match packet_count(alloc, scenario, script, &choice, &mut Meter::new()) {
+    match packet_count(alloc, scenario, script, &choice, meter) {
         Ok(packets) => {
             *count = packets as u64;
             Ending::Done.number()
@@ -97,6 +105,7 @@ pub extern "C" fn page_sweep(
     behind: u32,
     first: u64,
     count: u64,
+    meter: &mut Meter,
     room: &mut [u8],
     len: &mut u64,
 ) -> u32
@@ -113,5 +122,5 @@ pub extern "C" fn page_sweep(
         first: first as usize,
         count: count as usize,
     };
-    swept(alloc, scenario, script, &campaign, part).hand_over(room, len)
+    swept(alloc, scenario, script, &campaign, part, meter).hand_over(room, len)
 }

@@ -27,10 +27,10 @@ fn report_text(alloc: Global, name: &[u8], report: &TestReport) -> Result<Vec<u8
 }
 
 /// What a test script comes to for the scenario of a text.
-fn tested(alloc: Global, name: &[u8], scenario: &[u8], script: &[u8]) -> Answer
+fn tested(alloc: Global, name: &[u8], scenario: &[u8], script: &[u8], meter: &mut Meter) -> Answer
     ensures { TestsScript name.now script.now scenario.now result.ending result.text.items }
 {
-    match test_text(alloc, scenario, b"", script, &mut Meter::new()) {
+    match test_text(alloc, scenario, b"", script, meter) {
         Ok(report) => match report_text(alloc, name, &report) {
             Ok(text) => Answer {
                 ending: Ending::Done,
@@ -50,10 +50,11 @@ pub extern "C" fn page_test(
     name: &[u8],
     scenario: &[u8],
     script: &[u8],
+    meter: &mut Meter,
     room: &mut [u8],
     len: &mut u64,
 ) -> u32
     ensures { Answers (TestsScript name.now script.now scenario.now) result len.new room.old room.new }
 {
-    tested(alloc, name, scenario, script).hand_over(room, len)
+    tested(alloc, name, scenario, script, meter).hand_over(room, len)
 }

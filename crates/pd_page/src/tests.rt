@@ -5,6 +5,7 @@ use crate::{
     page_decode, page_draw, page_explain, page_hard_reset_duration, page_list, page_packet_count,
     page_packet_duration, page_run, page_show, page_sweep, page_test, page_why,
 };
+use pd_port::Meter;
 use std::test::*;
 
 /// One port of 5 V and 3 A, to which a phone is attached at the start.
@@ -73,7 +74,14 @@ fn rooms_of_all_lengths(rt: HostRuntime) -> Result<(), Fail> {
     for len in 0usize..70 {
         let mut room = room_of(&rt, len)?;
         let mut told = 7;
-        let ending = page_run(rt.alloc(), PHONE, script, room.as_mut_slice(), &mut told);
+        let ending = page_run(
+            rt.alloc(),
+            PHONE,
+            script,
+            &mut Meter::new(),
+            room.as_mut_slice(),
+            &mut told,
+        );
         assert_eq!(rt; ending, DONE);
         assert_eq!(rt; told, expected.len() as u64);
         for (index, byte) in room.iter().enumerate() {
@@ -92,6 +100,7 @@ fn calls_without_an_answer(rt: HostRuntime) -> Result<(), Fail> {
         rt.alloc(),
         b"version = 3",
         b"",
+        &mut Meter::new(),
         room.as_mut_slice(),
         &mut len,
     );
@@ -103,34 +112,53 @@ fn calls_without_an_answer(rt: HostRuntime) -> Result<(), Fail> {
         2,
         false,
         0,
+        &mut Meter::new(),
         room.as_mut_slice(),
         &mut len,
     );
     assert_eq!(rt; (ending, len), (NO_SUCH_PORT, 0));
-    let ending = page_packet_count(rt.alloc(), PHONE, b"", 2, 0, u64::MAX, &mut len);
+    let ending = page_packet_count(
+        rt.alloc(),
+        PHONE,
+        b"",
+        2,
+        0,
+        u64::MAX,
+        &mut Meter::new(),
+        &mut len,
+    );
     assert_eq!(rt; (ending, len), (NO_SUCH_PORT, 0));
     assert_eq!(rt; room.as_slice(), b"????".as_slice());
     Ok(())
 }
 
-/// The run as a picture.
+/// The run as a picture, drawn twice: the steps of both count on the caller's meter.
 #[test]
 fn runs_are_drawn(rt: HostRuntime) -> Result<(), Fail> {
     let mut room = room_of(&rt, ENOUGH)?;
     let mut len = 0;
-    let ending = page_draw(
-        rt.alloc(),
-        PHONE,
-        b"",
-        0,
-        u64::MAX,
-        1200,
-        0,
-        room.as_mut_slice(),
-        &mut len,
-    );
+    let mut meter = Meter::new();
+    let mut counts = [0u64; 2];
+    for count in &mut counts {
+        let ending = page_draw(
+            rt.alloc(),
+            PHONE,
+            b"",
+            0,
+            u64::MAX,
+            1200,
+            0,
+            &mut meter,
+            room.as_mut_slice(),
+            &mut len,
+        );
+        assert_eq!(rt; ending, DONE);
+        *count = meter.count();
+    }
+    let [once, twice] = counts;
+    assert!(rt; 0 < once);
+    assert_eq!(rt; twice, 2 * once);
     let picture = text_in(room.as_slice(), len);
-    assert_eq!(rt; ending, DONE);
     assert!(rt; picture.starts_with(b"<svg ".as_slice()));
     assert!(rt; picture.ends_with(b"</svg>\n".as_slice()));
     Ok(())
@@ -150,6 +178,7 @@ fn runs_are_shown(rt: HostRuntime) -> Result<(), Fail> {
         u64::MAX,
         false,
         false,
+        &mut Meter::new(),
         room.as_mut_slice(),
         &mut len,
     );
@@ -164,6 +193,7 @@ fn runs_are_shown(rt: HostRuntime) -> Result<(), Fail> {
         1,
         true,
         u64::MAX,
+        &mut Meter::new(),
         room.as_mut_slice(),
         &mut len,
     );
@@ -190,7 +220,16 @@ fn packets_in(text: &[u8]) -> usize {
 #[test]
 fn sweeps_in_parts(rt: HostRuntime) -> Result<(), Fail> {
     let mut packets = 0;
-    let ending = page_packet_count(rt.alloc(), PHONE, b"", 0, 0, u64::MAX, &mut packets);
+    let ending = page_packet_count(
+        rt.alloc(),
+        PHONE,
+        b"",
+        0,
+        0,
+        u64::MAX,
+        &mut Meter::new(),
+        &mut packets,
+    );
     assert_eq!(rt; ending, DONE);
     assert!(rt; 2 < packets);
     let mut joined = Vec::new(rt.alloc());
@@ -208,6 +247,7 @@ fn sweeps_in_parts(rt: HostRuntime) -> Result<(), Fail> {
             0,
             first,
             count,
+            &mut Meter::new(),
             room.as_mut_slice(),
             &mut len,
         );
@@ -249,6 +289,7 @@ fn what_is_wrong(rt: HostRuntime) -> Result<(), Fail> {
         b"version = 3\n",
         b"it.edits",
         b"remove 9\n",
+        &mut Meter::new(),
         room.as_mut_slice(),
         &mut len,
     );
@@ -262,6 +303,7 @@ fn what_is_wrong(rt: HostRuntime) -> Result<(), Fail> {
         PHONE,
         b"it.edits",
         b"remove 9\nremove 1\n",
+        &mut Meter::new(),
         room.as_mut_slice(),
         &mut len,
     );
@@ -284,6 +326,7 @@ fn scripts_are_tested(rt: HostRuntime) -> Result<(), Fail> {
         b"it.test",
         PHONE,
         script,
+        &mut Meter::new(),
         room.as_mut_slice(),
         &mut len,
     );

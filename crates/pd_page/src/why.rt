@@ -13,17 +13,16 @@ use pd_why::{Form, Question, why_text};
 use std::alloc::Global;
 
 /// What bounds a port in the run of the scenario of a text, as an edit script leaves it.
-fn asked(alloc: Global, scenario: &[u8], script: &[u8], question: &Question) -> Answer
+fn asked(
+    alloc: Global,
+    scenario: &[u8],
+    script: &[u8],
+    question: &Question,
+    meter: &mut Meter,
+) -> Answer
     ensures { Asks question.now script.now scenario.now result.ending result.text.items }
 {
-    match why_text(
-        alloc,
-        scenario,
-        script,
-        question,
-        Form::Json,
-        &mut Meter::new(),
-    ) {
+    match why_text(alloc, scenario, script, question, Form::Json, meter) {
         Ok(said) => Answer {
             ending: Ending::Done,
             text: said,
@@ -49,6 +48,7 @@ pub extern "C" fn page_why(
     port: u32,
     each: bool,
     to: u64,
+    meter: &mut Meter,
     room: &mut [u8],
     len: &mut u64,
 ) -> u32
@@ -58,5 +58,5 @@ pub extern "C" fn page_why(
         port: port as usize,
         to: until(each, to),
     };
-    asked(alloc, scenario, script, &question).hand_over(room, len)
+    asked(alloc, scenario, script, &question, meter).hand_over(room, len)
 }

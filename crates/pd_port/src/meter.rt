@@ -5,8 +5,9 @@ ghost use Rattle.pd_port.specs.Meter.{raised};
 
 use std::marker::Model;
 
-/// How many steps were taken. It stays at its greatest value, 2^64 - 1.
+/// How many steps were taken. It stays at its greatest value, 2^64 - 1. A caller that is no program of ours keeps it as such a number.
 #[derive(Debug, Drop)]
+#[repr(C)]
 pub struct Meter {
     steps: u64,
 }
@@ -15,6 +16,8 @@ impl Model for Meter {
     ghost Value = { ℕ };
 
     ghost view = { λ m. m.steps };
+
+    ghost inverse = { λ n. record { steps = n } };
 }
 
 impl Meter {
