@@ -164,7 +164,7 @@ fn runs_are_drawn(rt: HostRuntime) -> Result<(), Fail> {
     Ok(())
 }
 
-/// The contract of the phone, without the GoodCRC messages, and what set its current.
+/// The contract of the phone, without the GoodCRC messages.
 #[test]
 fn runs_are_shown(rt: HostRuntime) -> Result<(), Fail> {
     let mut room = room_of(&rt, ENOUGH)?;
@@ -186,6 +186,14 @@ fn runs_are_shown(rt: HostRuntime) -> Result<(), Fail> {
     assert_eq!(rt; ending, DONE);
     assert!(rt; has(text, b"\"voltage_mv\":5000,\"current_ma\":3000"));
     assert!(rt; !has(text, b"GoodCRC"));
+    Ok(())
+}
+
+/// What set the phone's current.
+#[test]
+fn bounds_are_told(rt: HostRuntime) -> Result<(), Fail> {
+    let mut room = room_of(&rt, ENOUGH)?;
+    let mut len = 0;
     let ending = page_why(
         rt.alloc(),
         PHONE,
@@ -216,9 +224,8 @@ fn packets_in(text: &[u8]) -> usize {
         .count()
 }
 
-/// A sweep in two parts has the packets of the whole one.
-#[test]
-fn sweeps_in_parts(rt: HostRuntime) -> Result<(), Fail> {
+/// How many packets a sweep of the phone's run has, behind how the call ended.
+fn phone_packets(rt: &impl AllocGlobal) -> (u32, u64) {
     let mut packets = 0;
     let ending = page_packet_count(
         rt.alloc(),
@@ -230,6 +237,13 @@ fn sweeps_in_parts(rt: HostRuntime) -> Result<(), Fail> {
         &mut Meter::new(),
         &mut packets,
     );
+    (ending, packets)
+}
+
+/// A sweep in two parts has the packets of the whole one.
+#[test]
+fn sweeps_in_parts(rt: HostRuntime) -> Result<(), Fail> {
+    let (ending, packets) = phone_packets(&rt);
     assert_eq!(rt; ending, DONE);
     assert!(rt; 2 < packets);
     let mut joined = Vec::new(rt.alloc());
