@@ -1,5 +1,5 @@
 -- Why a line of a session is refused, for a reader at the keyboard: docs/FORMATS.md, "Reasons", without the place of the line.
-use Rattle.std.specs.Prelude.{ℕ, nat_lt, List, [], ◌∷◌, ◌++◌, length, codes, Result, Ok, Err, if◌then◌else◌}
+use Rattle.std.specs.Prelude.{ℕ, nat_lt, List, [], length, codes, Result, Ok, Err, if◌then◌else◌}
 use Rattle.std.specs.List.{flat_map}
 use Rattle.pd_scenario.specs.Scenarios.{ScenarioData}
 use Rattle.pd_scenario.specs.Limits.{is_port}
@@ -11,31 +11,31 @@ use Rattle.pd_edit_lines.specs.declared.line.Line.TheVariants as line_read
 use Rattle.pd_edit_lines.specs.declared.line.Show.{Show}
 use Rattle.pd_edit_lines.specs.declared.line.Show.TheVariants.{Transcript}
 use Rattle.pd_edit.specs.Refusals.{edited}
-use Rattle.pd_explain.specs.declared.place.Place.{Place}
 use Rattle.pd_explain.specs.declared.place.Place.TheVariants as place
 use Rattle.pd_explain.specs.declared.place.Reason.{Reason}
 use Rattle.pd_explain.specs.Places.{reasons}
-use Rattle.pd_explain.specs.Sentences.{sentence}
-use Rattle.pd_explain.specs.Stops.{syntax_text}
+use Rattle.pd_explain.specs.Lines.{place_line, syntax_line}
+use Rattle.pd_text.specs.declared.piece.Form.TheVariants.{Words}
+use Rattle.pd_text.specs.Fronts.{FrontData, front_of_file}
 
--- a line for a place at which a refusal applies
-unfoldable pub place_line : ℕ → ScenarioData → Place → List ℕ
-place_line n c place = sentence n c place ++ 10 ∷ []
+-- nothing stands before a sentence: its line was written just before
+unfoldable pub bare : FrontData
+bare = front_of_file Words []
 
 -- An edit that is made needs no words.
 abbrev pub edit_reasons : ℕ → ScenarioData → Edit → Result ScenarioData EditFault → List ℕ
 edit_reasons n c edit (Ok after) = []
-edit_reasons n c edit (Err fault) = flat_map (λ (reason : Reason). place_line n c reason.place) (reasons n c edit)
+edit_reasons n c edit (Err fault) = flat_map (λ (reason : Reason). place_line bare n c reason.place) (reasons n c edit)
 
 -- A show is refused for its port alone.
 abbrev pub show_reasons : ℕ → ScenarioData → Show → List ℕ
-show_reasons n c (Transcript port) = if is_port n port then [] else place_line n c (place.Port port)
+show_reasons n c (Transcript port) = if is_port n port then [] else place_line bare n c (place.Port port)
 show_reasons n c _ = []
 
 -- of a longer line the end isn't kept
 unfoldable pub no_line_text : List ℕ → List ℕ
 no_line_text line =
-    if nat_lt 256 (length line) then codes "the line has more than 256 bytes\n" else syntax_text line ++ 10 ∷ []
+    if nat_lt 256 (length line) then codes "the line has more than 256 bytes\n" else syntax_line bare line
 
 abbrev pub reasons_of : ℕ → ScenarioData → List ℕ → Result Line EditFault → List ℕ
 reasons_of n c line (Ok line_read.Skip) = []

@@ -1,43 +1,42 @@
 //! Why a line of a session is refused.
 
-ghost use Rattle.std.specs.Prelude.{◌≡◌, ◌++◌, OnOk};
+ghost use Rattle.std.specs.Prelude.{◌≡◌, ◌++◌, IfOk, OnOk};
 ghost use Rattle.std.specs.List.{flat_map};
 ghost use Rattle.pd_edit.specs.Refusals.{edited};
-ghost use Rattle.pd_desk.specs.LineReasons.{edit_reasons, no_line_text, place_line, reasons_text, show_reasons};
+ghost use Rattle.pd_explain.specs.Lines.{place_line};
+ghost use Rattle.pd_desk.specs.LineReasons.{bare, edit_reasons, no_line_text, reasons_text, show_reasons};
 
 use pd_edit::apply;
 use pd_edit_lines::{Edit, EditFault, Line, Show};
-use pd_explain::{Place, Reason, is_port, push_sentence, push_syntax, reasons};
+use pd_explain::{Place, Reason, is_port, push_place, push_syntax, reasons};
 use pd_scenario::Scenario;
+use pd_text::{Form, Front};
 use std::alloc::{AllocError, Global};
 
 /// The most bytes of a line.
 const LONGEST_LINE: usize = 256;
 
-/// Writes a line for a place.
-#[tactic(auto, unfolding(crate::specs::LineReasons::place_line))]
-fn push_place<const N: usize>(
-    text: &mut Vec<u8>,
-    scenario: &Scenario<N>,
-    place: &Place,
-) -> Result<(), AllocError>
-    ensures { OnOk result (text.new.items ≡ text.old.items ++ place_line N scenario.now place.now) }
+/// What is told before a sentence: nothing.
+#[tactic(auto, unfolding(crate::specs::LineReasons::bare))]
+fn bare(alloc: Global) -> Result<Front, AllocError>
+    ensures { IfOk result (λ front. front ≡ bare) }
 {
-    push_sentence(text, scenario, place)?;
-    text.push(b'\n')?;
-    Ok(())
+    Front::of_file(alloc, Form::Words, b"")
 }
 
 /// Writes a line for the place of each reason.
 fn push_places<const N: usize>(
+    alloc: Global,
     text: &mut Vec<u8>,
+    front: &Front,
     scenario: &Scenario<N>,
     reasons: &[Reason],
 ) -> Result<(), AllocError>
-    ensures { OnOk result (text.new.items ≡ text.old.items ++ flat_map (λ r. place_line N scenario.now r.place) reasons.now) }
+    ensures { OnOk result (text.new.items
+        ≡ text.old.items ++ flat_map (λ r. place_line front.now N scenario.now r.place) reasons.now) }
 {
     for reason in reasons {
-        push_place(text, scenario, &reason.place)?;
+        push_place(alloc, text, front, scenario, &reason.place)?;
     }
     Ok(())
 }
@@ -56,14 +55,16 @@ fn push_edit<const N: usize>(
         Ok(_) => Ok(()),
         Err(EditFault::Memory) => Err(AllocError),
         Err(_) => {
+            let front = bare(alloc)?;
             let reasons = reasons(alloc, scenario, edit)?;
-            push_places(text, scenario, reasons.as_slice())
+            push_places(alloc, text, &front, scenario, reasons.as_slice())
         }
     }
 }
 
 /// Writes why a show is refused, where it is.
 fn push_show<const N: usize>(
+    alloc: Global,
     text: &mut Vec<u8>,
     scenario: &Scenario<N>,
     show: Show,
@@ -71,26 +72,24 @@ fn push_show<const N: usize>(
     ensures { OnOk result (text.new.items ≡ text.old.items ++ show_reasons N scenario.now show) }
 {
     match show {
-        Show::Transcript { port } if !is_port(N, port) => push_place(
-            text,
-            scenario,
-            &Place::Port { port },
-        ),
+        Show::Transcript { port } if !is_port(N, port) => {
+            let front = bare(alloc)?;
+            push_place(alloc, text, &front, scenario, &Place::Port { port })
+        }
         _ => Ok(()),
     }
 }
 
 /// Writes why a line is none of an edit script.
 #[tactic(auto, unfolding(crate::specs::LineReasons::no_line_text))]
-fn push_no_line(text: &mut Vec<u8>, line: &[u8]) -> Result<(), AllocError>
+fn push_no_line(alloc: Global, text: &mut Vec<u8>, line: &[u8]) -> Result<(), AllocError>
     ensures { OnOk result (text.new.items ≡ text.old.items ++ no_line_text line.now) }
 {
     if line.len() > LONGEST_LINE {
         return text.extend_from_slice(b"the line has more than 256 bytes\n");
     }
-    push_syntax(text, line)?;
-    text.push(b'\n')?;
-    Ok(())
+    let front = bare(alloc)?;
+    push_syntax(alloc, text, &front, line)
 }
 
 /// Writes why a line is refused, with the scenario as it stands: a line for each place at which a refusal applies, those of
@@ -110,7 +109,7 @@ pub fn push_reasons<const N: usize>(
     match Line::read(line) {
         Ok(Line::Skip) => Ok(()),
         Ok(Line::Edit(edit)) => push_edit(alloc, text, scenario, &edit),
-        Ok(Line::Show(show)) => push_show(text, scenario, show),
-        Err(_) => push_no_line(text, line),
+        Ok(Line::Show(show)) => push_show(alloc, text, scenario, show),
+        Err(_) => push_no_line(alloc, text, line),
     }
 }

@@ -4,9 +4,11 @@ use Rattle.pd_port.specs.declared.entry.Entry.{Entry}
 use Rattle.pd_run.specs.Shown.{Shows}
 use Rattle.pd_scenario.specs.Plans.{plan_of}
 use Rattle.pd_scenario.specs.Scenarios.{ScenarioData}
-use Rattle.pd_explain.specs.Sentences.{sentence}
+use Rattle.pd_edit_lines.specs.declared.fault.EditFault.TheVariants.{NoSuchPort}
+use Rattle.pd_explain.specs.Lines.{place_line}
 use Rattle.pd_explain.specs.declared.place.Place.TheVariants as place
-use Rattle.pd_scene.specs.Script.{after_line, at_line, line_text, reason_line}
+use Rattle.pd_scene.specs.Script.{after_line, at_line, line_text, refused_at}
+use Rattle.pd_text.specs.Fronts.{FrontData}
 use Rattle.pd_expect.specs.Details.{details}
 use Rattle.pd_expect.specs.Lines.{test_line}
 use Rattle.pd_expect.specs.Losses.{IsLoss}
@@ -50,19 +52,19 @@ pub record Answer : Type 0 where
   pub after : ScenarioData
 
 -- an expectation that is met is passed over in silence
-abbrev pub judged : ScenarioData → List ℕ → List ℕ → TestTally → Expectation → Found → List (ℕ × Entry) → Answer
+abbrev pub judged : ScenarioData → FrontData → List ℕ → TestTally → Expectation → Found → List (ℕ × Entry) → Answer
 judged c at line tally expectation what moves =
     if is_met expectation what then record { said = []; tally = one_passed tally; after = c }
     else record { said = failure_line at line what (details expectation what moves); tally = one_failed tally; after = c }
 
 -- it is held against the run of the scenario as edited by then
-abbrev pub Judges : ScenarioData → List ℕ → List ℕ → TestTally → Expectation → Answer → Type 0
+abbrev pub Judges : ScenarioData → FrontData → List ℕ → TestTally → Expectation → Answer → Type 0
 Judges c at line tally expectation answer =
     (moves : List (ℕ × Entry)) × Shows (plan_of c) moves × (what : Found) × IsFound (plan_of c) moves line expectation what
     × (answer ≡ judged c at line tally expectation what moves)
 
 -- one of a time after the end is refused: nothing is known of then
-abbrev pub ExpectsInTime : ScenarioData → List ℕ → List ℕ → TestTally → Expectation → Option ℕ → Answer → Type 0
+abbrev pub ExpectsInTime : ScenarioData → FrontData → List ℕ → TestTally → Expectation → Option ℕ → Answer → Type 0
 ExpectsInTime c at line tally expectation None answer = Judges c at line tally expectation answer
 ExpectsInTime c at line tally expectation (Some time) answer =
     answer ≡ record {
@@ -72,21 +74,21 @@ ExpectsInTime c at line tally expectation (Some time) answer =
     }
 
 -- so is one of a port that isn't there
-abbrev pub Expects : ℕ → ScenarioData → List ℕ → List ℕ → TestTally → Expectation → Option ℕ → Answer → Type 0
+abbrev pub Expects : ℕ → ScenarioData → FrontData → List ℕ → TestTally → Expectation → Option ℕ → Answer → Type 0
 Expects n c at line tally expectation None answer =
     ExpectsInTime c at line tally expectation (late_time (plan_of c).end (last_time expectation)) answer
 Expects n c at line tally expectation (Some port) answer =
-    answer ≡ record { said = reason_line at 23 (sentence n c (place.Port port)); tally = one_refused tally; after = c }
+    answer ≡ record { said = place_line (refused_at at NoSuchPort) n c (place.Port port); tally = one_refused tally; after = c }
 
-abbrev pub lost_answer : ScenarioData → List ℕ → TestTally → Result ScenarioData LoseFault → Answer
+abbrev pub lost_answer : ScenarioData → FrontData → TestTally → Result ScenarioData LoseFault → Answer
 lost_answer c at tally (Ok after) = record { said = []; tally = tally; after = after }
 lost_answer c at tally (Err why) = record { said = loss_line at why; tally = one_refused tally; after = c }
 
-abbrev pub Loses : ℕ → ScenarioData → List ℕ → TestTally → Lost → Answer → Type 0
+abbrev pub Loses : ℕ → ScenarioData → FrontData → TestTally → Lost → Answer → Type 0
 Loses n c at tally lost answer =
     (outcome : Result ScenarioData LoseFault) × IsLoss n c lost outcome × (answer ≡ lost_answer c at tally outcome)
 
-abbrev pub AnswersAs : ℕ → ScenarioData → List ℕ → List ℕ → TestTally → TestLine → Answer → Type 0
+abbrev pub AnswersAs : ℕ → ScenarioData → FrontData → List ℕ → TestTally → TestLine → Answer → Type 0
 AnswersAs n c at line tally line_is.Edit answer =
     answer ≡ record { said = line_text at n c line; tally = counted_by (line_text at n c line) tally; after = after_line n c line }
 AnswersAs n c at line tally (line_is.Expect expectation) answer =
@@ -98,12 +100,12 @@ AnswersAs n c at line tally line_is.NoTest answer =
     answer ≡ record { said = no_test_line at line; tally = one_refused tally; after = c }
 
 -- what a line of a script comes to, of the scenario as edited by then
-abbrev pub IsAnswer : ℕ → ScenarioData → List ℕ → List ℕ → TestTally → Answer → Type 0
+abbrev pub IsAnswer : ℕ → ScenarioData → FrontData → List ℕ → TestTally → Answer → Type 0
 IsAnswer n c at line tally answer = AnswersAs n c at line tally (test_line line) answer
 
 -- ---- what the lines come to, one after the other; the first has this number
-unfoldable pub Tests : ℕ → ScenarioData → List ℕ → ℕ → TestTally → List (List ℕ) → List ℕ → TestTally → Type 0
-Tests n c name number tally [] text end = (text ≡ []) × (end ≡ tally)
-Tests n c name number tally (line ∷ lines) text end =
-    (answer : Answer) × (rest : List ℕ) × IsAnswer n c (at_line name number) line tally answer
-    × Tests n answer.after name (number + 1) answer.tally lines rest end × (text ≡ answer.said ++ rest)
+unfoldable pub Tests : ℕ → ScenarioData → FrontData → ℕ → TestTally → List (List ℕ) → List ℕ → TestTally → Type 0
+Tests n c file number tally [] text end = (text ≡ []) × (end ≡ tally)
+Tests n c file number tally (line ∷ lines) text end =
+    (answer : Answer) × (rest : List ℕ) × IsAnswer n c (at_line file number) line tally answer
+    × Tests n answer.after file (number + 1) answer.tally lines rest end × (text ≡ answer.said ++ rest)

@@ -1,8 +1,15 @@
 -- What is said of a line of a test script: this product's own form, docs/FORMATS.md, "Tests".
 use Rattle.std.specs.Prelude.{ℕ, zero, suc, ◌==◌, if◌then◌else◌, List, [], ◌∷◌, ◌++◌, codes, decimal, bytes_eq, Option, Some, None}
+use Rattle.pd_text.specs.declared.piece.Form.TheVariants.{Words}
+use Rattle.pd_text.specs.declared.piece.Unit.TheVariants.{Plain}
+use Rattle.pd_text.specs.Pieces.{PieceData, line_number, line_words, string}
+use Rattle.pd_text.specs.Texts.{text_of_all}
+use Rattle.pd_text.specs.Fronts.{FrontData, line_with, said}
 use Rattle.pd_objects.specs.declared.contract.Contract.{Contract}
 use Rattle.pd_tell.specs.Members.{number_member}
 use Rattle.pd_edit_lines.specs.Words.{next, words}
+use Rattle.pd_edit_lines.specs.declared.fault.EditFault.TheVariants.{Range, Syntax}
+use Rattle.pd_scene.specs.Script.{refused_at}
 use Rattle.pd_sweep.specs.Words.{obstacle_words}
 use Rattle.pd_expect.specs.declared.found.Found.{Found}
 use Rattle.pd_expect.specs.declared.found.Found.TheVariants as found
@@ -37,10 +44,15 @@ abbrev pub there_words : Found → List ℕ
 there_words (found.Faults count) = if count == 1 then codes "; there is " else codes "; there are "
 there_words _ = codes "; there is "
 
--- an expectation that isn't met: where its line stands, the line, what there is, and details of that
-unfoldable pub failure_line : List ℕ → List ℕ → Found → List ℕ → List ℕ
+-- what there is, and details of that
+abbrev pub there : Found → List ℕ → List ℕ
+there what details = found_words what ++ details
+
+-- an expectation that isn't met: where its line stands, the line, and what there is
+unfoldable pub failure_line : FrontData → List ℕ → Found → List ℕ → List ℕ
 failure_line at line what details =
-    at ++ (codes "failed: " ++ (line ++ (there_words what ++ (found_words what ++ (details ++ 10 ∷ [])))))
+    line_with at
+    (string (codes ": failed: ") (codes "expected") line ∷ string (there_words what) (codes "found") (there what details) ∷ [])
 
 -- the form of a line, by the word behind `expect`
 abbrev pub form_named : List ℕ → List ℕ
@@ -63,14 +75,19 @@ form_of (Some first) =
     if bytes_eq first.0 (codes "lose") then codes "`lose NTH NAME of port PORT`" else form_behind (next first.1)
 
 -- a line that begins as one of a test, and is none
-unfoldable pub no_test_line : List ℕ → List ℕ → List ℕ
-no_test_line at line = at ++ (codes "refused 20: expected " ++ (form_of (next (words line)) ++ 10 ∷ []))
+abbrev pub no_test_words : List ℕ → List ℕ
+no_test_words line = text_of_all Words (line_words (codes "expected ") ∷ line_words (form_of (next (words line))) ∷ [])
+
+unfoldable pub no_test_line : FrontData → List ℕ → List ℕ
+no_test_line at line = line_with (refused_at at Syntax) (said [] (no_test_words line) [])
 
 -- a range in which no number is
-unfoldable pub empty_range_line : List ℕ → Span → List ℕ
-empty_range_line at span =
-    at ++ (codes "refused 20: no number is from " ++ (decimal span.from ++ (codes " to " ++ (decimal span.to
-    ++ codes "; hint: the lesser one comes first\n"))))
+abbrev pub empty_range_words : Span → List ℕ
+empty_range_words span =
+    text_of_all Words (line_number (codes "no number is from ") Plain span.from ∷ line_number (codes " to ") Plain span.to ∷ [])
+
+unfoldable pub empty_range_line : FrontData → Span → List ℕ
+empty_range_line at span = line_with (refused_at at Syntax) (said [] (empty_range_words span) (codes "the lesser one comes first"))
 
 -- the word for the last time in the form of an expectation
 abbrev pub time_word : Expectation → List ℕ
@@ -78,30 +95,36 @@ time_word (expect.Packet port side kind from to) = codes "TO"
 time_word _ = codes "TIME"
 
 -- a time after the end
-unfoldable pub late_line : List ℕ → List ℕ → ℕ → ℕ → List ℕ
-late_line at word time end =
-    at ++ (codes "refused 26: `" ++ (word ++ (codes "` is " ++ (decimal time ++ (codes ", above " ++ (decimal end
-    ++ codes ", the end\n"))))))
+abbrev pub late_words : List ℕ → ℕ → ℕ → List ℕ
+late_words word time end =
+    text_of_all Words
+    (line_words (codes "`") ∷ line_words word ∷ line_number (codes "` is ") Plain time ∷ line_number (codes ", above ") Plain end
+    ∷ line_words (codes ", the end") ∷ [])
+
+unfoldable pub late_line : FrontData → List ℕ → ℕ → ℕ → List ℕ
+late_line at word time end = line_with (refused_at at Range) (said word (late_words word time end) [])
 
 -- the numbers that packets of the kind have, where there are any
-unfoldable pub numbers_words : ℕ → List ℕ
-numbers_words count = codes "; they are numbered from 1 to " ++ decimal count
+abbrev pub numbered_piece : ℕ → PieceData
+numbered_piece count = if count == 0 then line_words [] else line_number (codes "; they are numbered from 1 to ") Plain count
 
-abbrev pub numbered_words : ℕ → List ℕ
-numbered_words count = if count == 0 then [] else numbers_words count
-
-unfoldable pub no_packet_words : ℕ → List ℕ
-no_packet_words count = codes "not lost: there is no such packet" ++ (numbered_words count ++ 10 ∷ [])
+abbrev pub no_packet_words : ℕ → List ℕ
+no_packet_words count = text_of_all Words (line_words (codes "there is no such packet") ∷ numbered_piece count ∷ [])
 
 -- why a packet isn't lost
 abbrev pub loss_words : LoseFault → List ℕ
 loss_words (fault.NoPacket count) = no_packet_words count
-loss_words fault.Disturbed = codes "not lost: the scenario disturbs that packet already\n"
-loss_words fault.Missed = codes "not lost: the event doesn't hit that packet\n"
-loss_words (fault.Barred obstacle) = obstacle_words obstacle ++ codes "\n"
+loss_words fault.Disturbed = codes "the scenario disturbs that packet already"
+loss_words fault.Missed = codes "the event doesn't hit that packet"
+loss_words (fault.Barred obstacle) = obstacle_words obstacle
 
-unfoldable pub loss_line : List ℕ → LoseFault → List ℕ
-loss_line at why = at ++ loss_words why
+-- one whose loss was tried, or couldn't be
+abbrev pub loss_piece : LoseFault → List ℕ → PieceData
+loss_piece (fault.Barred obstacle) why = string (codes ": not tried: ") (codes "not_tried") why
+loss_piece _ why = string (codes ": not lost: ") (codes "not_lost") why
+
+unfoldable pub loss_line : FrontData → LoseFault → List ℕ
+loss_line at fault = line_with at (loss_piece fault (loss_words fault) ∷ [])
 
 -- what all lines come to
 abbrev pub refused_words : ℕ → List ℕ

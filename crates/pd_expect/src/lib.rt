@@ -22,6 +22,7 @@ pub use lines::{Expectation, Lost, TestLine, quoted};
 pub use loss::{LoseFault, lose};
 pub use named::scenario_name;
 pub use pd_scene::SceneFault;
+pub use pd_text::Form;
 pub use script::{TestReport, test_lines};
 pub use span::Span;
 pub use tally::TestTally;

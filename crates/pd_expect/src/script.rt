@@ -3,9 +3,7 @@
 ghost use Rattle.std.specs.Prelude.{◌≡◌, ◌+◌, ◌-◌, ◌<◌, ◌≤◌, ◌^◌, ◌++◌, IfOk, OnOk};
 ghost use Rattle.std.specs.Str.Lines.{lines};
 ghost use Rattle.pd_scenario.specs.Plans.{plan_of};
-ghost use Rattle.pd_explain.specs.Sentences.{sentence};
-ghost use Rattle.pd_explain.specs.declared.place.Place.TheVariants.{Port as port_place};
-ghost use Rattle.pd_scene.specs.Script.{reason_line};
+ghost use Rattle.pd_text.specs.Fronts.{front_of_file};
 ghost use Rattle.pd_expect.specs.Details.{details};
 ghost use Rattle.pd_expect.specs.Named.{script_lines};
 ghost use Rattle.pd_expect.specs.Sentences.{last_time, late_time, port_of, unknown_port};
@@ -20,12 +18,13 @@ use crate::named::without_mark;
 use crate::tally::TestTally;
 use crate::words::{push_empty_range, push_failure, push_late, push_loss, push_no_test};
 use crate::{Expectation, Lost, Span, TestLine};
-use pd_explain::{Place, is_port, push_sentence};
+use pd_edit_lines::EditFault;
+use pd_explain::{Place, is_port};
 use pd_port::Meter;
 use pd_run::Runner;
 use pd_scenario::Scenario;
-use pd_scene::{at_line, explain_line, first_line};
-use pd_tell::push_number;
+use pd_scene::{at_line, explain_line, first_line, push_reason};
+use pd_text::{Form, Front};
 use std::alloc::{AllocError, Global};
 
 /// What is said of the lines of a test script, and how they count.
@@ -45,30 +44,11 @@ fn unknown_port(ports: usize, port: Option<u64>) -> Option<u64>
     }
 }
 
-/// Writes that no port has a number.
-#[tactic(auto, unfolding(pd_scene::specs::Script::reason_line))]
-fn push_no_port<const N: usize>(
-    text: &mut Vec<u8>,
-    at: &[u8],
-    scenario: &Scenario<N>,
-    port: u64,
-) -> Result<(), AllocError>
-    ensures { OnOk result (text.new.items ≡ text.old.items ++ reason_line at.now 23 (sentence N scenario.now (port_place port))) }
-{
-    text.extend_from_slice(at)?;
-    text.extend_from_slice(b"refused ")?;
-    push_number(text, 23)?;
-    text.extend_from_slice(b": ")?;
-    push_sentence(text, scenario, &Place::Port { port })?;
-    text.push(b'\n')?;
-    Ok(())
-}
-
 /// Makes the edit of a line, or says why it is refused.
 fn edit<const N: usize>(
     alloc: Global,
     scenario: &mut Scenario<N>,
-    at: &[u8],
+    at: &Front,
     line: &[u8],
     tally: TestTally,
 ) -> Result<TestReport, AllocError>
@@ -88,7 +68,7 @@ fn push_unmet<const N: usize, T: Runner<N>>(
     alloc: Global,
     text: &mut Vec<u8>,
     run: &T,
-    at: &[u8],
+    at: &Front,
     line: &[u8],
     expectation: &Expectation,
     found: &Found,
@@ -97,7 +77,7 @@ fn push_unmet<const N: usize, T: Runner<N>>(
         ++ failure_line at.now line.now found.now (details expectation.now found.now (T.entries run.now))) }
 {
     let details = details(alloc, expectation, run, found)?;
-    push_failure(text, at, line, found, details.as_slice())
+    push_failure(alloc, text, at, line, found, details.as_slice())
 }
 
 /// Holds an expectation against the run of a scenario.
@@ -105,7 +85,7 @@ fn judge<const N: usize, T: Runner<N>>(
     alloc: Global,
     run: &mut T,
     scenario: &Scenario<N>,
-    at: &[u8],
+    at: &Front,
     line: &[u8],
     expectation: &Expectation,
     tally: TestTally,
@@ -143,7 +123,7 @@ fn expect_in_time<const N: usize, T: Runner<N>>(
     alloc: Global,
     run: &mut T,
     scenario: &Scenario<N>,
-    at: &[u8],
+    at: &Front,
     line: &[u8],
     expectation: &Expectation,
     tally: TestTally,
@@ -160,7 +140,7 @@ fn expect_in_time<const N: usize, T: Runner<N>>(
         None => judge(alloc, run, scenario, at, line, expectation, tally, meter),
         Some(time) => {
             let mut text = Vec::new(alloc);
-            push_late(&mut text, at, time_word(expectation), time, end)?;
+            push_late(alloc, &mut text, at, time_word(expectation), time, end)?;
             let tally = tally.one_refused();
             Ok(TestReport { text, tally })
         }
@@ -172,7 +152,7 @@ fn expect<const N: usize, T: Runner<N>>(
     alloc: Global,
     run: &mut T,
     scenario: &Scenario<N>,
-    at: &[u8],
+    at: &Front,
     line: &[u8],
     expectation: &Expectation,
     tally: TestTally,
@@ -188,7 +168,14 @@ fn expect<const N: usize, T: Runner<N>>(
         None => expect_in_time(alloc, run, scenario, at, line, expectation, tally, meter),
         Some(port) => {
             let mut text = Vec::new(alloc);
-            push_no_port(&mut text, at, scenario, port)?;
+            push_reason(
+                alloc,
+                &mut text,
+                at,
+                EditFault::NoSuchPort,
+                scenario,
+                &Place::Port { port },
+            )?;
             let tally = tally.one_refused();
             Ok(TestReport { text, tally })
         }
@@ -200,7 +187,7 @@ fn lose_named<const N: usize, T: Runner<N>>(
     alloc: Global,
     run: &mut T,
     scenario: &mut Scenario<N>,
-    at: &[u8],
+    at: &Front,
     lost: &Lost,
     tally: TestTally,
     meter: &mut Meter,
@@ -217,7 +204,7 @@ fn lose_named<const N: usize, T: Runner<N>>(
             Ok(TestReport { text, tally })
         }
         Ok(Err(fault)) => {
-            push_loss(&mut text, at, &fault)?;
+            push_loss(alloc, &mut text, at, &fault)?;
             let tally = tally.one_refused();
             Ok(TestReport { text, tally })
         }
@@ -226,14 +213,19 @@ fn lose_named<const N: usize, T: Runner<N>>(
 }
 
 /// Says that a line is none of a test script.
-fn refuse(alloc: Global, at: &[u8], line: &[u8], tally: TestTally) -> Result<TestReport, AllocError>
+fn refuse(
+    alloc: Global,
+    at: &Front,
+    line: &[u8],
+    tally: TestTally,
+) -> Result<TestReport, AllocError>
     requires room { answered tally < 2 ^ 64 - 1 }
     ensures text { IfOk result (λ report. report.text.items ≡ no_test_line at.now line.now) }
     ensures tally { IfOk result (λ report. report.tally ≡ one_refused tally) }
     ensures room { IfOk result (λ report. answered report.tally ≤ answered tally + 1) }
 {
     let mut text = Vec::new(alloc);
-    push_no_test(&mut text, at, line)?;
+    push_no_test(alloc, &mut text, at, line)?;
     let tally = tally.one_refused();
     Ok(TestReport { text, tally })
 }
@@ -241,7 +233,7 @@ fn refuse(alloc: Global, at: &[u8], line: &[u8], tally: TestTally) -> Result<Tes
 /// Says that no number is in a range.
 fn refuse_range(
     alloc: Global,
-    at: &[u8],
+    at: &Front,
     span: Span,
     tally: TestTally,
 ) -> Result<TestReport, AllocError>
@@ -251,7 +243,7 @@ fn refuse_range(
     ensures room { IfOk result (λ report. answered report.tally ≤ answered tally + 1) }
 {
     let mut text = Vec::new(alloc);
-    push_empty_range(&mut text, at, span)?;
+    push_empty_range(alloc, &mut text, at, span)?;
     let tally = tally.one_refused();
     Ok(TestReport { text, tally })
 }
@@ -261,7 +253,7 @@ fn answer_line<const N: usize, T: Runner<N>>(
     alloc: Global,
     run: &mut T,
     scenario: &mut Scenario<N>,
-    at: &[u8],
+    at: &Front,
     line: &[u8],
     tally: TestTally,
     meter: &mut Meter,
@@ -283,8 +275,8 @@ fn answer_line<const N: usize, T: Runner<N>>(
 }
 
 /// Goes through the lines of a test script, each with the scenario as edited by then: makes edits, loses packets that are named,
-/// and holds what is expected against the run. Says of each line that fails or is refused why, behind the script's name and the
-/// number of the line.
+/// and holds what is expected against the run. Says of each line that fails or is refused why, behind the script and the number of
+/// the line.
 ///
 /// # Errors
 /// There is no memory.
@@ -292,11 +284,11 @@ pub fn test_lines<const N: usize, T: Runner<N>>(
     alloc: Global,
     run: &mut T,
     scenario: Scenario<N>,
-    name: &[u8],
+    file: &Front,
     script: &[u8],
     meter: &mut Meter,
 ) -> Result<TestReport, AllocError>
-    ensures { IfOk result (λ report. Tests N scenario.entry name.now 1 no_test (lines script.now) report.text.items report.tally) }
+    ensures { IfOk result (λ report. Tests N scenario.entry file.now 1 no_test (lines script.now) report.text.items report.tally) }
 {
     let mut scenario = scenario;
     let mut text = Vec::new(alloc);
@@ -304,8 +296,8 @@ pub fn test_lines<const N: usize, T: Runner<N>>(
     let mut rest = script;
     let mut number = 1;
     while let Some((line, others)) = first_line(rest) {
-        let at = at_line(alloc, name, number)?;
-        let answer = answer_line(alloc, run, &mut scenario, at.as_slice(), line, tally, meter)?;
+        let at = at_line(alloc, file, number)?;
+        let answer = answer_line(alloc, run, &mut scenario, &at, line, tally, meter)?;
         text.extend_from_slice(answer.text.as_slice())?;
         tally = answer.tally;
         rest = others;
@@ -314,16 +306,19 @@ pub fn test_lines<const N: usize, T: Runner<N>>(
     Ok(TestReport { text, tally })
 }
 
-/// The same for a script that may have a byte order mark before its first line.
+/// The same for a script of a name, in a form. The script may have a byte order mark before its first line.
 pub(crate) fn test_script<const N: usize, T: Runner<N>>(
     alloc: Global,
     run: &mut T,
     scenario: Scenario<N>,
+    form: Form,
     name: &[u8],
     script: &[u8],
     meter: &mut Meter,
 ) -> Result<TestReport, AllocError>
-    ensures { IfOk result (λ report. Tests N scenario.entry name.now 1 no_test (script_lines script.now) report.text.items report.tally) }
+    ensures { IfOk result (λ report.
+        Tests N scenario.entry (front_of_file form name.now) 1 no_test (script_lines script.now) report.text.items report.tally) }
 {
-    test_lines(alloc, run, scenario, name, without_mark(script), meter)
+    let file = Front::of_file(alloc, form, name)?;
+    test_lines(alloc, run, scenario, &file, without_mark(script), meter)
 }

@@ -1,21 +1,28 @@
 //! What is said of a line of a test script.
 
 ghost use Rattle.std.specs.Prelude.{◌≡◌, ◌++◌, OnOk, decimal};
+ghost use Rattle.pd_text.specs.Pieces.{piece_of};
+ghost use Rattle.pd_text.specs.Texts.{text_of_all};
+ghost use Rattle.pd_text.specs.declared.piece.Form.TheVariants.{Words};
 ghost use Rattle.pd_edit_lines.specs.Words.{next, words};
-ghost use Rattle.pd_sweep.specs.Words.{obstacle_words};
 ghost use Rattle.pd_expect.specs.Words.{contract_words, failure_line, found_words, faults_word, known_words};
 ghost use Rattle.pd_expect.specs.Words.{empty_range_line, form_behind, form_named, form_of, late_line, loss_line, loss_words, there_words};
-ghost use Rattle.pd_expect.specs.Words.{no_packet_words, no_test_line, numbered_words, numbers_words};
+ghost use Rattle.pd_expect.specs.Words.{empty_range_words, late_words, loss_piece, no_packet_words, no_test_line, no_test_words};
+ghost use Rattle.pd_expect.specs.Words.{numbered_piece, there};
 
 use crate::Span;
 use crate::found::Found;
 use crate::loss::LoseFault;
 use itoa::Buffer;
-use pd_edit_lines::next;
+use pd_edit_lines::{EditFault, next};
 use pd_objects::Contract;
+use pd_scene::refused_at;
 use pd_sweep::push_obstacle;
 use pd_tell::push_number;
-use std::alloc::AllocError;
+use pd_text::Piece::{LineNumber, LineWords, Text};
+use pd_text::Unit::Plain;
+use pd_text::{Form, Front, Piece, push_pieces};
+use std::alloc::{AllocError, Global};
 
 /// Writes a contract by its position, its voltage in millivolts and its current in milliamperes.
 fn push_known(text: &mut Vec<u8>, position: u64, mv: u64, ma: u64) -> Result<(), AllocError>
@@ -91,25 +98,35 @@ fn there_words(found: &Found) -> &'static [u8]
     }
 }
 
+/// Writes what there is, and details of that.
+fn push_there(text: &mut Vec<u8>, found: &Found, details: &[u8]) -> Result<(), AllocError>
+    ensures { OnOk result (text.new.items ≡ text.old.items ++ there found.now details.now) }
+{
+    push_found(text, found)?;
+    text.extend_from_slice(details)
+}
+
 /// Writes that an expectation isn't met: where its line stands, the line, what there is, and details of that.
 #[tactic(auto, unfolding(crate::specs::Words::failure_line))]
 pub(crate) fn push_failure(
+    alloc: Global,
     text: &mut Vec<u8>,
-    at: &[u8],
+    at: &Front,
     line: &[u8],
     found: &Found,
     details: &[u8],
 ) -> Result<(), AllocError>
     ensures { OnOk result (text.new.items ≡ text.old.items ++ failure_line at.now line.now found.now details.now) }
 {
-    text.extend_from_slice(at)?;
-    text.extend_from_slice(b"failed: ")?;
-    text.extend_from_slice(line)?;
-    text.extend_from_slice(there_words(found))?;
-    push_found(text, found)?;
-    text.extend_from_slice(details)?;
-    text.push(b'\n')?;
-    Ok(())
+    let mut there = Vec::new(alloc);
+    push_there(&mut there, found, details)?;
+    at.push_line(
+        text,
+        &[
+            Text(b": failed: ", b"expected", line),
+            Text(there_words(found), b"found", there.as_slice()),
+        ],
+    )
 }
 
 /// The form of a line, by the word behind `expect`.
@@ -159,109 +176,159 @@ fn form_of(line: &[u8]) -> &'static [u8]
 }
 
 /// Writes the form that a line should have, where it is none of a test script.
+fn push_no_test_words(text: &mut Vec<u8>, line: &[u8]) -> Result<(), AllocError>
+    ensures { OnOk result (text.new.items ≡ text.old.items ++ no_test_words line.now) }
+{
+    push_pieces(
+        text,
+        Form::Words,
+        &[LineWords(b"expected "), LineWords(form_of(line))],
+    )
+}
+
+/// Writes that a line is none of a test script, and the form that it should have.
 #[tactic(auto, unfolding(crate::specs::Words::no_test_line))]
-pub(crate) fn push_no_test(text: &mut Vec<u8>, at: &[u8], line: &[u8]) -> Result<(), AllocError>
+pub(crate) fn push_no_test(
+    alloc: Global,
+    text: &mut Vec<u8>,
+    at: &Front,
+    line: &[u8],
+) -> Result<(), AllocError>
     ensures { OnOk result (text.new.items ≡ text.old.items ++ no_test_line at.now line.now) }
 {
-    text.extend_from_slice(at)?;
-    text.extend_from_slice(b"refused 20: expected ")?;
-    text.extend_from_slice(form_of(line))?;
-    text.push(b'\n')?;
-    Ok(())
+    let front = refused_at(alloc, at, EditFault::Syntax)?;
+    let mut sentence = Vec::new(alloc);
+    push_no_test_words(&mut sentence, line)?;
+    front.say(text, b"", sentence.as_slice(), b"")
 }
 
 /// Writes that no number is in a range.
+fn push_empty_range_words(text: &mut Vec<u8>, span: Span) -> Result<(), AllocError>
+    ensures { OnOk result (text.new.items ≡ text.old.items ++ empty_range_words span) }
+{
+    push_pieces(
+        text,
+        Form::Words,
+        &[
+            LineNumber(b"no number is from ", Plain, span.from),
+            LineNumber(b" to ", Plain, span.to),
+        ],
+    )
+}
+
+/// Writes that a line is refused for a range in which no number is.
 #[tactic(auto, unfolding(crate::specs::Words::empty_range_line))]
-pub(crate) fn push_empty_range(text: &mut Vec<u8>, at: &[u8], span: Span) -> Result<(), AllocError>
+pub(crate) fn push_empty_range(
+    alloc: Global,
+    text: &mut Vec<u8>,
+    at: &Front,
+    span: Span,
+) -> Result<(), AllocError>
     ensures { OnOk result (text.new.items ≡ text.old.items ++ empty_range_line at.now span) }
 {
-    text.extend_from_slice(at)?;
-    text.extend_from_slice(b"refused 20: no number is from ")?;
-    push_number(text, span.from)?;
-    text.extend_from_slice(b" to ")?;
-    push_number(text, span.to)?;
-    text.extend_from_slice(b"; hint: the lesser one comes first\n")?;
-    Ok(())
+    let front = refused_at(alloc, at, EditFault::Syntax)?;
+    let mut sentence = Vec::new(alloc);
+    push_empty_range_words(&mut sentence, span)?;
+    front.say(
+        text,
+        b"",
+        sentence.as_slice(),
+        b"the lesser one comes first",
+    )
 }
 
 /// Writes that a time is after the end.
+fn push_late_words(text: &mut Vec<u8>, word: &[u8], time: u64, end: u64) -> Result<(), AllocError>
+    ensures { OnOk result (text.new.items ≡ text.old.items ++ late_words word.now time end) }
+{
+    push_pieces(
+        text,
+        Form::Words,
+        &[
+            LineWords(b"`"),
+            LineWords(word),
+            LineNumber(b"` is ", Plain, time),
+            LineNumber(b", above ", Plain, end),
+            LineWords(b", the end"),
+        ],
+    )
+}
+
+/// Writes that a line is refused for a time after the end.
 #[tactic(auto, unfolding(crate::specs::Words::late_line))]
 pub(crate) fn push_late(
+    alloc: Global,
     text: &mut Vec<u8>,
-    at: &[u8],
+    at: &Front,
     word: &[u8],
     time: u64,
     end: u64,
 ) -> Result<(), AllocError>
     ensures { OnOk result (text.new.items ≡ text.old.items ++ late_line at.now word.now time end) }
 {
-    text.extend_from_slice(at)?;
-    text.extend_from_slice(b"refused 26: `")?;
-    text.extend_from_slice(word)?;
-    text.extend_from_slice(b"` is ")?;
-    push_number(text, time)?;
-    text.extend_from_slice(b", above ")?;
-    push_number(text, end)?;
-    text.extend_from_slice(b", the end\n")?;
-    Ok(())
+    let front = refused_at(alloc, at, EditFault::Range)?;
+    let mut sentence = Vec::new(alloc);
+    push_late_words(&mut sentence, word, time, end)?;
+    front.say(text, word, sentence.as_slice(), b"")
 }
 
-/// Writes the numbers that packets have.
-#[tactic(auto, unfolding(crate::specs::Words::numbers_words))]
-fn push_numbers(text: &mut Vec<u8>, count: u64) -> Result<(), AllocError>
-    ensures { OnOk result (text.new.items ≡ text.old.items ++ numbers_words count) }
-{
-    text.extend_from_slice(b"; they are numbered from 1 to ")?;
-    push_number(text, count)?;
-    Ok(())
-}
-
-/// Writes the same, where there are any.
-fn push_numbered(text: &mut Vec<u8>, count: u64) -> Result<(), AllocError>
-    ensures { OnOk result (text.new.items ≡ text.old.items ++ numbered_words count) }
+/// The numbers that packets have, where there are any.
+fn numbered_piece(count: u64) -> Piece<'static>
+    ensures { piece_of result ≡ numbered_piece count }
 {
     if count == 0 {
-        Ok(())
+        LineWords(b"")
     } else {
-        push_numbers(text, count)
+        LineNumber(b"; they are numbered from 1 to ", Plain, count)
     }
 }
 
 /// Writes that there is no such packet, and which there are.
-#[tactic(auto, unfolding(crate::specs::Words::no_packet_words))]
 fn push_no_packet(text: &mut Vec<u8>, count: u64) -> Result<(), AllocError>
     ensures { OnOk result (text.new.items ≡ text.old.items ++ no_packet_words count) }
 {
-    text.extend_from_slice(b"not lost: there is no such packet")?;
-    push_numbered(text, count)?;
-    text.push(b'\n')?;
-    Ok(())
+    push_pieces(
+        text,
+        Form::Words,
+        &[LineWords(b"there is no such packet"), numbered_piece(count)],
+    )
 }
 
 /// Writes why a packet isn't lost.
-fn push_fault(text: &mut Vec<u8>, fault: &LoseFault) -> Result<(), AllocError>
+fn push_loss_words(text: &mut Vec<u8>, fault: &LoseFault) -> Result<(), AllocError>
     ensures { OnOk result (text.new.items ≡ text.old.items ++ loss_words fault.now) }
 {
     match fault {
         LoseFault::NoPacket { count } => push_no_packet(text, *count),
         LoseFault::Disturbed => {
-            text.extend_from_slice(b"not lost: the scenario disturbs that packet already\n")
+            text.extend_from_slice(b"the scenario disturbs that packet already")
         }
-        LoseFault::Missed => {
-            text.extend_from_slice(b"not lost: the event doesn't hit that packet\n")
-        }
-        LoseFault::Barred(obstacle) => {
-            push_obstacle(text, obstacle)?;
-            text.extend_from_slice(b"\n")
-        }
+        LoseFault::Missed => text.extend_from_slice(b"the event doesn't hit that packet"),
+        LoseFault::Barred(obstacle) => push_obstacle(text, obstacle),
+    }
+}
+
+/// Why a packet isn't lost: its loss was tried, or couldn't be.
+fn loss_piece<'a>(fault: &LoseFault, why: &'a [u8]) -> Piece<'a>
+    ensures { piece_of result ≡ loss_piece fault.now why.now }
+{
+    match fault {
+        LoseFault::Barred(_) => Text(b": not tried: ", b"not_tried", why),
+        _ => Text(b": not lost: ", b"not_lost", why),
     }
 }
 
 /// Writes where a line stands, and why its packet isn't lost.
 #[tactic(auto, unfolding(crate::specs::Words::loss_line))]
-pub(crate) fn push_loss(text: &mut Vec<u8>, at: &[u8], fault: &LoseFault) -> Result<(), AllocError>
+pub(crate) fn push_loss(
+    alloc: Global,
+    text: &mut Vec<u8>,
+    at: &Front,
+    fault: &LoseFault,
+) -> Result<(), AllocError>
     ensures { OnOk result (text.new.items ≡ text.old.items ++ loss_line at.now fault.now) }
 {
-    text.extend_from_slice(at)?;
-    push_fault(text, fault)
+    let mut why = Vec::new(alloc);
+    push_loss_words(&mut why, fault)?;
+    at.push_line(text, &[loss_piece(fault, why.as_slice())])
 }

@@ -116,15 +116,14 @@ port_text n port = codes "no port is " ++ (decimal port ++ (codes "; the last is
 unfoldable pub no_cable_text : List ℕ → List ℕ
 no_cable_text name = codes "no cable is named `" ++ (name ++ codes "`")
 
--- and the first of the names of which it is a slip, where it is one
 unfoldable pub cable_text : List (List ℕ) → List ℕ → List ℕ
-cable_text names name = no_cable_text name ++ (there_are names ++ meant_text (nearest name names))
+cable_text names name = no_cable_text name ++ there_are names
 
 unfoldable pub no_sink_text : List ℕ → List ℕ
 no_sink_text name = codes "no sink is named `" ++ (name ++ codes "`")
 
 unfoldable pub sink_text : List (List ℕ) → List ℕ → List ℕ
-sink_text names name = no_sink_text name ++ (there_are names ++ meant_text (nearest name names))
+sink_text names name = no_sink_text name ++ there_are names
 
 unfoldable pub user_text : ℕ → ℕ → List ℕ
 user_text id at = codes "event " ++ (decimal id ++ (codes " at " ++ (decimal at ++ codes " names it")))
@@ -165,6 +164,20 @@ first_supply_text mv = codes "`MV` of supply 1 is " ++ (decimal mv ++ codes ", n
 
 unfoldable pub room_text : Counted → ℕ → List ℕ
 room_text counted count = codes "there are " ++ (decimal count ++ (counted_word counted ++ codes " already"))
+
+-- the word of the line that a place is of, where it is of one that stands for a number
+abbrev pub word_at : Place → List ℕ
+word_at (place.Number word quantity value) = number_word word
+word_at (place.Rating rating) = codes "RATING"
+word_at (place.FirstSupply mv) = codes "MV"
+word_at (place.NextSupply supply mv before) = codes "MV"
+word_at _ = []
+
+-- the first of the names of which a name that isn't there is a slip, where it is one
+abbrev pub hint : ScenarioData → Place → List ℕ
+hint c (place.Cable name) = meant_text (nearest name (cable_names c))
+hint c (place.Sink name) = meant_text (nearest name (sink_names c))
+hint c _ = []
 
 abbrev pub sentence : ℕ → ScenarioData → Place → List ℕ
 sentence n c (place.NewId id) = new_id_text id

@@ -51,10 +51,8 @@ found_text (word ∷ ws) = 96 ∷ (map visible word ++ 96 ∷ [])
 abbrev pub word_place : Words → Words → ℕ
 word_place all left = (length all - length left) + 1
 
--- and which word may have been meant
 unfoldable pub stop_text : Words → Front × Words → List ℕ
-stop_text all (front, left) =
-    codes "word " ++ (decimal (word_place all left) ++ (expected_text front ++ (found_text left ++ stop_hint front left)))
+stop_text all (front, left) = codes "word " ++ (decimal (word_place all left) ++ (expected_text front ++ found_text left))
 
 unfoldable pub too_long_text : ℕ → List ℕ
 too_long_text bytes = codes "the line has " ++ (decimal bytes ++ codes " bytes, above 256")
@@ -64,3 +62,10 @@ unfoldable pub syntax_text : List ℕ → List ℕ
 syntax_text line =
     if nat_lt 256 (length line) then too_long_text (length line)
     else stop_text (words line) (stop_from front.Start (words line))
+
+-- which word may have been meant where it stops
+abbrev pub hint_at : Front × Words → List ℕ
+hint_at (front, left) = stop_hint front left
+
+unfoldable pub syntax_hint : List ℕ → List ℕ
+syntax_hint line = if nat_lt 256 (length line) then [] else hint_at (stop_from front.Start (words line))

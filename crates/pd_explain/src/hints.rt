@@ -6,10 +6,12 @@ ghost use Rattle.pd_scenario.specs.declared.named.NamedCable.{NamedCable as Name
 ghost use Rattle.pd_scenario.specs.declared.named.NamedSink.{NamedSink as NamedSinkData};
 ghost use Rattle.pd_edit_lines.specs.Words.{words};
 ghost use Rattle.pd_explain.specs.Hints.{near_keyword, near_slot, near_word, stop_hint};
+ghost use Rattle.pd_explain.specs.Sentences.{hint};
 
+use crate::Place;
 use pd_edit_lines::{Row, Slot, Stop, next};
 use pd_hints::{is_slip, nearest, push_meant};
-use pd_scenario::{Name, NamedCable, NamedSink};
+use pd_scenario::{Name, NamedCable, NamedSink, Scenario};
 use std::alloc::AllocError;
 
 const PLUGS: [&str; 5] = ["none", "ack", "nak", "busy", "silent"];
@@ -31,11 +33,7 @@ fn near_cable_name<'a>(name: &Name, cables: &'a [NamedCable]) -> Option<&'a str>
 }
 
 /// Writes which cable may have been meant by a name.
-pub(crate) fn push_near_cable(
-    text: &mut Vec<u8>,
-    name: &Name,
-    cables: &[NamedCable],
-) -> Result<(), AllocError>
+fn push_near_cable(text: &mut Vec<u8>, name: &Name, cables: &[NamedCable]) -> Result<(), AllocError>
     ensures { OnOk result (text.new.items
         ≡ text.old.items ++ meant_text (nearest name.now (map (λ cable. cable.name) cables.now))) }
 {
@@ -57,15 +55,26 @@ fn near_sink_name<'a>(name: &Name, sinks: &'a [NamedSink]) -> Option<&'a str>
 }
 
 /// Writes which sink may have been meant by a name.
-pub(crate) fn push_near_sink(
-    text: &mut Vec<u8>,
-    name: &Name,
-    sinks: &[NamedSink],
-) -> Result<(), AllocError>
+fn push_near_sink(text: &mut Vec<u8>, name: &Name, sinks: &[NamedSink]) -> Result<(), AllocError>
     ensures { OnOk result (text.new.items
         ≡ text.old.items ++ meant_text (nearest name.now (map (λ sink. sink.name) sinks.now))) }
 {
     push_meant(text, near_sink_name(name, sinks))
+}
+
+/// Writes which name may have been meant at a place where one isn't there.
+pub(crate) fn push_hint<const N: usize>(
+    text: &mut Vec<u8>,
+    scenario: &Scenario<N>,
+    place: &Place,
+) -> Result<(), AllocError>
+    ensures { OnOk result (text.new.items ≡ text.old.items ++ hint scenario.now place.now) }
+{
+    match place {
+        Place::Cable { name } => push_near_cable(text, name, scenario.cables()),
+        Place::Sink { name } => push_near_sink(text, name, scenario.sinks()),
+        _ => Ok(()),
+    }
 }
 
 fn near_keyword(word: &[u8], keyword: &'static str) -> Option<&'static str>

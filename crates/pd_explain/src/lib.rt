@@ -4,6 +4,7 @@
 mod broken;
 mod hints;
 pub mod laws;
+mod lines;
 mod numbers;
 mod place;
 mod places;
@@ -14,7 +15,6 @@ mod stops;
 mod texts;
 
 pub use broken::is_port;
+pub use lines::{push_place, push_syntax};
 pub use place::{Counted, NumberWord, Place, Reason};
 pub use refused::reasons;
-pub use sentences::push_sentence;
-pub use stops::push_syntax;

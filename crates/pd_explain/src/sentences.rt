@@ -5,9 +5,8 @@ ghost use Rattle.pd_explain.specs.Sentences.{number_word, of_supply, counted_wor
 ghost use Rattle.pd_explain.specs.Sentences.{user_text, number_text, next_supply_text, floors_text, sentence, event_ids, cable_names};
 ghost use Rattle.pd_explain.specs.Sentences.{sink_names, new_id_text, changed_text, rating_text, count_text, first_supply_text};
 ghost use Rattle.pd_explain.specs.Sentences.{room_text, word_text, is_text, before_text, no_cable_text};
-ghost use Rattle.pd_explain.specs.Sentences.{no_sink_text, no_event_text};
+ghost use Rattle.pd_explain.specs.Sentences.{no_sink_text, no_event_text, word_at};
 
-use crate::hints::{push_near_cable, push_near_sink};
 use crate::ranges::push_out;
 use crate::texts::{
     push_behind, push_between, push_cables, push_ids, push_number, push_sinks, push_sum,
@@ -31,6 +30,20 @@ impl NumberWord {
             NumberWord::Demand => "DEMAND",
             NumberWord::Mv { .. } => "MV",
             NumberWord::Ma { .. } => "MA",
+        }
+    }
+}
+
+impl Place {
+    /// The word of the line that it is of, where that is one that stands for a number.
+    pub(crate) fn word(&self) -> &'static str
+        ensures { result.now ≡ word_at self.now }
+    {
+        match self {
+            Place::Number { word, .. } => word.text(),
+            Place::Rating { .. } => "RATING",
+            Place::FirstSupply { .. } | Place::NextSupply { .. } => "MV",
+            _ => "",
         }
     }
 }
@@ -148,8 +161,7 @@ fn push_cable<const N: usize>(
     ensures { OnOk result (text.new.items ≡ text.old.items ++ cable_text (cable_names scenario.now) name.now) }
 {
     push_no_cable(text, name)?;
-    push_cables(text, scenario.cables())?;
-    push_near_cable(text, name, scenario.cables())
+    push_cables(text, scenario.cables())
 }
 
 #[tactic(auto, unfolding(crate::specs::Sentences::no_sink_text))]
@@ -168,8 +180,7 @@ fn push_sink<const N: usize>(
     ensures { OnOk result (text.new.items ≡ text.old.items ++ sink_text (sink_names scenario.now) name.now) }
 {
     push_no_sink(text, name)?;
-    push_sinks(text, scenario.sinks())?;
-    push_near_sink(text, name, scenario.sinks())
+    push_sinks(text, scenario.sinks())
 }
 
 #[tactic(auto, unfolding(crate::specs::Sentences::user_text))]
@@ -256,12 +267,8 @@ fn push_room(text: &mut Vec<u8>, counted: Counted, count: usize) -> Result<(), A
     text.extend_from_slice(b" already")
 }
 
-/// Writes what is said of a place at which a rule is broken, without a line end: what stands there, and what would be
-/// right.
-///
-/// # Errors
-/// There is no memory for it; some of it may stand in the text.
-pub fn push_sentence<const N: usize>(
+/// Writes what is said of a place at which a rule is broken: what stands there, and what would be right.
+pub(crate) fn push_sentence<const N: usize>(
     text: &mut Vec<u8>,
     scenario: &Scenario<N>,
     place: &Place,

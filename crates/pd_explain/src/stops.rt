@@ -6,7 +6,7 @@ ghost use Rattle.pd_edit_lines.specs.Words.{words};
 ghost use Rattle.pd_edit_lines.specs.Slots.{text_of};
 ghost use Rattle.pd_edit_lines.specs.declared.rows.Row.{Row as RowData};
 ghost use Rattle.pd_explain.specs.Stops.{may_end, choices, expected_text, visible, found_text, stop_text, syntax_text, row_text};
-ghost use Rattle.pd_explain.specs.Stops.{end_text, too_long_text, word_place};
+ghost use Rattle.pd_explain.specs.Stops.{end_text, syntax_hint, too_long_text, word_place};
 
 use crate::hints::push_stop_hint;
 use crate::texts::{push_between, push_number};
@@ -136,8 +136,7 @@ fn push_stop(text: &mut Vec<u8>, line: &[u8], stop: &Stop<'_>) -> Result<(), All
     text.extend_from_slice(b"word ")?;
     push_number(text, place_of(line, stop.rest))?;
     push_expected(text, stop)?;
-    push_found(text, stop.rest)?;
-    push_stop_hint(text, stop)
+    push_found(text, stop.rest)
 }
 
 #[tactic(auto, unfolding(crate::specs::Stops::too_long_text))]
@@ -147,17 +146,25 @@ fn push_too_long(text: &mut Vec<u8>, bytes: u64) -> Result<(), AllocError>
     push_between(text, "the line has ", bytes, " bytes, above 256")
 }
 
-/// Writes why a line is none of an edit script, without a line end: the place of the word at which it stops to be one, what
-/// may stand there, and what stands there.
-///
-/// # Errors
-/// There is no memory for it; some of it may stand in the text.
+/// Writes why a line is none of an edit script: the place of the word at which it stops to be one, what may stand there, and what
+/// stands there.
 #[tactic(auto, unfolding(crate::specs::Stops::syntax_text))]
-pub fn push_syntax(text: &mut Vec<u8>, line: &[u8]) -> Result<(), AllocError>
+pub(crate) fn push_syntax_text(text: &mut Vec<u8>, line: &[u8]) -> Result<(), AllocError>
     ensures { OnOk result (text.new.items ≡ text.old.items ++ syntax_text line.now) }
 {
     if line.len() > LONGEST_LINE {
         return push_too_long(text, line.len() as u64);
     }
     push_stop(text, line, &stop_of(line))
+}
+
+/// Writes which word may have been meant where a line stops to be one of an edit script.
+#[tactic(auto, unfolding(crate::specs::Stops::syntax_hint))]
+pub(crate) fn push_syntax_hint(text: &mut Vec<u8>, line: &[u8]) -> Result<(), AllocError>
+    ensures { OnOk result (text.new.items ≡ text.old.items ++ syntax_hint line.now) }
+{
+    if line.len() > LONGEST_LINE {
+        return Ok(());
+    }
+    push_stop_hint(text, &stop_of(line))
 }

@@ -1,3 +1,2 @@
-mod ObjectLines
 mod ScriptLines
 mod Written

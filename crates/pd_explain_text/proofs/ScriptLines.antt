@@ -7,48 +7,46 @@ use Rattle.pd_edit_lines.specs.Words.{next}
 use Rattle.pd_scene.specs.Script.{after_line, at_line, followed, line_text}
 use Rattle.pd_scene.specs.Made.{line_made, made}
 use Rattle.pd_scene.specs.declared.made.MadeEdit.{MadeEdit}
-use Rattle.pd_explain_text.specs.Told.{TellsEnd, line_told, named, script_told, told_in}
-use Rattle.pd_text.specs.declared.piece.Form.{Form}
-use Rattle.pd_explain_text.proofs.ObjectLines.{next_some, next_none}
+use Rattle.pd_text.specs.Fronts.{FrontData}
+use Rattle.pd_explain_text.specs.Told.{TellsEnd, script_told}
+
+next_some : (ls : List (List ℕ)) (line : List ℕ) (more : List (List ℕ)) → Some (line, more) ≡ next ls → ls ≡ line ∷ more
+next_some [] line more e = absurd (cc)
+next_some (w ∷ ws) line more e =
+    let pair : (line, more) ≡ (w, ws) = cc in sym (ap (λ (p : List ℕ × List (List ℕ)). p.0 ∷ p.1) pair)
+
+next_none : (ls : List (List ℕ)) → None ≡ next ls → ls ≡ []
+next_none [] e = refl
+next_none (w ∷ ws) e = absurd (cc)
 
 -- ---- what is told
 
-first_told : (form : Form) (file edits : List ℕ) (n : ℕ) (c : ScenarioData) (number : ℕ) (line : List ℕ) (more : List (List ℕ))
-    → script_told form file edits n c number (line ∷ more)
-    ≡ line_told form file edits n c number line ++ script_told form file edits n (after_line n c line) (number + 1) more
+first_told : (edits : FrontData) (n : ℕ) (c : ScenarioData) (number : ℕ) (line : List ℕ) (more : List (List ℕ))
+    → script_told edits n c number (line ∷ more)
+    ≡ line_text (at_line edits number) n c line ++ script_told edits n (after_line n c line) (number + 1) more
 unfolding script_told
-first_told form file edits n c number line more = refl
+first_told edits n c number line more = refl
 
-none_told : (form : Form) (file edits : List ℕ) (n : ℕ) (c : ScenarioData) (number : ℕ) → script_told form file edits n c number [] ≡ []
+none_told : (edits : FrontData) (n : ℕ) (c : ScenarioData) (number : ℕ) → script_told edits n c number [] ≡ []
 unfolding script_told
-none_told form file edits n c number = refl
-
--- of a line, as the words for it are put together
-pub put_together : (form : Form) (file edits : List ℕ) (n : ℕ) (c : ScenarioData) (number : ℕ) (line name at bytes start text said : List ℕ)
-    → name ≡ named form edits → at ≡ at_line name number → bytes ≡ at → start ≡ [] → text ≡ start ++ line_text bytes n c line
-    → said ≡ told_in form file edits text → said ≡ line_told form file edits n c number line
-unfolding line_told
-put_together form file edits n c number line name at bytes start text said name_is at_is bytes_are start_is text_is told =
-    told
-    ∙ ap (told_in form file edits) (text_is ∙ ap (λ t. t ++ line_text bytes n c line) start_is
-    ∙ ap (λ a. line_text a n c line) (bytes_are ∙ at_is ∙ ap (λ v. at_line v number) name_is))
+none_told edits n c number = refl
 
 -- of one more line, and of those behind it
-pub more_told : (form : Form) (file edits : List ℕ) (n : ℕ) (c c' : ScenarioData) (number : ℕ) (line rest said : List ℕ)
-    (more : List (List ℕ)) → Some (line, more) ≡ next (lines rest) → said ≡ line_told form file edits n c number line
+pub more_told : (edits : FrontData) (n : ℕ) (c c' : ScenarioData) (number : ℕ) (line rest said : List ℕ)
+    (more : List (List ℕ)) → Some (line, more) ≡ next (lines rest) → said ≡ line_text (at_line edits number) n c line
     → c' ≡ after_line n c line
-    → script_told form file edits n c number (lines rest) ≡ said ++ script_told form file edits n c' (number + 1) more
-more_told form file edits n c c' number line rest said more is told after =
-    ap (script_told form file edits n c number) (next_some (lines rest) line more is)
-    ∙ first_told form file edits n c number line more
-    ∙ ap (λ t. t ++ script_told form file edits n (after_line n c line) (number + 1) more) (sym told)
-    ∙ ap (λ d. said ++ script_told form file edits n d (number + 1) more) (sym after)
+    → script_told edits n c number (lines rest) ≡ said ++ script_told edits n c' (number + 1) more
+more_told edits n c c' number line rest said more is told after =
+    ap (script_told edits n c number) (next_some (lines rest) line more is)
+    ∙ first_told edits n c number line more
+    ∙ ap (λ t. t ++ script_told edits n (after_line n c line) (number + 1) more) (sym told)
+    ∙ ap (λ d. said ++ script_told edits n d (number + 1) more) (sym after)
 
 -- no line any more
-pub all_told : (form : Form) (file edits : List ℕ) (n : ℕ) (c : ScenarioData) (number : ℕ) (rest : List ℕ) → None ≡ next (lines rest)
-    → script_told form file edits n c number (lines rest) ≡ []
-all_told form file edits n c number rest is =
-    ap (script_told form file edits n c number) (next_none (lines rest) is) ∙ none_told form file edits n c number
+pub all_told : (edits : FrontData) (n : ℕ) (c : ScenarioData) (number : ℕ) (rest : List ℕ) → None ≡ next (lines rest)
+    → script_told edits n c number (lines rest) ≡ []
+all_told edits n c number rest is =
+    ap (script_told edits n c number) (next_none (lines rest) is) ∙ none_told edits n c number
 
 -- ---- the scenario that they lead to
 
@@ -105,8 +103,8 @@ all_made whole ms n c number rest so_far is =
 -- ---- what is told at the end
 
 -- of the scenario that the lines lead to, with the edits that they make
-pub ends_as : (warns : Bool) (form : Form) (file edits : List ℕ) (n : ℕ) (c c' : ScenarioData) (ms ms' : List MadeEdit) (end : List ℕ)
-    → c ≡ c' → ms ≡ ms' → TellsEnd warns form file edits n c ms end → TellsEnd warns form file edits n c' ms' end
-ends_as warns form file edits n c c' ms ms' end scenario_is made_is tells =
-    subst (λ d. TellsEnd warns form file edits n d ms' end) scenario_is
-    (subst (λ m. TellsEnd warns form file edits n c m end) made_is tells)
+pub ends_as : (warns : Bool) (file edits : FrontData) (n : ℕ) (c c' : ScenarioData) (ms ms' : List MadeEdit) (end : List ℕ)
+    → c ≡ c' → ms ≡ ms' → TellsEnd warns file edits n c ms end → TellsEnd warns file edits n c' ms' end
+ends_as warns file edits n c c' ms ms' end scenario_is made_is tells =
+    subst (λ d. TellsEnd warns file edits n d ms' end) scenario_is
+    (subst (λ m. TellsEnd warns file edits n c m end) made_is tells)

@@ -1,5 +1,4 @@
 pub mod LastLine
-pub mod Objects
 pub mod Sentences
 pub mod Texts
 pub mod Told

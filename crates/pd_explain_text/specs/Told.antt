@@ -1,6 +1,5 @@
 -- What is told of an edit script: why lines of it are refused, and what the scenario as it leaves that is warned of.
 use Rattle.std.specs.Prelude.{◌≡◌, ◌⊎◌, ℕ, ◌+◌, nat_lt, Bool, true, false, List, [], ◌∷◌, ◌++◌, length, Option, Result, Ok, Err}
-use Rattle.std.specs.Str.Lines.{lines}
 use Rattle.std.specs.Io.KnownBytes.{Appends}
 use Rattle.pd_device.specs.Device.{WrotePart, one_more}
 use Rattle.pd_device.specs.declared.fault.BenchFault.{BenchFault}
@@ -11,76 +10,51 @@ use Rattle.pd_scene.specs.Made.{made}
 use Rattle.pd_scene.specs.declared.made.MadeEdit.{MadeEdit}
 use Rattle.pd_warn.specs.declared.warning.Warning.{Warning}
 use Rattle.pd_warn.specs.Warnings.{AreWarnings}
-use Rattle.pd_text.specs.Fronts.{front_of_file}
+use Rattle.pd_text.specs.Fronts.{FrontData}
 use Rattle.pd_explain_text.specs.Warnings.{warnings_text}
-use Rattle.pd_explain_text.specs.Objects.{objects_text}
-use Rattle.pd_text.specs.declared.piece.Form.{Form}
-use Rattle.pd_text.specs.declared.piece.Form.TheVariants.{Words, Json}
-
--- ---- forms
-
--- what stands before the first colon of a line: objects have the names of files as members
-abbrev pub named : Form → List ℕ → List ℕ
-named Words name = name
-named Json name = []
-
--- lines, which are of a scenario's file and of a script by these names, in a form
-abbrev pub told_in : Form → List ℕ → List ℕ → List ℕ → List ℕ
-told_in Words file edits text = text
-told_in Json file edits text = objects_text file edits (lines text)
 
 -- ---- lines of a script
 
--- why the line of this number is refused
-unfoldable pub line_told : Form → List ℕ → List ℕ → ℕ → ScenarioData → ℕ → List ℕ → List ℕ
-line_told form file edits n c number line = told_in form file edits (line_text (at_line (named form edits) number) n c line)
-
--- why lines are refused, each against the scenario as edited by then; the first has this number
-unfoldable pub script_told : Form → List ℕ → List ℕ → ℕ → ScenarioData → ℕ → List (List ℕ) → List ℕ
-script_told form file edits n c number [] = []
-script_told form file edits n c number (line ∷ lines) =
-    line_told form file edits n c number line ++ script_told form file edits n (after_line n c line) (number + 1) lines
+-- why lines of a script are refused, each against the scenario as edited by then; the first has this number
+unfoldable pub script_told : FrontData → ℕ → ScenarioData → ℕ → List (List ℕ) → List ℕ
+script_told edits n c number [] = []
+script_told edits n c number (line ∷ lines) =
+    line_text (at_line edits number) n c line ++ script_told edits n (after_line n c line) (number + 1) lines
 
 -- all of that was written, and whether it is any; or some first bytes of it
-abbrev pub TellsLines : Form → List ℕ → List ℕ → ℕ → ScenarioData → List (List ℕ) → Result Bool BenchFault
-    → Option (List ℕ) → Option (List ℕ) → Type 0
-TellsLines form file edits n s script (Ok any) old new =
-    Appends old new (script_told form file edits n s 1 script) × (any ≡ nat_lt 0 (length (script_told form file edits n s 1 script)))
-TellsLines form file edits n s script (Err fault) old new = WrotePart old new (script_told form file edits n s 1 script)
+abbrev pub TellsLines : FrontData → ℕ → ScenarioData → List (List ℕ) → Result Bool BenchFault → Option (List ℕ) → Option (List ℕ) → Type 0
+TellsLines edits n s script (Ok any) old new =
+    Appends old new (script_told edits n s 1 script) × (any ≡ nat_lt 0 (length (script_told edits n s 1 script)))
+TellsLines edits n s script (Err fault) old new = WrotePart old new (script_told edits n s 1 script)
 
 -- ---- warnings
 
--- warnings of a scenario to which these edits led
-abbrev pub warnings_told : Form → List ℕ → List ℕ → List MadeEdit → List Warning → List ℕ
-warnings_told form file edits made ws = warnings_text (front_of_file form file) (front_of_file form edits) made ws
-
 -- what stands at the end: where it is wanted, what a scenario is warned of to which these edits led
-abbrev pub TellsEnd : Bool → Form → List ℕ → List ℕ → ℕ → ScenarioData → List MadeEdit → List ℕ → Type 0
-TellsEnd false form file edits n c made end = end ≡ []
-TellsEnd true form file edits n c made end =
-    (ws : List Warning) × AreWarnings n c ws × (end ≡ warnings_told form file edits made ws)
+abbrev pub TellsEnd : Bool → FrontData → FrontData → ℕ → ScenarioData → List MadeEdit → List ℕ → Type 0
+TellsEnd false file edits n c made end = end ≡ []
+TellsEnd true file edits n c made end = (ws : List Warning) × AreWarnings n c ws × (end ≡ warnings_text file edits made ws)
 
 -- ---- all
 
--- all of it was written; and whether a line is refused
-pub record Told (warns : Bool) (form : Form) (file edits : List ℕ) (n : ℕ) (s : ScenarioData) (script : List (List ℕ)) (any : Bool)
+-- all of it was written, of a scenario's file and a script; and whether a line is refused
+pub record Told (warns : Bool) (file edits : FrontData) (n : ℕ) (s : ScenarioData) (script : List (List ℕ)) (any : Bool)
     (old new : Option (List ℕ)) : Type 0 where
   pub end : List ℕ
-  pub tells_end : TellsEnd warns form file edits n (followed n s script) (made n s 1 script) end
-  pub appends : Appends old new (script_told form file edits n s 1 script ++ end)
-  pub any_is : any ≡ nat_lt 0 (length (script_told form file edits n s 1 script))
+  pub tells_end : TellsEnd warns file edits n (followed n s script) (made n s 1 script) end
+  pub appends : Appends old new (script_told edits n s 1 script ++ end)
+  pub any_is : any ≡ nat_lt 0 (length (script_told edits n s 1 script))
 
 -- some first bytes of it were written
-abbrev pub Began : Bool → Form → List ℕ → List ℕ → ℕ → ScenarioData → List (List ℕ) → Option (List ℕ) → Option (List ℕ) → Type 0
-Began warns form file edits n s script old new =
-    WrotePart old new (script_told form file edits n s 1 script)
-    ⊎ ((end : List ℕ) × TellsEnd warns form file edits n (followed n s script) (made n s 1 script) end
-    × WrotePart old new (script_told form file edits n s 1 script ++ end))
+abbrev pub Began : Bool → FrontData → FrontData → ℕ → ScenarioData → List (List ℕ) → Option (List ℕ) → Option (List ℕ) → Type 0
+Began warns file edits n s script old new =
+    WrotePart old new (script_told edits n s 1 script)
+    ⊎ ((end : List ℕ) × TellsEnd warns file edits n (followed n s script) (made n s 1 script) end
+    × WrotePart old new (script_told edits n s 1 script ++ end))
 
-abbrev pub Tells : Bool → Form → List ℕ → List ℕ → ℕ → ScenarioData → List (List ℕ) → Result Bool BenchFault
+abbrev pub Tells : Bool → FrontData → FrontData → ℕ → ScenarioData → List (List ℕ) → Result Bool BenchFault
     → Option (List ℕ) → Option (List ℕ) → Type 0
-Tells warns form file edits n s script (Ok any) old new = Told warns form file edits n s script any old new
-Tells warns form file edits n s script (Err fault) old new = Began warns form file edits n s script old new
+Tells warns file edits n s script (Ok any) old new = Told warns file edits n s script any old new
+Tells warns file edits n s script (Err fault) old new = Began warns file edits n s script old new
 
 -- whether a write failed, by the count of failed calls; no read does
 abbrev pub CountsTold : {X : Type 0} → Result X BenchFault → ℕ → ℕ → Type 0

@@ -1,10 +1,10 @@
 -- What a scenario is warned of, as the edits of a script leave it: docs/FORMATS.md, "Warnings".
 use Rattle.std.specs.Prelude.{◌≡◌, ℕ, true, List, [], ◌∷◌, ◌++◌, codes, Option, None, Some}
 use Rattle.std.specs.List.{flat_map}
-use Rattle.pd_text.specs.declared.piece.Unit.TheVariants.{Plain}
-use Rattle.pd_text.specs.Pieces.{flag, number, string}
+use Rattle.pd_text.specs.Pieces.{flag, string}
 use Rattle.pd_text.specs.Fronts.{FrontData, front_with, line_with}
 use Rattle.pd_scenario.specs.Scenarios.{ScenarioData}
+use Rattle.pd_scene.specs.Script.{at_line}
 use Rattle.pd_scene.specs.declared.made.MadeEdit.{MadeEdit}
 use Rattle.pd_warn.specs.declared.warning.Warning.{Warning}
 use Rattle.pd_warn.specs.Warnings.{AreWarnings}
@@ -14,7 +14,7 @@ use Rattle.pd_explain_text.specs.Sentences.{sentence}
 -- where what is warned of was made: a line of the edit script, else the scenario's file
 abbrev pub place_front : FrontData → FrontData → Option ℕ → FrontData
 place_front file edits None = front_with file []
-place_front file edits (Some line) = front_with edits (number (codes ":") (codes "line") Plain line ∷ [])
+place_front file edits (Some line) = at_line edits line
 
 -- a line that warns of something, in these words
 unfoldable pub warning_told : FrontData → List ℕ → List ℕ

@@ -3,14 +3,12 @@
 
 mod form;
 mod last_line;
-mod objects;
 mod script;
 mod sentences;
 mod texts;
 mod warnings;
 
 pub use form::Telling;
-pub use objects::push_objects;
 pub use pd_scene::SceneFault;
 pub use pd_text::Form;
 pub use texts::explain_text;

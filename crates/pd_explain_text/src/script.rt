@@ -3,10 +3,11 @@
 ghost use Rattle.std.specs.Prelude.{◌≡◌, ◌++◌, ◌||◌, nat_lt, length, IfOk, OnOk};
 ghost use Rattle.std.specs.Str.Lines.{lines};
 ghost use Rattle.pd_scene.specs.Made.{line_made, made};
-ghost use Rattle.pd_scene.specs.Script.{after_line, followed};
-ghost use Rattle.pd_explain_text.specs.Told.{CountsTold, Tells, TellsEnd, TellsLines, line_told};
+ghost use Rattle.pd_scene.specs.Script.{after_line, at_line, followed, line_text};
+ghost use Rattle.pd_text.specs.Fronts.{front_of_file};
+ghost use Rattle.pd_explain_text.specs.Told.{CountsTold, Tells, TellsEnd, TellsLines};
 
-use crate::form::{Telling, named, told_in};
+use crate::form::Telling;
 use crate::warnings::push_warnings;
 use pd_device::{BenchFault, TextOut, write_all};
 use pd_port::Meter;
@@ -15,32 +16,23 @@ use pd_scene::{MadeEdit, at_line, first_line, note_line};
 use pd_text::Front;
 use std::alloc::{AllocError, Global};
 
-/// Takes in a line: tells why it is refused, where it is, or makes its edit and notes that.
+/// Takes in a line of a script: tells why it is refused, where it is, or makes its edit and notes that.
 fn take_line<const N: usize>(
     alloc: Global,
-    telling: &Telling<'_>,
+    edits: &Front,
     scenario: &mut Scenario<N>,
     made: &mut Vec<MadeEdit>,
     number: u64,
     line: &[u8],
 ) -> Result<Vec<u8>, AllocError>
-    ensures told { IfOk result (λ v. v.items
-        ≡ line_told telling.now.form telling.now.file.now telling.now.edits.now N scenario.old number line.now) }
+    ensures told { IfOk result (λ v. v.items ≡ line_text (at_line edits.now number) N scenario.old line.now) }
     ensures after { OnOk result (scenario.new ≡ after_line N scenario.old line.now) }
     ensures made { OnOk result (made.new.items ≡ made.old.items ++ line_made number N scenario.old line.now) }
 {
-    let at = at_line(alloc, named(telling.form, telling.edits), number)?;
+    let at = at_line(alloc, edits, number)?;
     let mut text = Vec::new(alloc);
-    note_line(
-        alloc,
-        &mut text,
-        made,
-        at.as_slice(),
-        number,
-        scenario,
-        line,
-    )?;
-    told_in(alloc, telling, text)
+    note_line(alloc, &mut text, made, &at, number, scenario, line)?;
+    Ok(text)
 }
 
 /// Whether anything is told: before, or here.
@@ -53,23 +45,22 @@ fn is_any(before: bool, told: &[u8]) -> bool
 /// Takes in the lines of a script, and writes why they are refused, each before it takes in the next; says whether one is.
 pub(crate) fn write_lines<const N: usize, W: TextOut>(
     alloc: Global,
-    telling: &Telling<'_>,
+    edits: &Front,
     scenario: &mut Scenario<N>,
-    edits: &mut Vec<MadeEdit>,
+    noted: &mut Vec<MadeEdit>,
     script: &[u8],
     writer: &mut W,
 ) -> Result<bool, BenchFault>
-    ensures text { TellsLines telling.now.form telling.now.file.now telling.now.edits.now N scenario.old (lines script.now) result
-        (W.taken writer.old) (W.taken writer.new) }
+    ensures text { TellsLines edits.now N scenario.old (lines script.now) result (W.taken writer.old) (W.taken writer.new) }
     ensures after { OnOk result (scenario.new ≡ followed N scenario.old (lines script.now)) }
-    ensures made { OnOk result (edits.new.items ≡ edits.old.items ++ made N scenario.old 1 (lines script.now)) }
+    ensures made { OnOk result (noted.new.items ≡ noted.old.items ++ made N scenario.old 1 (lines script.now)) }
     ensures counts { CountsTold result (W.failures writer.old) (W.failures writer.new) }
 {
     let mut any = false;
     let mut rest = script;
     let mut number = 1;
     while let Some((line, others)) = first_line(rest) {
-        let Ok(told) = take_line(alloc, telling, scenario, edits, number, line) else {
+        let Ok(told) = take_line(alloc, edits, scenario, noted, number, line) else {
             return Err(BenchFault::Memory);
         };
         let told = told.as_slice();
@@ -85,11 +76,12 @@ pub(crate) fn write_lines<const N: usize, W: TextOut>(
 fn end_told<const N: usize>(
     alloc: Global,
     telling: &Telling<'_>,
+    edits: &Front,
     scenario: &Scenario<N>,
     made: &[MadeEdit],
     meter: &mut Meter,
 ) -> Result<Vec<u8>, AllocError>
-    ensures { IfOk result (λ v. TellsEnd telling.now.warns telling.now.form telling.now.file.now telling.now.edits.now
+    ensures { IfOk result (λ v. TellsEnd telling.now.warns (front_of_file telling.now.form telling.now.file.now) edits.now
         N scenario.now made.now v.items) }
 {
     let mut text = Vec::new(alloc);
@@ -97,9 +89,33 @@ fn end_told<const N: usize>(
         return Ok(text);
     }
     let file = Front::of_file(alloc, telling.form, telling.file)?;
-    let edits = Front::of_file(alloc, telling.form, telling.edits)?;
-    push_warnings(alloc, &mut text, &file, &edits, made, scenario, meter)?;
+    push_warnings(alloc, &mut text, &file, edits, made, scenario, meter)?;
     Ok(text)
+}
+
+/// Writes why lines of a script are refused, behind what is told first of it, and where it is wanted what the scenario is warned of, as
+/// the script leaves it; says whether a line is refused.
+fn explain_behind<const N: usize, W: TextOut>(
+    alloc: Global,
+    telling: &Telling<'_>,
+    edits: &Front,
+    scenario: Scenario<N>,
+    script: &[u8],
+    meter: &mut Meter,
+    writer: &mut W,
+) -> Result<bool, BenchFault>
+    ensures text { Tells telling.now.warns (front_of_file telling.now.form telling.now.file.now) edits.now
+        N scenario.entry (lines script.now) result (W.taken writer.old) (W.taken writer.new) }
+    ensures counts { CountsTold result (W.failures writer.old) (W.failures writer.new) }
+{
+    let mut scenario = scenario;
+    let mut made = Vec::new(alloc);
+    let any = write_lines(alloc, edits, &mut scenario, &mut made, script, writer)?;
+    let Ok(end) = end_told(alloc, telling, edits, &scenario, made.as_slice(), meter) else {
+        return Err(BenchFault::Memory);
+    };
+    write_all(writer, end.as_slice())?;
+    Ok(any)
 }
 
 /// Writes why lines of a script are refused, and where it is wanted what the scenario is warned of, as the script leaves it; says
@@ -112,16 +128,13 @@ pub(crate) fn explain<const N: usize, W: TextOut>(
     meter: &mut Meter,
     writer: &mut W,
 ) -> Result<bool, BenchFault>
-    ensures text { Tells telling.now.warns telling.now.form telling.now.file.now telling.now.edits.now
-        N scenario.entry (lines script.now) result (W.taken writer.old) (W.taken writer.new) }
+    ensures text { Tells telling.now.warns (front_of_file telling.now.form telling.now.file.now)
+        (front_of_file telling.now.form telling.now.edits.now) N scenario.entry (lines script.now) result
+        (W.taken writer.old) (W.taken writer.new) }
     ensures counts { CountsTold result (W.failures writer.old) (W.failures writer.new) }
 {
-    let mut scenario = scenario;
-    let mut made = Vec::new(alloc);
-    let any = write_lines(alloc, telling, &mut scenario, &mut made, script, writer)?;
-    let Ok(end) = end_told(alloc, telling, &scenario, made.as_slice(), meter) else {
+    let Ok(edits) = Front::of_file(alloc, telling.form, telling.edits) else {
         return Err(BenchFault::Memory);
     };
-    write_all(writer, end.as_slice())?;
-    Ok(any)
+    explain_behind(alloc, telling, &edits, scenario, script, meter, writer)
 }

@@ -8,9 +8,9 @@ use crate::last_line::last_line;
 use crate::sentences::push_sentence;
 use pd_port::Meter;
 use pd_scenario::Scenario;
-use pd_scene::MadeEdit;
-use pd_text::Piece::{Flag, Number, Text};
-use pd_text::{Front, Unit};
+use pd_scene::{MadeEdit, at_line};
+use pd_text::Front;
+use pd_text::Piece::{Flag, Text};
 use pd_warn::{Warning, warnings};
 use std::alloc::{AllocError, Global};
 
@@ -25,7 +25,7 @@ fn place_front(
 {
     match line {
         None => file.with(alloc, &[]),
-        Some(line) => edits.with(alloc, &[Number(b":", b"line", Unit::Plain, line)]),
+        Some(line) => at_line(alloc, edits, line),
     }
 }
 

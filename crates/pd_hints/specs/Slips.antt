@@ -42,7 +42,7 @@ abbrev pub shown : ℕ → ℕ
 shown byte = if nat_le 32 byte && nat_le byte 126 then byte else 63
 
 unfoldable pub meant_words : List ℕ → List ℕ
-meant_words other = codes "; hint: did you mean `" ++ (map shown other ++ codes "`?")
+meant_words other = codes "did you mean `" ++ (map shown other ++ codes "`?")
 
 unfoldable pub meant_text : Option (List ℕ) → List ℕ
 meant_text None = []

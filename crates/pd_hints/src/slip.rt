@@ -91,9 +91,10 @@ fn push_shown(text: &mut Vec<u8>, word: &[u8]) -> Result<(), AllocError>
 fn push_meant_words(text: &mut Vec<u8>, other: &[u8]) -> Result<(), AllocError>
     ensures { OnOk result (text.new.items ≡ text.old.items ++ meant_words other.now) }
 {
-    text.extend_from_slice(b"; hint: did you mean `")?;
+    text.extend_from_slice(b"did you mean `")?;
     push_shown(text, other)?;
-    text.extend_from_slice(b"`?")
+    text.extend_from_slice(b"`?")?;
+    Ok(())
 }
 
 /// Writes which word may have been meant, where there is one; what is no printable ASCII character is a question mark.

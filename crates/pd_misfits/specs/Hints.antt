@@ -2,7 +2,7 @@
 use Rattle.std.specs.Prelude.{ℕ, Bool, ◌||◌, List, [], ◌∷◌, ◌++◌, take, find, codes, bytes_eq, Option, Some, None, option_map}
 use Rattle.std.specs.Prelude.{if◌then◌else◌}
 use Rattle.toml.specs.Data.{Data, string, table}
-use Rattle.pd_hints.specs.Slips.{is_slip, nearest}
+use Rattle.pd_hints.specs.Slips.{is_slip, meant_text, nearest}
 use Rattle.pd_scenario_tables.specs.declared.schema.Version.{Version}
 use Rattle.pd_scenario_tables.specs.declared.schema.Version.TheVariants.{One, Two}
 use Rattle.pd_scenario_tables.specs.declared.schema.EventName.TheVariants.{Unknown}
@@ -16,18 +16,6 @@ use Rattle.pd_scenario_tables.specs.declared.fault.ScenarioFault.{ScenarioFault}
 use Rattle.pd_scenario_tables.specs.declared.fault.ScenarioFault.TheVariants as fault
 use Rattle.pd_scenario_tables.specs.Schema.{text_of, rules_of}
 use Rattle.pd_scenario_tables.specs.Tables.{has_key}
-use Rattle.pd_misfits.specs.Values.{quoted}
-
--- the word that is likelier meant, where there is one
-abbrev pub asked : List ℕ → List ℕ
-asked word = quoted word ++ codes "?"
-
-unfoldable pub meant_words : List ℕ → List ℕ
-meant_words other = codes "did you mean " ++ asked other
-
-abbrev pub meant_hint : Option (List ℕ) → List ℕ
-meant_hint None = []
-meant_hint (Some other) = meant_words other
 
 -- ---- a value
 
@@ -51,7 +39,7 @@ words_of version form = []
 
 -- the word is a slip of one of its form
 abbrev pub slip_hint : Version → Form → List ℕ → List ℕ
-slip_hint version form word = meant_hint (nearest word (words_of version form))
+slip_hint version form word = meant_text (nearest word (words_of version form))
 
 -- the word is `budget`, and the file of version 1
 abbrev pub word_hint : Version → Form → List ℕ → List ℕ
@@ -113,7 +101,7 @@ home_hint version k = if has_home version k then home_words version k else []
 -- the key is a slip of one of its table, or stands in the wrong table
 abbrev pub other_hint : Version → Option (List ℕ) → List ℕ → List ℕ
 other_hint version None k = home_hint version k
-other_hint version (Some near) k = meant_hint (Some near)
+other_hint version (Some near) k = meant_text (Some near)
 
 -- or its table has it in a file of version 2
 unfoldable pub key_hint : Version → TableKind → List ℕ → List ℕ

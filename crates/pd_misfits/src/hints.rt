@@ -2,13 +2,12 @@
 
 ghost use Rattle.std.specs.Prelude.{◌≡◌, ◌++◌, OnOk, map, option_map};
 ghost use Rattle.toml.specs.View.{view};
-ghost use Rattle.pd_misfits.specs.Hints.{asked, bracket_hint, has_home, home_hint, home_part, home_words, homes, key_hint, knows};
-ghost use Rattle.pd_misfits.specs.Hints.{later_homes, meant_hint, meant_words, near_key, near_rule, other_hint, own_rules, slip_hint};
+ghost use Rattle.pd_misfits.specs.Hints.{bracket_hint, has_home, home_hint, home_part, home_words, homes, key_hint, knows};
+ghost use Rattle.pd_misfits.specs.Hints.{later_homes, near_key, near_rule, other_hint, own_rules, slip_hint};
 ghost use Rattle.pd_misfits.specs.Hints.{value_hint, word_hint};
 ghost use Rattle.pd_misfits.specs.Hints.{words_of};
 
-use crate::values::push_quoted;
-use pd_hints::{is_slip, nearest};
+use pd_hints::{is_slip, nearest, push_meant};
 use pd_scenario_tables::{
     EventName, Form, Key, Rule, ScenarioFault, TableKind, Version, has_key, rules_of,
 };
@@ -39,36 +38,6 @@ const KINDS_OF_TWO: [&str; 8] = [
     "get_source",
     "get_sink",
 ];
-
-/// Writes a word in quotes and a question mark.
-fn push_asked(text: &mut Vec<u8>, word: &[u8]) -> Result<(), AllocError>
-    ensures { OnOk result (text.new.items ≡ text.old.items ++ asked word.now) }
-{
-    push_quoted(text, word)?;
-    text.extend_from_slice(b"?")
-}
-
-/// Writes which word may have been meant.
-#[tactic(auto, unfolding(crate::specs::Hints::meant_words))]
-fn push_meant_words(text: &mut Vec<u8>, other: &[u8]) -> Result<(), AllocError>
-    ensures { OnOk result (text.new.items ≡ text.old.items ++ meant_words other.now) }
-{
-    text.extend_from_slice(b"did you mean ")?;
-    push_asked(text, other)
-}
-
-/// Writes which word may have been meant, where there is one.
-///
-/// # Errors
-/// There is no memory; some of it may stand in the text.
-pub fn push_meant(text: &mut Vec<u8>, other: Option<&str>) -> Result<(), AllocError>
-    ensures { OnOk result (text.new.items ≡ text.old.items ++ meant_hint (option_map (λ x. x.now) other.entry)) }
-{
-    match other {
-        Some(other) => push_meant_words(text, other.as_bytes()),
-        None => Ok(()),
-    }
-}
 
 /// The words of a form; a change of the budget is none under version 1.
 fn words_of(version: Version, form: Form) -> &'static [&'static str]

@@ -13,6 +13,5 @@ mod wanted;
 
 pub use event::event_front;
 pub use file::{explain_tables, explain_top, file_front, table_front};
-pub use hints::push_meant;
 pub use text::{explain_error, push_line};
 pub use values::{push_number, push_quoted};

@@ -13,7 +13,8 @@ use Rattle.pd_show.specs.Show.{WroteRun}
 use Rattle.pd_show.specs.declared.choice.Choice.{Choice}
 use Rattle.pd_chart.specs.declared.look.Look.{Look}
 use Rattle.pd_draw.specs.Picture.{DrewRun}
-use Rattle.pd_text.specs.declared.piece.Form.TheVariants as why_form
+use Rattle.pd_text.specs.Fronts.{front_of_file}
+use Rattle.pd_text.specs.declared.piece.Form.TheVariants as form
 use Rattle.pd_why.specs.Answers.{TellsWhy}
 use Rattle.pd_why.specs.declared.question.Question.{Question}
 use Rattle.pd_sweep.specs.Counts.{HasPackets}
@@ -24,7 +25,6 @@ use Rattle.pd_sweep.specs.declared.form.Form.TheVariants as sweep_form
 use Rattle.pd_sweep.specs.declared.part.Part.{Part}
 use Rattle.pd_sweep.specs.declared.tally.Tally.{Tally}
 use Rattle.pd_save.specs.EditLines.{Lists}
-use Rattle.pd_explain_text.specs.Objects.{objects_text}
 use Rattle.pd_expect.specs.Named.{script_lines}
 use Rattle.pd_expect.specs.Tests.{Tests, no_test}
 use Rattle.pd_expect.specs.Words.{tally_object}
@@ -71,7 +71,7 @@ Shows choice script = Tells [] choice.port (λ n s out. WroteRun (plan_of (left_
 -- what bounds a port of it
 abbrev pub Asks : Question → List ℕ → List ℕ → Ending → List ℕ → Type 0
 Asks question script =
-    Tells [] (Some question.port) (λ n s out. TellsWhy why_form.Json (plan_of (left_by script n s)) question [] out)
+    Tells [] (Some question.port) (λ n s out. TellsWhy form.Json (plan_of (left_by script n s)) question [] out)
 
 -- a part of its sweep, and the summary of that part
 abbrev pub Sweeps : Campaign → Part → List ℕ → List ℕ → Ending → List ℕ → Type 0
@@ -91,8 +91,8 @@ ListsEdited script = Tells [] None (λ n s out. Lists (left_by script n s) out)
 pub record TellsTests (name script : List ℕ) (n : ℕ) (s : ScenarioData) (out : List ℕ) : Type 0 where
   pub said : List ℕ
   pub tally : TestTally
-  pub tests : Tests n s [] 1 no_test (script_lines script) said tally
-  pub out_is : out ≡ objects_text name name (lines said) ++ tally_object tally
+  pub tests : Tests n s (front_of_file form.Json name) 1 no_test (script_lines script) said tally
+  pub out_is : out ≡ said ++ tally_object tally
 
 abbrev pub TestsScript : List ℕ → List ℕ → List ℕ → Ending → List ℕ → Type 0
 TestsScript name script = Tells [] None (TellsTests name script)

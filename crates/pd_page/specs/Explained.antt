@@ -4,6 +4,7 @@ use Rattle.std.specs.Str.Lines.{lines}
 use Rattle.pd_explain_text.specs.Told.{Told}
 use Rattle.pd_places.specs.Places.{TellsPlaces, file_of}
 use Rattle.pd_scene.specs.Scene.{OfScene}
+use Rattle.pd_text.specs.Fronts.{front_of_file}
 use Rattle.pd_text.specs.declared.piece.Form.TheVariants.{Json}
 use Rattle.pd_page.specs.Calls.{IsNoScenario}
 use Rattle.pd_page.specs.declared.ending.Ending.{Ending}
@@ -18,7 +19,8 @@ pub record TellsFile (file text out : List ℕ) : Type 0 where
 -- the script leaves it
 abbrev pub TellsScript : List ℕ → List ℕ → List ℕ → List ℕ → List ℕ → Type 0
 TellsScript file edits script text out =
-    OfScene text (λ n s. (any : Bool) × Told true Json file edits n s (lines script) any (Some []) (Some out))
+    OfScene text
+    (λ n s. (any : Bool) × Told true (front_of_file Json file) (front_of_file Json edits) n s (lines script) any (Some []) (Some out))
 
 -- a file that is refused
 abbrev pub IsRefusedAt : List ℕ → List ℕ → Ending → List ℕ → Type 0

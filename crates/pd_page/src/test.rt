@@ -1,8 +1,6 @@
 //! Test scripts.
 
 ghost use Rattle.std.specs.Prelude.{◌≡◌, ◌++◌, IfOk};
-ghost use Rattle.std.specs.Str.Lines.{lines};
-ghost use Rattle.pd_explain_text.specs.Objects.{objects_text};
 ghost use Rattle.pd_expect.specs.Words.{tally_object};
 ghost use Rattle.pd_page.specs.Answers.{Answers};
 ghost use Rattle.pd_page.specs.Calls.{TestsScript};
@@ -10,18 +8,15 @@ ghost use Rattle.pd_page.specs.Calls.{TestsScript};
 use crate::Ending;
 use crate::answer::Answer;
 use crate::ending::scene_ending;
-use pd_expect::{TestReport, test_text};
-use pd_explain_text::push_objects;
+use pd_expect::{Form, TestReport, test_text};
 use pd_port::Meter;
 use std::alloc::{AllocError, Global};
 
-/// What is told of the lines of a test script of a name, and how many there are of each kind.
-fn report_text(alloc: Global, name: &[u8], report: &TestReport) -> Result<Vec<u8>, AllocError>
-    ensures { IfOk result (λ text. text.items
-        ≡ objects_text name.now name.now (lines report.now.text.items) ++ tally_object report.now.tally) }
+/// What is told of the lines of a test script, and how many there are of each kind.
+fn report_text(report: TestReport) -> Result<Vec<u8>, AllocError>
+    ensures { IfOk result (λ text. text.items ≡ report.text.items ++ tally_object report.tally) }
 {
-    let mut text = Vec::new(alloc);
-    push_objects(&mut text, name, name, report.text.as_slice())?;
+    let mut text = report.text;
     report.tally.push_object(&mut text)?;
     Ok(text)
 }
@@ -30,8 +25,8 @@ fn report_text(alloc: Global, name: &[u8], report: &TestReport) -> Result<Vec<u8
 fn tested(alloc: Global, name: &[u8], scenario: &[u8], script: &[u8], meter: &mut Meter) -> Answer
     ensures { TestsScript name.now script.now scenario.now result.ending result.text.items }
 {
-    match test_text(alloc, scenario, b"", script, meter) {
-        Ok(report) => match report_text(alloc, name, &report) {
+    match test_text(alloc, scenario, Form::Json, name, script, meter) {
+        Ok(report) => match report_text(report) {
             Ok(text) => Answer {
                 ending: Ending::Done,
                 text,

@@ -28,8 +28,7 @@ use Rattle.pd_scenario_text.proofs.Decided.{Clean}
 use Rattle.pd_scenario_text.proofs.Valid.{sound_events}
 use Rattle.pd_places.specs.Same.{names_of}
 use Rattle.pd_scenario_tables.specs.Schema.{text_of}
-use Rattle.pd_hints.specs.Slips.{nearest}
-use Rattle.pd_misfits.specs.Hints.{meant_hint}
+use Rattle.pd_hints.specs.Slips.{meant_text, nearest}
 use Rattle.pd_misfits.specs.Lines.{event_front}
 use Rattle.pd_places.specs.Known.{stranger_sentence, stranger_part, attach_part, kind_part, named_part, event_known_part, known_text}
 use Rattle.pd_places.proofs.Told.{Told, or_told, if_told, each_told}
@@ -50,7 +49,7 @@ stranger_told : (front : FrontData) (k : Key) (names : List (List ℕ)) (name : 
 stranger_told front k names name there =
     let strange = not (list_any (λ other. bytes_eq other name) names) in
     subst (λ b. Told front b (stranger_part front k names name)) (ap (λ b. b && strange) (name_there name there))
-    (if_told front (nat_lt 0 (length name) && strange) (text_of k) (stranger_sentence k names name) (meant_hint (nearest name names)))
+    (if_told front (nat_lt 0 (length name) && strange) (text_of k) (stranger_sentence k names name) (meant_text (nearest name names)))
 
 cable_there : (ts : List Members) (name : List ℕ) → is_some (cable_named (map cable_of ts) name)
     ≡ list_any (λ other. bytes_eq other name) (names_of ts)

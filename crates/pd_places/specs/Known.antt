@@ -3,7 +3,7 @@ use Rattle.std.specs.Prelude.{ℕ, ◌-◌, ◌&&◌, ◌==◌, not, nat_lt, Lis
 use Rattle.std.specs.List.{list_any, flat_map}
 use Rattle.pd_text.specs.Fronts.{FrontData}
 use Rattle.toml.specs.Data.{Members}
-use Rattle.pd_hints.specs.Slips.{nearest}
+use Rattle.pd_hints.specs.Slips.{meant_text, nearest}
 use Rattle.pd_setup.specs.Events.{KindWord}
 use Rattle.pd_setup.specs.declared.event.EventKind.TheVariants.{Attach}
 use Rattle.pd_scenario_tables.specs.declared.schema.Version.{Version}
@@ -15,7 +15,6 @@ use Rattle.pd_scenario_tables.specs.Schema.{text_of}
 use Rattle.pd_scenario_tables.specs.Tables.{word_at, event_at}
 use Rattle.pd_scenario_text.specs.FileTables.{Tables}
 use Rattle.pd_misfits.specs.Values.{quoted}
-use Rattle.pd_misfits.specs.Hints.{meant_hint}
 use Rattle.pd_misfits.specs.Lines.{line, event_front}
 use Rattle.pd_places.specs.Numbered.{numbered}
 use Rattle.pd_places.specs.Same.{names_of}
@@ -46,7 +45,7 @@ stranger_sentence k names name = quoted (text_of k) ++ (codes " is " ++ (quoted 
 abbrev pub stranger_part : FrontData → Key → List (List ℕ) → List ℕ → List ℕ
 stranger_part front k names name =
     if nat_lt 0 (length name) && not (list_any (λ other. bytes_eq other name) names)
-    then line front (text_of k) (stranger_sentence k names name) (meant_hint (nearest name names))
+    then line front (text_of k) (stranger_sentence k names name) (meant_text (nearest name names))
     else []
 
 unfoldable pub attach_part : FrontData → List (List ℕ) → List (List ℕ) → Members → List ℕ

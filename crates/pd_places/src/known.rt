@@ -13,8 +13,8 @@ ghost use Rattle.pd_places.specs.Known.{event_known_part, stranger_part, attach_
 
 use crate::collect::word_at;
 use crate::first_lines::FirstLines;
-use pd_hints::nearest;
-use pd_misfits::{event_front, push_line, push_meant, push_number, push_quoted};
+use pd_hints::{nearest, push_meant};
+use pd_misfits::{event_front, push_line, push_number, push_quoted};
 use pd_scenario_tables::{EventName, Key, Version, event_at};
 use pd_setup::EventKind;
 use pd_text::Front;

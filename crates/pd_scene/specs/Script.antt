@@ -1,7 +1,12 @@
 -- What is said of the refused lines of an edit script: this product's own form, docs/FORMATS.md, "Reasons". The answers to
 -- lines are those of Session.antt of pd_bench.
-use Rattle.std.specs.Prelude.{ℕ, ◌-◌, ◌==◌, List, [], ◌∷◌, ◌++◌, length, take, codes, decimal, Result, Ok, Err, if◌then◌else◌}
+use Rattle.std.specs.Prelude.{ℕ, ◌-◌, ◌==◌, List, [], ◌∷◌, ◌++◌, length, take, codes, Result, Ok, Err, if◌then◌else◌}
 use Rattle.std.specs.List.{flat_map}
+use Rattle.pd_text.specs.declared.piece.Form.TheVariants.{Words}
+use Rattle.pd_text.specs.declared.piece.Unit.TheVariants.{Plain}
+use Rattle.pd_text.specs.Pieces.{PieceData, line_number, line_words, number, string}
+use Rattle.pd_text.specs.Texts.{text_of_all}
+use Rattle.pd_text.specs.Fronts.{FrontData, front_with, line_with, refusal_pieces}
 use Rattle.pd_scenario.specs.Scenarios.{ScenarioData}
 use Rattle.pd_scenario.specs.Limits.{is_port}
 use Rattle.pd_edit_lines.specs.Grammar.{line_of}
@@ -17,27 +22,22 @@ use Rattle.pd_edit.specs.Refusals.{edited}
 use Rattle.pd_explain.specs.declared.place.Place.TheVariants as place
 use Rattle.pd_explain.specs.declared.place.Reason.{Reason}
 use Rattle.pd_explain.specs.Places.{reasons}
-use Rattle.pd_explain.specs.Sentences.{sentence}
-use Rattle.pd_explain.specs.Stops.{syntax_text}
+use Rattle.pd_explain.specs.Lines.{place_line, syntax_line}
 
--- where a line stands: the file's name and the line's number, from 1
-abbrev pub at_line : List ℕ → ℕ → List ℕ
-at_line name number = name ++ 58 ∷ (decimal number ++ codes ": ")
+-- where a line stands: the file, and the line's number, from 1
+unfoldable pub at_line : FrontData → ℕ → FrontData
+at_line file line = front_with file (number (codes ":") (codes "line") Plain line ∷ [])
 
--- that, and the number of the refusal
-abbrev pub front_text : List ℕ → ℕ → List ℕ
-front_text at refusal = at ++ (codes "refused " ++ (decimal refusal ++ codes ": "))
-
--- a sentence that says why the line is refused
-unfoldable pub reason_line : List ℕ → ℕ → List ℕ → List ℕ
-reason_line at refusal text = front_text at refusal ++ (text ++ 10 ∷ [])
+-- that, and the number of a refusal
+unfoldable pub refused_at : FrontData → EditFault → FrontData
+refused_at at fault = front_with at (refusal_pieces (number_of fault))
 
 -- a line for a refusal at a place
-abbrev pub reason_text : List ℕ → ℕ → ScenarioData → Reason → List ℕ
-reason_text at n c reason = reason_line at (number_of reason.fault) (sentence n c reason.place)
+abbrev pub reason_text : FrontData → ℕ → ScenarioData → Reason → List ℕ
+reason_text at n c reason = place_line (refused_at at reason.fault) n c reason.place
 
 -- a line for each of the reasons
-abbrev pub reasons_text : List ℕ → ℕ → ScenarioData → List Reason → List ℕ
+abbrev pub reasons_text : FrontData → ℕ → ScenarioData → List Reason → List ℕ
 reasons_text at n c reasons = flat_map (reason_text at n c) reasons
 
 -- ---- twenty of them
@@ -45,41 +45,44 @@ reasons_text at n c reasons = flat_map (reason_text at n c) reasons
 abbrev pub most_places : ℕ
 most_places = 20
 
-unfoldable pub more_words : ℕ → List ℕ
-more_words count = if count == 1 then codes " more place\n" else codes " more places\n"
+abbrev pub more_words : ℕ → List ℕ
+more_words count = if count == 1 then codes " more place" else codes " more places"
 
-unfoldable pub more_line : List ℕ → ℕ → List ℕ
-more_line at count = at ++ (decimal count ++ more_words count)
+abbrev pub more_pieces : ℕ → List PieceData
+more_pieces count = line_number [] Plain count ∷ line_words (more_words count) ∷ []
+
+unfoldable pub more_line : FrontData → ℕ → List ℕ
+more_line at count = line_with at (string (codes ": ") (codes "sentence") (text_of_all Words (more_pieces count)) ∷ [])
 
 -- how many more places there are, where there are any
-abbrev pub more_text : List ℕ → ℕ → List ℕ
+abbrev pub more_text : FrontData → ℕ → List ℕ
 more_text at count = if count == 0 then [] else more_line at count
 
-unfoldable pub first_reasons_text : List ℕ → ℕ → ScenarioData → List Reason → List ℕ
+unfoldable pub first_reasons_text : FrontData → ℕ → ScenarioData → List Reason → List ℕ
 first_reasons_text at n c reasons =
     reasons_text at n c (take most_places reasons) ++ more_text at (length reasons - most_places)
 
 -- ---- a line
 
 -- an edit that is made needs no words
-abbrev pub edit_text : List ℕ → ℕ → ScenarioData → Edit → Result ScenarioData EditFault → List ℕ
+abbrev pub edit_text : FrontData → ℕ → ScenarioData → Edit → Result ScenarioData EditFault → List ℕ
 edit_text at n c edit (Ok after) = []
 edit_text at n c edit (Err fault) = first_reasons_text at n c (reasons n c edit)
 
 -- a show is refused for its port alone
-abbrev pub show_text : List ℕ → ℕ → ScenarioData → Show → List ℕ
+abbrev pub show_text : FrontData → ℕ → ScenarioData → Show → List ℕ
 show_text at n c (Transcript port) =
-    if is_port n port then [] else reason_line at (number_of NoSuchPort) (sentence n c (place.Port port))
+    if is_port n port then [] else place_line (refused_at at NoSuchPort) n c (place.Port port)
 show_text at n c _ = []
 
-abbrev pub read_text : List ℕ → ℕ → ScenarioData → List ℕ → Result Line EditFault → List ℕ
+abbrev pub read_text : FrontData → ℕ → ScenarioData → List ℕ → Result Line EditFault → List ℕ
 read_text at n c line (Ok line_read.Skip) = []
 read_text at n c line (Ok (line_read.Edit edit)) = edit_text at n c edit (edited n c edit)
 read_text at n c line (Ok (line_read.Show show)) = show_text at n c show
-read_text at n c line (Err fault) = reason_line at (number_of fault) (syntax_text line)
+read_text at n c line (Err fault) = syntax_line (refused_at at fault) line
 
 -- why a line is refused
-unfoldable pub line_text : List ℕ → ℕ → ScenarioData → List ℕ → List ℕ
+unfoldable pub line_text : FrontData → ℕ → ScenarioData → List ℕ → List ℕ
 line_text at n c line = read_text at n c line (line_of line)
 
 -- the scenario after a line

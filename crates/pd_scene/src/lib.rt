@@ -19,4 +19,4 @@ pub use outlet::Outlet;
 pub use pd_device::BenchFault;
 pub use pd_scenario_text::ScenarioFault;
 pub use scene::{SceneFault, on_text};
-pub use script::{at_line, explain_line};
+pub use script::{at_line, explain_line, push_reason, refused_at};

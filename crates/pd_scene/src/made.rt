@@ -9,6 +9,7 @@ use crate::script::{push_no_line, push_refused, push_show};
 use pd_edit::apply;
 use pd_edit_lines::{Edit, EditFault, Line};
 use pd_scenario::Scenario;
+use pd_text::Front;
 use std::alloc::{AllocError, Global};
 
 /// An edit that was made, and the number of its line in the script, from 1.
@@ -23,7 +24,7 @@ fn note_edit<const N: usize>(
     alloc: Global,
     text: &mut Vec<u8>,
     made: &mut Vec<MadeEdit>,
-    at: &[u8],
+    at: &Front,
     number: u64,
     scenario: &mut Scenario<N>,
     edit: Edit,
@@ -53,7 +54,7 @@ pub fn note_line<const N: usize>(
     alloc: Global,
     text: &mut Vec<u8>,
     made: &mut Vec<MadeEdit>,
-    at: &[u8],
+    at: &Front,
     number: u64,
     scenario: &mut Scenario<N>,
     line: &[u8],
@@ -65,7 +66,7 @@ pub fn note_line<const N: usize>(
     match Line::read(line) {
         Ok(Line::Skip) => Ok(()),
         Ok(Line::Edit(edit)) => note_edit(alloc, text, made, at, number, scenario, edit),
-        Ok(Line::Show(show)) => push_show(text, at, scenario, show),
-        Err(fault) => push_no_line(text, at, fault, line),
+        Ok(Line::Show(show)) => push_show(alloc, text, at, scenario, show),
+        Err(fault) => push_no_line(alloc, text, at, fault, line),
     }
 }

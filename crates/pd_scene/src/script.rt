@@ -1,63 +1,66 @@
 //! Why lines of an edit script are refused.
 
 ghost use Rattle.std.specs.Prelude.{◌≡◌, ◌++◌, OnOk, IfOk, take};
-ghost use Rattle.pd_edit_lines.specs.Numbers.{number_of};
+ghost use Rattle.pd_text.specs.Texts.{text_of_all};
+ghost use Rattle.pd_text.specs.declared.piece.Form.TheVariants.{Words};
 ghost use Rattle.pd_edit.specs.Refusals.{edited};
+ghost use Rattle.pd_explain.specs.Lines.{place_line, syntax_line};
 ghost use Rattle.pd_explain.specs.Places.{reasons as reasons_of};
-ghost use Rattle.pd_explain.specs.Sentences.{sentence};
-ghost use Rattle.pd_explain.specs.Stops.{syntax_text};
-ghost use Rattle.pd_scene.specs.Script.{at_line, reason_line, reason_text, reasons_text, edit_text, show_text, kept_or, line_text};
-ghost use Rattle.pd_scene.specs.Script.{after_line, front_text, most_places, more_words, more_line, more_text};
+ghost use Rattle.pd_scene.specs.Script.{at_line, refused_at, reasons_text, edit_text, show_text, kept_or, line_text};
+ghost use Rattle.pd_scene.specs.Script.{after_line, most_places, more_words, more_pieces, more_line, more_text};
 ghost use Rattle.pd_scene.specs.Script.{first_reasons_text};
 
-use pd_content::push_number;
 use pd_edit::apply;
 use pd_edit_lines::{Edit, EditFault, Line, Show};
-use pd_explain::{Place, Reason, is_port, push_sentence, push_syntax, reasons};
+use pd_explain::{Place, Reason, is_port, push_place, push_syntax, reasons};
 use pd_scenario::Scenario;
+use pd_text::{Form, Front, Piece, Unit, push_pieces};
 use std::alloc::{AllocError, Global};
 
 /// So many places of a line are told at the most.
 const MOST_PLACES: usize = 20;
 
-/// Writes where a line stands and the number of its refusal.
-fn push_front(text: &mut Vec<u8>, at: &[u8], fault: EditFault) -> Result<(), AllocError>
-    ensures { OnOk result (text.new.items ≡ text.old.items ++ front_text at.now (number_of fault)) }
+/// What is told first of a refusal: where its line stands, and its number.
+///
+/// # Errors
+/// There is no memory.
+#[tactic(auto, unfolding(crate::specs::Script::refused_at))]
+pub fn refused_at(alloc: Global, at: &Front, fault: EditFault) -> Result<Front, AllocError>
+    ensures { IfOk result (λ front. front ≡ refused_at at.now fault) }
 {
-    text.extend_from_slice(at)?;
-    text.extend_from_slice(b"refused ")?;
-    push_number(text, u64::from(fault.number()))?;
-    text.extend_from_slice(b": ")
+    at.refused(alloc, fault.number() as u64)
 }
 
-/// Writes a line for a place.
-#[tactic(auto, unfolding(crate::specs::Script::reason_line))]
-fn push_place<const N: usize>(
+/// Writes a line for a refusal at a place.
+///
+/// # Errors
+/// There is no memory for it; some of it may stand in the text.
+pub fn push_reason<const N: usize>(
+    alloc: Global,
     text: &mut Vec<u8>,
-    at: &[u8],
+    at: &Front,
     fault: EditFault,
     scenario: &Scenario<N>,
     place: &Place,
 ) -> Result<(), AllocError>
-    ensures { OnOk result (text.new.items ≡ text.old.items ++ reason_line at.now (number_of fault) (sentence N scenario.now place.now)) }
+    ensures { OnOk result (text.new.items ≡ text.old.items ++ place_line (refused_at at.now fault) N scenario.now place.now) }
 {
-    push_front(text, at, fault)?;
-    push_sentence(text, scenario, place)?;
-    text.push(b'\n')?;
-    Ok(())
+    let front = refused_at(alloc, at, fault)?;
+    push_place(alloc, text, &front, scenario, place)
 }
 
 /// Writes a line for each reason.
 fn push_reasons<const N: usize>(
+    alloc: Global,
     text: &mut Vec<u8>,
-    at: &[u8],
+    at: &Front,
     scenario: &Scenario<N>,
     reasons: &[Reason],
 ) -> Result<(), AllocError>
     ensures { OnOk result (text.new.items ≡ text.old.items ++ reasons_text at.now N scenario.now reasons.now) }
 {
     for reason in reasons {
-        push_place(text, at, reason.fault, scenario, &reason.place)?;
+        push_reason(alloc, text, at, reason.fault, scenario, &reason.place)?;
     }
     Ok(())
 }
@@ -73,71 +76,93 @@ fn first_reasons(reasons: &[Reason]) -> &[Reason]
     }
 }
 
-#[tactic(auto, unfolding(crate::specs::Script::more_words))]
 fn more_words(count: u64) -> &'static [u8]
     ensures { result.now ≡ more_words count }
 {
     if count == 1 {
-        b" more place\n"
+        b" more place"
     } else {
-        b" more places\n"
+        b" more places"
     }
 }
 
+/// Writes how many more places there are, in words.
+fn push_more_words(text: &mut Vec<u8>, count: u64) -> Result<(), AllocError>
+    ensures { OnOk result (text.new.items ≡ text.old.items ++ text_of_all Words (more_pieces count)) }
+{
+    push_pieces(
+        text,
+        Form::Words,
+        &[
+            Piece::LineNumber(b"", Unit::Plain, count),
+            Piece::LineWords(more_words(count)),
+        ],
+    )
+}
+
 #[tactic(auto, unfolding(crate::specs::Script::more_line))]
-fn push_more_line(text: &mut Vec<u8>, at: &[u8], count: u64) -> Result<(), AllocError>
+fn push_more_line(
+    alloc: Global,
+    text: &mut Vec<u8>,
+    at: &Front,
+    count: u64,
+) -> Result<(), AllocError>
     ensures { OnOk result (text.new.items ≡ text.old.items ++ more_line at.now count) }
 {
-    text.extend_from_slice(at)?;
-    push_number(text, count)?;
-    text.extend_from_slice(more_words(count))
+    let mut sentence = Vec::new(alloc);
+    push_more_words(&mut sentence, count)?;
+    at.push_line(
+        text,
+        &[Piece::Text(b": ", b"sentence", sentence.as_slice())],
+    )
 }
 
 /// Writes how many more places there are, where there are any.
-fn push_more(text: &mut Vec<u8>, at: &[u8], count: u64) -> Result<(), AllocError>
+fn push_more(alloc: Global, text: &mut Vec<u8>, at: &Front, count: u64) -> Result<(), AllocError>
     ensures { OnOk result (text.new.items ≡ text.old.items ++ more_text at.now count) }
 {
     if count == 0 {
         Ok(())
     } else {
-        push_more_line(text, at, count)
+        push_more_line(alloc, text, at, count)
     }
 }
 
 /// Writes a line for each of the first reasons, and how many more places there are.
 #[tactic(auto, unfolding(crate::specs::Script::first_reasons_text))]
 fn push_first_reasons<const N: usize>(
+    alloc: Global,
     text: &mut Vec<u8>,
-    at: &[u8],
+    at: &Front,
     scenario: &Scenario<N>,
     reasons: &[Reason],
 ) -> Result<(), AllocError>
     ensures { OnOk result (text.new.items ≡ text.old.items ++ first_reasons_text at.now N scenario.now reasons.now) }
 {
-    push_reasons(text, at, scenario, first_reasons(reasons))?;
-    push_more(text, at, reasons.len().saturating_sub(MOST_PLACES) as u64)
+    push_reasons(alloc, text, at, scenario, first_reasons(reasons))?;
+    let more = reasons.len().saturating_sub(MOST_PLACES) as u64;
+    push_more(alloc, text, at, more)
 }
 
 /// Writes why a line is none of an edit script.
-#[tactic(auto, unfolding(crate::specs::Script::reason_line))]
 pub(crate) fn push_no_line(
+    alloc: Global,
     text: &mut Vec<u8>,
-    at: &[u8],
+    at: &Front,
     fault: EditFault,
     line: &[u8],
 ) -> Result<(), AllocError>
-    ensures { OnOk result (text.new.items ≡ text.old.items ++ reason_line at.now (number_of fault) (syntax_text line.now)) }
+    ensures { OnOk result (text.new.items ≡ text.old.items ++ syntax_line (refused_at at.now fault) line.now) }
 {
-    push_front(text, at, fault)?;
-    push_syntax(text, line)?;
-    text.push(b'\n')?;
-    Ok(())
+    let front = refused_at(alloc, at, fault)?;
+    push_syntax(alloc, text, &front, line)
 }
 
 /// Writes why a show is refused.
 pub(crate) fn push_show<const N: usize>(
+    alloc: Global,
     text: &mut Vec<u8>,
-    at: &[u8],
+    at: &Front,
     scenario: &Scenario<N>,
     show: Show,
 ) -> Result<(), AllocError>
@@ -145,7 +170,8 @@ pub(crate) fn push_show<const N: usize>(
 {
     match show {
         Show::Transcript { port } if !is_port(N, port) => {
-            push_place(
+            push_reason(
+                alloc,
                 text,
                 at,
                 EditFault::NoSuchPort,
@@ -161,7 +187,7 @@ pub(crate) fn push_show<const N: usize>(
 pub(crate) fn push_refused<const N: usize>(
     alloc: Global,
     text: &mut Vec<u8>,
-    at: &[u8],
+    at: &Front,
     scenario: &Scenario<N>,
     edit: &Edit,
 ) -> Result<(), AllocError>
@@ -169,14 +195,14 @@ pub(crate) fn push_refused<const N: usize>(
         ≡ text.old.items ++ first_reasons_text at.now N scenario.now (reasons_of N scenario.now edit.now)) }
 {
     let reasons = reasons(alloc, scenario, edit)?;
-    push_first_reasons(text, at, scenario, reasons.as_slice())
+    push_first_reasons(alloc, text, at, scenario, reasons.as_slice())
 }
 
 /// Makes an edit, or writes why it is refused.
 fn push_edit<const N: usize>(
     alloc: Global,
     text: &mut Vec<u8>,
-    at: &[u8],
+    at: &Front,
     scenario: &mut Scenario<N>,
     edit: &Edit,
 ) -> Result<(), AllocError>
@@ -203,7 +229,7 @@ fn push_edit<const N: usize>(
 pub fn explain_line<const N: usize>(
     alloc: Global,
     text: &mut Vec<u8>,
-    at: &[u8],
+    at: &Front,
     scenario: &mut Scenario<N>,
     line: &[u8],
 ) -> Result<(), AllocError>
@@ -213,22 +239,18 @@ pub fn explain_line<const N: usize>(
     match Line::read(line) {
         Ok(Line::Skip) => Ok(()),
         Ok(Line::Edit(edit)) => push_edit(alloc, text, at, scenario, &edit),
-        Ok(Line::Show(show)) => push_show(text, at, scenario, show),
-        Err(fault) => push_no_line(text, at, fault, line),
+        Ok(Line::Show(show)) => push_show(alloc, text, at, scenario, show),
+        Err(fault) => push_no_line(alloc, text, at, fault, line),
     }
 }
 
-/// Where a line stands: the file's name and the line's number, from 1.
+/// What is told first of a line of a file: the file, and the line's number, from 1.
 ///
 /// # Errors
 /// There is no memory.
-pub fn at_line(alloc: Global, name: &[u8], number: u64) -> Result<Vec<u8>, AllocError>
-    ensures { IfOk result (λ v. v.items ≡ at_line name.now number) }
+#[tactic(auto, unfolding(crate::specs::Script::at_line))]
+pub fn at_line(alloc: Global, file: &Front, line: u64) -> Result<Front, AllocError>
+    ensures { IfOk result (λ front. front ≡ at_line file.now line) }
 {
-    let mut at = Vec::new(alloc);
-    at.extend_from_slice(name)?;
-    at.push(b':')?;
-    push_number(&mut at, number)?;
-    at.extend_from_slice(b": ")?;
-    Ok(at)
+    file.with(alloc, &[Piece::Number(b":", b"line", Unit::Plain, line)])
 }

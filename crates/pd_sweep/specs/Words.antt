@@ -115,14 +115,14 @@ run_words old new = summary_words old.summary new.summary ++ margin_words old ne
 
 -- why a packet can't be lost
 abbrev pub obstacle_words : Obstacle → List ℕ
-obstacle_words NoId = codes "not tried: no id is free"
-obstacle_words (Refused fault) = codes "not tried: refused " ++ decimal (number_of fault)
+obstacle_words NoId = codes "no id is free"
+obstacle_words (Refused fault) = codes "refused " ++ decimal (number_of fault)
 
 abbrev pub outcome_words : Findings → Outcome → List ℕ
 outcome_words old (Ran new) = run_words old new
 outcome_words old Missed = codes "not hit"
 outcome_words old Disturbed = codes "not tried: disturbed already"
-outcome_words old (Barred obstacle) = obstacle_words obstacle
+outcome_words old (Barred obstacle) = codes "not tried: " ++ obstacle_words obstacle
 
 -- a line
 unfoldable pub trial_line : Findings → Trial → List ℕ

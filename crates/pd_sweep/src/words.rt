@@ -295,9 +295,9 @@ pub fn push_obstacle(text: &mut Vec<u8>, obstacle: &Obstacle) -> Result<(), Allo
     ensures { OnOk result (text.new.items ≡ text.old.items ++ obstacle_words obstacle.now) }
 {
     match obstacle {
-        Obstacle::NoId => text.extend_from_slice(b"not tried: no id is free"),
+        Obstacle::NoId => text.extend_from_slice(b"no id is free"),
         Obstacle::Refused(fault) => {
-            text.extend_from_slice(b"not tried: refused ")?;
+            text.extend_from_slice(b"refused ")?;
             push_number(text, u64::from(fault.number()))
         }
     }
@@ -311,7 +311,10 @@ fn push_outcome(text: &mut Vec<u8>, old: &Findings, outcome: &Outcome) -> Result
         Outcome::Ran(new) => push_run(text, old, new),
         Outcome::Missed => text.extend_from_slice(b"not hit"),
         Outcome::Disturbed => text.extend_from_slice(b"not tried: disturbed already"),
-        Outcome::Barred(obstacle) => push_obstacle(text, obstacle),
+        Outcome::Barred(obstacle) => {
+            text.extend_from_slice(b"not tried: ")?;
+            push_obstacle(text, obstacle)
+        }
     }
 }
 

@@ -5,8 +5,7 @@ use crate::fault::{output, tell, tell_scene, tell_unread};
 use crate::script_file::read_input;
 use pd_bench::read_whole;
 use pd_device::{BenchFault, write_all};
-use pd_expect::{TestReport, TestTally, scenario_name, test_text};
-use pd_explain_text::push_objects;
+use pd_expect::{Form, TestReport, TestTally, scenario_name, test_text};
 use pd_port::Meter;
 use std::alloc::{AllocError, Global};
 use std::rt::Files;
@@ -27,17 +26,12 @@ fn scenario_of(alloc: Global, script: &str, text: &[u8]) -> Result<Option<String
     Ok(Some(beside(alloc, script, file)?))
 }
 
-/// What stands before the first colon of a line: objects have the script's name as a member.
-fn named(script: &str, json: bool) -> &[u8] {
-    if json { b"" } else { script.as_bytes() }
-}
-
 /// Goes through a script, and writes what is said of its lines.
 fn report_of<R: Files + Input + Print + Alloc<A = Global>, E: Print>(
     rt: &R,
     errors: &E,
     script: &str,
-    json: bool,
+    form: Form,
 ) -> Result<TestTally, Ending> {
     let Ok(lines) = read_input(rt, script) else {
         return Err(tell_unread(errors, script));
@@ -56,12 +50,12 @@ fn report_of<R: Files + Input + Print + Alloc<A = Global>, E: Print>(
     match test_text(
         rt.alloc(),
         text.as_slice(),
-        named(script, json),
+        form,
+        script.as_bytes(),
         lines.as_slice(),
         &mut Meter::new(),
     ) {
-        Ok(report) if json => written_objects(rt, errors, script.as_bytes(), &report),
-        Ok(report) => written(rt, errors, report.text.as_slice(), report.tally),
+        Ok(report) => written(rt, errors, &report),
         Err(fault) => Err(tell_scene(rt, errors, scenario.as_str(), text.as_slice(), None, fault)),
     }
 }
@@ -70,26 +64,11 @@ fn report_of<R: Files + Input + Print + Alloc<A = Global>, E: Print>(
 fn written<R: Print, E: Print>(
     rt: &R,
     errors: &E,
-    text: &[u8],
-    tally: TestTally,
-) -> Result<TestTally, Ending> {
-    match write_all(&mut output(rt), text) {
-        Ok(()) => Ok(tally),
-        Err(fault) => Err(tell(errors, fault)),
-    }
-}
-
-/// Writes the same as JSON objects.
-fn written_objects<R: Print + Alloc<A = Global>, E: Print>(
-    rt: &R,
-    errors: &E,
-    script: &[u8],
     report: &TestReport,
 ) -> Result<TestTally, Ending> {
-    let mut objects = Vec::new(rt.alloc());
-    match push_objects(&mut objects, script, script, report.text.as_slice()) {
-        Ok(()) => written(rt, errors, objects.as_slice(), report.tally),
-        Err(_) => Err(tell(errors, BenchFault::Memory)),
+    match write_all(&mut output(rt), report.text.as_slice()) {
+        Ok(()) => Ok(report.tally),
+        Err(fault) => Err(tell(errors, fault)),
     }
 }
 
@@ -107,13 +86,12 @@ fn close<R: Print + Alloc<A = Global>, E: Print>(
     rt: &R,
     errors: &E,
     tally: TestTally,
-    json: bool,
+    form: Form,
 ) -> Ending {
     let mut text = Vec::new(rt.alloc());
-    let told = if json {
-        tally.push_object(&mut text)
-    } else {
-        tally.push(&mut text)
+    let told = match form {
+        Form::Json => tally.push_object(&mut text),
+        Form::Words => tally.push(&mut text),
     };
     if told.is_err() {
         return tell(errors, BenchFault::Memory);
@@ -138,9 +116,10 @@ pub fn test<R: Files + Input + Print + Alloc<A = Global>, E: Print>(
     scripts: &[&str],
     json: bool,
 ) -> Result<Ending, Ending> {
+    let form = if json { Form::Json } else { Form::Words };
     let mut tally = TestTally::none();
     for script in scripts {
-        tally = both(tally, report_of(rt, errors, script, json)?);
+        tally = both(tally, report_of(rt, errors, script, form)?);
     }
-    Ok(close(rt, errors, tally, json))
+    Ok(close(rt, errors, tally, form))
 }

@@ -11,16 +11,16 @@ loop-line-preserved g c =
     let text : List ℕ = c.loop-line.text.items in
     record {
       text =
-          line_on g.row.N c.args.scenario c.args.name.now (lines c.args.script.now) c.loop-line.scenario c.loop-line.number
-          c.loop-line.tally text c.extend_from_slice.new.self.items c.as_slice.result.now c.in-Some.line.now c.loop-line.rest.now
+          line_on g.row.N c.args.scenario c.args.file.now (lines c.args.script.now) c.loop-line.scenario c.loop-line.number
+          c.loop-line.tally text c.extend_from_slice.new.self.items c.in_ok-at.at c.in-Some.line.now c.loop-line.rest.now
           (lines c.in-Some.others.now) answer c.loop-line.invariant.text c.in-Some.ensures.lines
-          (c.as_slice.ensures.value ∙ c.in_ok-at.ensures) c.in_ok-answer.ensures.value
-          (c.in_ok-extend_from_slice.ensures.items ∙ ap (λ v. text ++ v) c.as_slice-in-Some.ensures.value);
+          c.in_ok-at.ensures c.in_ok-answer.ensures.value
+          (c.in_ok-extend_from_slice.ensures.items ∙ ap (λ v. text ++ v) c.as_slice.ensures.value);
       count = omega (arith, c.loop-line.invariant.count, c.in-Some.ensures.shorter);
       room = omega (arith, c.loop-line.invariant.room, c.in_ok-answer.ensures.room);
     }
 
 pub returns : goal.returns
 returns g c =
-    end_on g.row.N c.args.scenario c.args.name.now (lines c.args.script.now) c.loop-line.scenario c.loop-line.number c.loop-line.tally
+    end_on g.row.N c.args.scenario c.args.file.now (lines c.args.script.now) c.loop-line.scenario c.loop-line.number c.loop-line.tally
     c.loop-line.text.items c.loop-line.rest.now c.loop-line.invariant.text c.in_default.ensures.lines

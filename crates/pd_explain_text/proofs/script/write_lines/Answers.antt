@@ -18,18 +18,16 @@ returns-in_default-take_line-clause-text g c = so_far _ _ c.loop-line.any _ _ c.
 
 pub returns-in_err-write_all-clause-text : goal.returns-in_err-write_all-clause-text
 returns-in_err-write_all-clause-text g c =
-    let t = c.args.telling.now in
     let told =
-    more_told t.form t.file.now t.edits.now g.row.N c.loop-line.scenario _ c.loop-line.number _ c.loop-line.rest.now _ _
+    more_told c.args.edits.now g.row.N c.loop-line.scenario _ c.loop-line.number _ c.loop-line.rest.now _ _
     c.in-Some.ensures.lines (c.as_slice-told.ensures.value ∙ c.in-Ok.ensures.told) c.in-Ok.ensures.after in
     let p = err_from_is_err_and c.from_residual.result c.from_residual.ensures.1 in
     rw (p.1) (torn _ _ _ _ c.loop-line.any _ _ _ c.loop-line.invariant.progress told c.in_err-write_all.ensures.text.1)
 
 pub loop-line-preserved : goal.loop-line-preserved
 loop-line-preserved g c =
-    let t = c.args.telling.now in
     let told =
-    more_told t.form t.file.now t.edits.now g.row.N c.loop-line.scenario _ c.loop-line.number _ c.loop-line.rest.now _ _
+    more_told c.args.edits.now g.row.N c.loop-line.scenario _ c.loop-line.number _ c.loop-line.rest.now _ _
     c.in-Some.ensures.lines (c.as_slice-told.ensures.value ∙ c.in-Ok.ensures.told) c.in-Ok.ensures.after in
     record {
       progress =
@@ -47,9 +45,8 @@ loop-line-preserved g c =
 
 pub returns-clause-text : goal.returns-clause-text
 returns-clause-text g c =
-    let t = c.args.telling.now in
     all_written _ _ c.loop-line.any _ _ c.loop-line.invariant.progress
-    (all_told t.form t.file.now t.edits.now g.row.N c.loop-line.scenario c.loop-line.number c.loop-line.rest.now
+    (all_told c.args.edits.now g.row.N c.loop-line.scenario c.loop-line.number c.loop-line.rest.now
     c.in_default.ensures.lines)
 
 pub returns-clause-after : goal.returns-clause-after
