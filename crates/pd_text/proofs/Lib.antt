@@ -1,3 +1,4 @@
 pub mod NameLemmas
 pub mod TextLemmas
 pub mod JsonLemmas
+pub mod PageLemmas

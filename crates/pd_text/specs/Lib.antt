@@ -4,3 +4,4 @@ pub mod Texts
 pub mod Json
 pub mod Strings
 pub mod Fronts
+pub mod Pages
