@@ -18,7 +18,7 @@ pub use lane::Lane;
 pub use lanes::Lanes;
 pub use laws::{bands_are_true, phases_stand, titles_are_lines};
 pub use pd_chart::Look;
-pub use pd_scene::SceneFault;
+pub use pd_scene::{Refused, SceneFault};
 pub use phase::Phase;
 pub use place::{Place, Row};
 pub use texts::draw_text;

@@ -3,14 +3,14 @@
 ghost use Rattle.std.specs.Prelude.{◌≡◌, MatchResult};
 ghost use Rattle.pd_device.specs.declared.fault.BenchFault.TheVariants.{Memory as memory};
 ghost use Rattle.pd_scenario.specs.Plans.{plan_of};
-ghost use Rattle.pd_scene.specs.Scene.{Scene, follows};
+ghost use Rattle.pd_scene.specs.Scene.{EditedScene};
 ghost use Rattle.pd_draw.specs.Picture.{DrewRun};
 
 use crate::{Look, draw};
 use pd_port::Meter;
 use pd_run::Plan;
 use pd_scenario::Scenario;
-use pd_scene::{BenchFault, Job, JobOn, SceneFault, on_scene};
+use pd_scene::{BenchFault, Job, JobOn, Refused, SceneFault, on_scene};
 use std::alloc::Global;
 
 // What a run is drawn as.
@@ -50,21 +50,23 @@ impl<const N: usize> JobOn<N, Meter> for Drawing {
     }
 }
 
-/// Draws the run of the scenario of a text, which has 1 to 8 ports, as an edit script leaves it. A line that is refused changes
-/// nothing.
+/// Draws the run of the scenario of a text, which has 1 to 8 ports, as an edit script leaves it. A line that is refused ends
+/// it, or changes nothing.
 ///
 /// # Errors
-/// `Scenario` where the text is refused, `NoSuchPort` where it hasn't the port that is chosen, and `Job` where there is no memory.
+/// `Scenario` where the text is refused, `NoSuchPort` where it hasn't the port that is chosen, `Lines` where a line is refused that
+/// ends it, and `Job` where there is no memory.
 pub fn draw_text(
     alloc: Global,
     text: &[u8],
     script: &[u8],
+    refused: Refused,
     look: Look,
     meter: &mut Meter,
 ) -> Result<Vec<u8>, SceneFault>
-    ensures { Scene look.port (follows
-        (λ n s r old new. MatchResult r (λ drawn. DrewRun (plan_of s) look drawn.items) (λ fault. fault ≡ memory)) script.now)
-        result text.now meter.old meter.new }
+    ensures { EditedScene refused look.port
+        (λ n s r old new. MatchResult r (λ drawn. DrewRun (plan_of s) look drawn.items) (λ fault. fault ≡ memory))
+        script.now result text.now meter.old meter.new }
 {
-    on_scene(alloc, text, script, &Drawing { look }, meter)
+    on_scene(alloc, text, script, refused, &Drawing { look }, meter)
 }

@@ -24,4 +24,5 @@ scenario_ending fault = Refused
 abbrev pub scene_ending : SceneFault → Ending
 scene_ending (scene.Scenario fault) = scenario_ending fault
 scene_ending scene.NoSuchPort = NoSuchPort
+scene_ending scene.Lines = Refused
 scene_ending (scene.Job fault) = NoMemory

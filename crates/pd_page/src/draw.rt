@@ -8,7 +8,7 @@ use crate::Ending;
 use crate::answer::Answer;
 use crate::choices::port_of;
 use crate::ending::scene_ending;
-use pd_draw::{Look, draw_text};
+use pd_draw::{Look, Refused, draw_text};
 use pd_port::Meter;
 use std::alloc::Global;
 
@@ -16,7 +16,7 @@ use std::alloc::Global;
 fn drawn(alloc: Global, scenario: &[u8], script: &[u8], look: Look, meter: &mut Meter) -> Answer
     ensures { Draws look script.now scenario.now result.ending result.text.items }
 {
-    match draw_text(alloc, scenario, script, look, meter) {
+    match draw_text(alloc, scenario, script, Refused::Skipped, look, meter) {
         Ok(picture) => Answer {
             ending: Ending::Done,
             text: picture,

@@ -52,6 +52,7 @@ pub(crate) fn scene_ending(fault: SceneFault) -> Ending
     match fault {
         SceneFault::Scenario(fault) => scenario_ending(fault),
         SceneFault::NoSuchPort => Ending::NoSuchPort,
+        SceneFault::Lines => Ending::Refused,
         SceneFault::Job(_) => Ending::NoMemory,
     }
 }

@@ -45,7 +45,7 @@ impl<const N: usize> JobOn<N, ()> for Listing {
 fn listed(alloc: Global, scenario: &[u8], script: &[u8]) -> Answer
     ensures { ListsEdited script.now scenario.now result.ending result.text.items }
 {
-    match on_scene(alloc, scenario, script, &Listing, &mut ()) {
+    match on_scene(alloc, scenario, script, Refused::Skipped, &Listing, &mut ()) {
         Ok(text) => Answer {
             ending: Ending::Done,
             text,

@@ -9,7 +9,7 @@ use crate::answer::{Answer, no_output};
 use crate::choices::port_of;
 use crate::ending::scene_ending;
 use pd_port::Meter;
-use pd_show::{Choice, Form, show_text};
+use pd_show::{Choice, Form, Refused, show_text};
 use std::alloc::Global;
 
 /// The run of the scenario of a text, as an edit script leaves it.
@@ -23,7 +23,7 @@ fn shown(
     ensures { Shows choice.now script.now scenario.now result.ending result.text.items }
 {
     let mut output = no_output(alloc);
-    match show_text(alloc, scenario, script, choice, &mut output, meter) {
+    match show_text(alloc, scenario, script, Refused::Skipped, choice, &mut output, meter) {
         Ok(()) => Answer {
             ending: Ending::Done,
             text: output.writer,

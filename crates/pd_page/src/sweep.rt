@@ -10,7 +10,7 @@ use crate::answer::{Answer, no_output};
 use crate::choices::port_of;
 use crate::ending::scene_ending;
 use pd_port::Meter;
-use pd_sweep::{Campaign, Choice, Form, Loss, Part, packet_count, sweep_part_text};
+use pd_sweep::{Campaign, Choice, Form, Loss, Part, Refused, packet_count, sweep_part_text};
 use std::alloc::Global;
 
 /// The packets of a port, or of all, from one time to another.
@@ -48,6 +48,7 @@ fn swept(
         alloc,
         scenario,
         script,
+        Refused::Skipped,
         campaign,
         part,
         Form::Json,
@@ -78,7 +79,7 @@ pub extern "C" fn page_packet_count(
     ensures { Counted (Counts (packets_of port from to) script.now scenario.now) result count.new }
 {
     let choice = packets_of(port, from, to);
-    match packet_count(alloc, scenario, script, &choice, meter) {
+    match packet_count(alloc, scenario, script, Refused::Skipped, &choice, meter) {
         Ok(packets) => {
             *count = packets as u64;
             Ending::Done.number()

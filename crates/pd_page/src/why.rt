@@ -9,7 +9,7 @@ use crate::Ending;
 use crate::answer::Answer;
 use crate::ending::scene_ending;
 use pd_port::Meter;
-use pd_why::{Form, Question, why_text};
+use pd_why::{Form, Question, Refused, why_text};
 use std::alloc::Global;
 
 /// What bounds a port in the run of the scenario of a text, as an edit script leaves it.
@@ -22,7 +22,7 @@ fn asked(
 ) -> Answer
     ensures { Asks question.now script.now scenario.now result.ending result.text.items }
 {
-    match why_text(alloc, scenario, script, question, Form::Json, meter) {
+    match why_text(alloc, scenario, script, Refused::Skipped, question, Form::Json, meter) {
         Ok(said) => Answer {
             ending: Ending::Done,
             text: said,

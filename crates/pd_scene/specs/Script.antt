@@ -1,6 +1,7 @@
 -- What is said of the refused lines of an edit script: this product's own form, docs/FORMATS.md, "Reasons". The answers to
 -- lines are those of Session.antt of pd_bench.
-use Rattle.std.specs.Prelude.{ℕ, ◌-◌, ◌==◌, List, [], ◌∷◌, ◌++◌, length, take, codes, Result, Ok, Err, if◌then◌else◌}
+use Rattle.std.specs.Prelude.{ℕ, ◌-◌, ◌==◌, ◌||◌, Bool, true, false, not, List, [], ◌∷◌, ◌++◌, length, take, codes}
+use Rattle.std.specs.Prelude.{Result, Ok, Err, is_err, if◌then◌else◌}
 use Rattle.std.specs.List.{flat_map}
 use Rattle.pd_text.specs.declared.piece.Form.TheVariants.{Words}
 use Rattle.pd_text.specs.declared.piece.Unit.TheVariants.{Plain}
@@ -101,3 +102,24 @@ after_line n c line = after_read n c (line_of line)
 unfoldable pub followed : ℕ → ScenarioData → List (List ℕ) → ScenarioData
 followed n c [] = c
 followed n c (line ∷ lines) = followed n (after_line n c line) lines
+
+-- ---- which lines are refused
+
+-- a show is refused where it is of a port that isn't there
+abbrev pub is_show_refused : ℕ → Show → Bool
+is_show_refused n (Transcript port) = not (is_port n port)
+is_show_refused n _ = false
+
+abbrev pub is_read_refused : ℕ → ScenarioData → Result Line EditFault → Bool
+is_read_refused n c (Ok line_read.Skip) = false
+is_read_refused n c (Ok (line_read.Edit edit)) = is_err (edited n c edit)
+is_read_refused n c (Ok (line_read.Show show)) = is_show_refused n show
+is_read_refused n c (Err fault) = true
+
+unfoldable pub is_line_refused : ℕ → ScenarioData → List ℕ → Bool
+is_line_refused n c line = is_read_refused n c (line_of line)
+
+-- one of the lines is refused, each held against the scenario as the lines before it left it
+unfoldable pub is_any_refused : ℕ → ScenarioData → List (List ℕ) → Bool
+is_any_refused n c [] = false
+is_any_refused n c (line ∷ lines) = is_line_refused n c line || is_any_refused n (after_line n c line) lines

@@ -2,6 +2,7 @@
 #![tactic(auto)]
 
 mod edits;
+mod end;
 mod followed;
 mod job;
 mod lines;
@@ -10,7 +11,8 @@ mod outlet;
 mod scene;
 mod script;
 
-pub use edits::follow;
+pub use edits::{Refused, follow};
+pub use end::end_of_scene;
 pub use followed::on_scene;
 pub use job::{Job, JobOn};
 pub use lines::first_line;

@@ -19,6 +19,8 @@ pub enum SceneFault {
     Scenario(ScenarioFault),
     /// The scenario doesn't have the port that has to be there.
     NoSuchPort,
+    /// A line of the script is refused that ends it.
+    Lines,
     /// The job failed.
     Job(BenchFault),
 }

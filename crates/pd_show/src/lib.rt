@@ -15,7 +15,7 @@ mod walk;
 pub use choice::{Choice, Form};
 pub use faults::push_fault;
 pub use page::push_bare_line;
-pub use pd_scene::SceneFault;
+pub use pd_scene::{Refused, SceneFault};
 pub use seen::{Glance, Seen, step_seen};
 pub use since::{start_since, told_at};
 pub use texts::show_text;

@@ -1,7 +1,7 @@
 //! Runs that are shown, for the scenarios of texts.
 
 ghost use Rattle.pd_scene.specs.Outlet.{SameEnds};
-ghost use Rattle.pd_scene.specs.Scene.{Scene, follows};
+ghost use Rattle.pd_scene.specs.Scene.{EditedScene};
 ghost use Rattle.pd_show.specs.Texts.{ShowsScene};
 
 use crate::{Choice, show};
@@ -9,7 +9,7 @@ use pd_device::{BenchFault, TextOut};
 use pd_port::Meter;
 use pd_run::Plan;
 use pd_scenario::Scenario;
-use pd_scene::{Job, JobOn, Outlet, SceneFault, on_scene};
+use pd_scene::{Job, JobOn, Outlet, Refused, SceneFault, on_scene};
 use std::alloc::Global;
 
 // What of a run is shown.
@@ -50,26 +50,34 @@ impl<'w, const N: usize, W: TextOut> JobOn<N, Outlet<'w, W, Meter>> for Showing<
     }
 }
 
-/// Shows the run of the scenario of a text, which has 1 to 8 ports, as an edit script leaves it. A line that is refused changes
-/// nothing.
+/// Shows the run of the scenario of a text, which has 1 to 8 ports, as an edit script leaves it. A line that is refused ends
+/// it, or changes nothing.
 ///
 /// # Errors
-/// `Scenario` where the text is refused, `NoSuchPort` where it hasn't the port that is chosen, and nothing is written; `Job`
-/// where the run fails, and some first bytes of its text may be written.
+/// `Scenario` where the text is refused, `NoSuchPort` where it hasn't the port that is chosen, `Lines` where a line is refused that
+/// ends it, and nothing is written; `Job` where the run fails, and some first bytes of its text may be written.
 pub fn show_text<W: TextOut>(
     alloc: Global,
     text: &[u8],
     script: &[u8],
+    refused: Refused,
     choice: &Choice,
     writer: &mut W,
     meter: &mut Meter,
 ) -> Result<(), SceneFault>
-    ensures { Scene choice.now.port (follows
-        (λ n s r old new. ShowsScene choice.now s r (W.taken old) (W.taken new) (W.failures old) (W.failures new)) script.now)
-        result text.now writer.old writer.new }
+    ensures { EditedScene refused choice.now.port
+        (λ n s r old new. ShowsScene choice.now s r (W.taken old) (W.taken new) (W.failures old) (W.failures new))
+        script.now result text.now writer.old writer.new }
 {
     let mut outlet = Outlet { writer, meter };
-    let answer = on_scene(alloc, text, script, &Showing { choice }, &mut outlet);
+    let answer = on_scene(
+        alloc,
+        text,
+        script,
+        refused,
+        &Showing { choice },
+        &mut outlet,
+    );
     let Outlet {
         writer: _,
         meter: _,

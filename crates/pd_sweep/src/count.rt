@@ -2,7 +2,7 @@
 
 ghost use Rattle.std.specs.Prelude.{◌≡◌, IfSome, MatchResult};
 ghost use Rattle.pd_device.specs.declared.fault.BenchFault.TheVariants.{Memory as memory};
-ghost use Rattle.pd_scene.specs.Scene.{Scene, follows};
+ghost use Rattle.pd_scene.specs.Scene.{EditedScene};
 ghost use Rattle.pd_sweep.specs.Counts.{HasPackets};
 
 use crate::{Choice, chosen};
@@ -11,7 +11,7 @@ use pd_keep::Kept;
 use pd_port::Meter;
 use pd_run::Runner;
 use pd_scenario::Scenario;
-use pd_scene::{Job, JobOn, SceneFault, on_scene};
+use pd_scene::{Job, JobOn, Refused, SceneFault, on_scene};
 use std::alloc::Global;
 
 // Which packets are counted.
@@ -47,20 +47,21 @@ impl<const N: usize> JobOn<N, Meter> for Counting<'_> {
 /// lines of packets a sweep has.
 ///
 /// # Errors
-/// As of a sweep: `Scenario` where the text is refused, `NoSuchPort` where it hasn't the port that is chosen, `Job` where there is
-/// no memory.
+/// As of a sweep: `Scenario` where the text is refused, `NoSuchPort` where it hasn't the port that is chosen, `Lines` where a line is
+/// refused that ends it, `Job` where there is no memory.
 pub fn packet_count(
     alloc: Global,
     text: &[u8],
     script: &[u8],
+    refused: Refused,
     choice: &Choice,
     meter: &mut Meter,
 ) -> Result<usize, SceneFault>
-    ensures { Scene choice.now.port
-        (follows (λ n s r old new. MatchResult r (λ count. HasPackets s choice.now count) (λ fault. fault ≡ memory)) script.now)
-        result text.now meter.old meter.new }
+    ensures { EditedScene refused choice.now.port
+        (λ n s r old new. MatchResult r (λ count. HasPackets s choice.now count) (λ fault. fault ≡ memory))
+        script.now result text.now meter.old meter.new }
 {
-    on_scene(alloc, text, script, &Counting { choice }, meter)
+    on_scene(alloc, text, script, refused, &Counting { choice }, meter)
 }
 
 // Counts the packets of a scenario, where there is memory.

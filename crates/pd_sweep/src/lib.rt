@@ -31,7 +31,7 @@ pub use laws::{hits_are_true, parts_are_the_sweep};
 pub use makers::{Makers, makers_of};
 pub use packets::{Target, chosen};
 pub use part::Part;
-pub use pd_scene::SceneFault;
+pub use pd_scene::{Refused, SceneFault};
 pub use summary::{Mishaps, Standing, Summary, summary_of};
 pub use tally::{Lowest, Tally, Worst, push_tally};
 pub use texts::{sweep_part_text, sweep_text};

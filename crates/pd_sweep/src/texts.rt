@@ -2,7 +2,7 @@
 
 ghost use Rattle.std.specs.Prelude.{None, Some};
 ghost use Rattle.pd_scene.specs.Outlet.{SameEnds};
-ghost use Rattle.pd_scene.specs.Scene.{Scene, follows};
+ghost use Rattle.pd_scene.specs.Scene.{EditedScene};
 ghost use Rattle.pd_sweep.specs.Texts.{SweepsScene};
 
 use crate::{Campaign, Form, Part, Tally, sweep};
@@ -11,7 +11,7 @@ use pd_keep::Kept;
 use pd_port::Meter;
 use pd_run::Runner;
 use pd_scenario::Scenario;
-use pd_scene::{Job, JobOn, Outlet, SceneFault, on_scene};
+use pd_scene::{Job, JobOn, Outlet, Refused, SceneFault, on_scene};
 use std::alloc::Global;
 
 // Which packets are lost, all of them or a part, and how that is told.
@@ -66,16 +66,17 @@ fn on_sweep<W: TextOut>(
     alloc: Global,
     text: &[u8],
     script: &[u8],
+    refused: Refused,
     sweeping: &Sweeping<'_>,
     writer: &mut W,
     meter: &mut Meter,
 ) -> Result<Tally, SceneFault>
-    ensures { Scene sweeping.now.campaign.now.choice.port (follows (λ n s r old new. SweepsScene sweeping.now.campaign.now sweeping.now.part
-        sweeping.now.form n s r (W.taken old) (W.taken new) (W.failures old) (W.failures new)) script.now)
-        result text.now writer.old writer.new }
+    ensures { EditedScene refused sweeping.now.campaign.now.choice.port (λ n s r old new. SweepsScene sweeping.now.campaign.now
+        sweeping.now.part sweeping.now.form n s r (W.taken old) (W.taken new) (W.failures old) (W.failures new))
+        script.now result text.now writer.old writer.new }
 {
     let mut outlet = Outlet { writer, meter };
-    let answer = on_scene(alloc, text, script, sweeping, &mut outlet);
+    let answer = on_scene(alloc, text, script, refused, sweeping, &mut outlet);
     let Outlet {
         writer: _,
         meter: _,
@@ -84,29 +85,30 @@ fn on_sweep<W: TextOut>(
 }
 
 /// Loses each packet that is chosen of the run of the scenario of a text, which has 1 to 8 ports, as an edit script leaves it, and
-/// tells what that leads to. A line of the script that is refused changes nothing.
+/// tells what that leads to. A line of the script that is refused ends it, or changes nothing.
 ///
 /// # Errors
-/// `Scenario` where the text is refused, `NoSuchPort` where it hasn't the port that is chosen, and nothing is written; `Job`
-/// where a run fails, and some first bytes of the text may be written.
+/// `Scenario` where the text is refused, `NoSuchPort` where it hasn't the port that is chosen, `Lines` where a line is refused that
+/// ends it, and nothing is written; `Job` where a run fails, and some first bytes of the text may be written.
 pub fn sweep_text<W: TextOut>(
     alloc: Global,
     text: &[u8],
     script: &[u8],
+    refused: Refused,
     campaign: &Campaign,
     form: Form,
     writer: &mut W,
     meter: &mut Meter,
 ) -> Result<Tally, SceneFault>
-    ensures { Scene campaign.now.choice.port (follows (λ n s r old new. SweepsScene campaign.now None form n s r
-        (W.taken old) (W.taken new) (W.failures old) (W.failures new)) script.now) result text.now writer.old writer.new }
+    ensures { EditedScene refused campaign.now.choice.port (λ n s r old new. SweepsScene campaign.now None form n s r
+        (W.taken old) (W.taken new) (W.failures old) (W.failures new)) script.now result text.now writer.old writer.new }
 {
     let sweeping = Sweeping {
         campaign,
         part: None,
         form,
     };
-    on_sweep(alloc, text, script, &sweeping, writer, meter)
+    on_sweep(alloc, text, script, refused, &sweeping, writer, meter)
 }
 
 /// The same for a part of these packets alone, and the summary of these. The run itself is made first, in each part.
@@ -117,19 +119,20 @@ pub fn sweep_part_text<W: TextOut>(
     alloc: Global,
     text: &[u8],
     script: &[u8],
+    refused: Refused,
     campaign: &Campaign,
     part: Part,
     form: Form,
     writer: &mut W,
     meter: &mut Meter,
 ) -> Result<Tally, SceneFault>
-    ensures { Scene campaign.now.choice.port (follows (λ n s r old new. SweepsScene campaign.now (Some part) form n s r
-        (W.taken old) (W.taken new) (W.failures old) (W.failures new)) script.now) result text.now writer.old writer.new }
+    ensures { EditedScene refused campaign.now.choice.port (λ n s r old new. SweepsScene campaign.now (Some part) form n s r
+        (W.taken old) (W.taken new) (W.failures old) (W.failures new)) script.now result text.now writer.old writer.new }
 {
     let sweeping = Sweeping {
         campaign,
         part: Some(part),
         form,
     };
-    on_sweep(alloc, text, script, &sweeping, writer, meter)
+    on_sweep(alloc, text, script, refused, &sweeping, writer, meter)
 }

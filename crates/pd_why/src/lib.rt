@@ -26,7 +26,7 @@ pub use bound::{Bound, Bounds};
 pub use cable::CableLimit;
 pub use fact::Fact;
 pub use holder::Maker;
-pub use pd_scene::SceneFault;
+pub use pd_scene::{Refused, SceneFault};
 pub use pd_text::Form;
 pub use question::Question;
 pub use run::why;

@@ -3,7 +3,7 @@
 ghost use Rattle.std.specs.Prelude.{◌≡◌, [], IfOk, MatchResult, Some};
 ghost use Rattle.pd_device.specs.declared.fault.BenchFault.TheVariants.{Memory as memory};
 ghost use Rattle.pd_scenario.specs.Plans.{plan_of};
-ghost use Rattle.pd_scene.specs.Scene.{Scene, follows};
+ghost use Rattle.pd_scene.specs.Scene.{EditedScene};
 ghost use Rattle.pd_why.specs.Answers.{TellsWhy};
 
 use crate::{Form, Question, why};
@@ -11,7 +11,7 @@ use pd_device::BenchFault;
 use pd_port::Meter;
 use pd_run::Plan;
 use pd_scenario::Scenario;
-use pd_scene::{Job, JobOn, SceneFault, on_scene};
+use pd_scene::{Job, JobOn, Refused, SceneFault, on_scene};
 use std::alloc::{AllocError, Global};
 
 // What is asked, and in which form it is told.
@@ -52,24 +52,32 @@ impl<const N: usize> JobOn<N, Meter> for Asking<'_> {
 }
 
 /// What bounds a port in the run of the scenario of a text, which has 1 to 8 ports, as an edit script leaves it: each fact in a form.
-/// A line that is refused changes nothing. The meter rises by one for each move of the run.
+/// A line that is refused ends it, or changes nothing. The meter rises by one for each move of the run.
 ///
 /// # Errors
-/// `Scenario` where the text is refused and `NoSuchPort` where it hasn't the port; `Job` where there is no memory.
+/// `Scenario` where the text is refused, `NoSuchPort` where it hasn't the port and `Lines` where a line is refused that ends it; `Job`
+/// where there is no memory.
 pub fn why_text(
     alloc: Global,
     text: &[u8],
     script: &[u8],
+    refused: Refused,
     question: &Question,
     form: Form,
     meter: &mut Meter,
 ) -> Result<Vec<u8>, SceneFault>
-    ensures { Scene (Some question.now.port) (follows
+    ensures { EditedScene refused (Some question.now.port)
         (λ n s r old new. MatchResult r (λ said. TellsWhy form (plan_of s) question.now [] said.items)
-        (λ fault. fault ≡ memory)) script.now)
-        result text.now meter.old meter.new }
+        (λ fault. fault ≡ memory)) script.now result text.now meter.old meter.new }
 {
-    on_scene(alloc, text, script, &Asking { question, form }, meter)
+    on_scene(
+        alloc,
+        text,
+        script,
+        refused,
+        &Asking { question, form },
+        meter,
+    )
 }
 
 // What bounds a port of a scenario.

@@ -46,6 +46,7 @@ pub fn tell_scene<R: Alloc<A = Global>, E: Print>(
     match fault {
         SceneFault::Scenario(fault) => tell_refused(errors, file, fault),
         SceneFault::NoSuchPort => tell_no_port(rt, errors, file, text, port),
+        SceneFault::Lines => Ending::Refused,
         SceneFault::Job(fault) => tell(errors, fault),
     }
 }

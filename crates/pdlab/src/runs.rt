@@ -8,6 +8,7 @@ use pd_draw::{Look, draw_text};
 use pd_explain_text::{Form as TellingForm, SceneFault, Telling, explain_text};
 use pd_port::Meter;
 use pd_scenario_text::ScenarioFault;
+use pd_scene::Refused;
 use pd_show::{Choice, Form, show_text};
 use pd_why::{Form as AnswerForm, Question, why_text};
 use pd_words::{DrawOptions, Form as Asked, Scene, ShowOptions, WhyOptions};
@@ -115,7 +116,7 @@ pub fn show<R: Files + Input + Print + Alloc<A = Global>, E: Print>(
     let (text, script) = (opened.text.as_slice(), opened.script.as_slice());
     let choice = choice_of(options);
     let (mut out, mut meter) = (output(rt), Meter::new());
-    match show_text(rt.alloc(), text, script, &choice, &mut out, &mut meter) {
+    match show_text(rt.alloc(), text, script, Refused::Skipped, &choice, &mut out, &mut meter) {
         Ok(()) => Ok(Ending::Done),
         Err(fault) => Err(tell_scene(rt, errors, opened.file, text, choice.port, fault)),
     }
@@ -142,7 +143,7 @@ pub fn why<R: Files + Input + Print + Alloc<A = Global>, E: Print>(
     } else {
         AnswerForm::Words
     };
-    match why_text(rt.alloc(), text, script, &question, form, &mut Meter::new()) {
+    match why_text(rt.alloc(), text, script, Refused::Skipped, &question, form, &mut Meter::new()) {
         Ok(said) => write_out(rt, errors, said.as_slice()),
         Err(fault) => Err(tell_scene(rt, errors, opened.file, text, Some(question.port), fault)),
     }
@@ -166,7 +167,7 @@ pub fn draw<R: Files + Input + Print + Alloc<A = Global>, E: Print>(
         width: options.width,
         port: options.window.port,
     };
-    match draw_text(rt.alloc(), text, script, look, &mut Meter::new()) {
+    match draw_text(rt.alloc(), text, script, Refused::Skipped, look, &mut Meter::new()) {
         Ok(picture) => write_out(rt, errors, picture.as_slice()),
         Err(fault) => Err(tell_scene(rt, errors, opened.file, text, look.port, fault)),
     }

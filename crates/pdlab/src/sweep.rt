@@ -5,6 +5,7 @@ use crate::fault::{output, tell_scene};
 use crate::progress::{Packets, Watched};
 use crate::runs::{Opened, open};
 use pd_port::Meter;
+use pd_scene::Refused;
 use pd_sweep::{Campaign, Choice, Form, Loss, SceneFault, Tally, packet_count, sweep_text};
 use pd_words::{Form as Asked, Scene, SweepOptions};
 use std::alloc::Global;
@@ -69,9 +70,9 @@ fn tally_of<R: Print + Clock + Alloc<A = Global>, E: Print + IsTerminal>(
     let (alloc, mut meter) = (rt.alloc(), Meter::new());
     if !errors.is_terminal() {
         let mut out = output(rt);
-        return sweep_text(alloc, text, script, campaign, form, &mut out, &mut meter);
+        return sweep_text(alloc, text, script, Refused::Skipped, campaign, form, &mut out, &mut meter);
     }
-    let total = packet_count(alloc, text, script, &campaign.choice, &mut meter)?;
+    let total = packet_count(alloc, text, script, Refused::Skipped, &campaign.choice, &mut meter)?;
     match Instant::now(rt) {
         Ok(began) => {
             let packets = Packets {
@@ -79,11 +80,11 @@ fn tally_of<R: Print + Clock + Alloc<A = Global>, E: Print + IsTerminal>(
                 heads: heads(form),
             };
             let mut lines = Watched::of(output(rt), rt, errors, packets, began);
-            sweep_text(alloc, text, script, campaign, form, &mut lines, &mut meter)
+            sweep_text(alloc, text, script, Refused::Skipped, campaign, form, &mut lines, &mut meter)
         }
         Err(_) => {
             let mut out = output(rt);
-            sweep_text(alloc, text, script, campaign, form, &mut out, &mut meter)
+            sweep_text(alloc, text, script, Refused::Skipped, campaign, form, &mut out, &mut meter)
         }
     }
 }
