@@ -9,7 +9,7 @@ use Rattle.pd_report.specs.Margins.{change_on, up_to}
 use Rattle.pd_sweep.specs.Summaries.{left_by}
 use Rattle.pd_sweep.proofs.WalkLemmas.{left_then}
 use Rattle.pd_expect.specs.Along.{stands_after}
-use Rattle.pd_expect.specs.Sentences.{Moves, contract_at}
+use Rattle.pd_expect.specs.OverTime.{Moves, contract_at}
 
 module _ (port at : ℕ) where
   abbrev last : Moves → Option ContractChange

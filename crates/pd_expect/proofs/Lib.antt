@@ -4,3 +4,5 @@ mod LineLemmas
 mod NearLemmas
 mod QuietLemmas
 mod SeekLemmas
+mod SoonestLemmas
+mod SteadyLemmas

@@ -8,7 +8,7 @@ use Rattle.std.proofs.lemmas.Option.{get_or_from_slice_get, slice_get_within}
 use Rattle.pd_port.specs.declared.entry.Entry.{Entry}
 use Rattle.pd_expect.specs.Details.{first_time, has_sign, near_of, nearest, sign_at, times_of}
 use Rattle.pd_expect.specs.Near.{beside, near_after, or_first}
-use Rattle.pd_expect.specs.Sentences.{Moves}
+use Rattle.pd_expect.specs.OverTime.{Moves}
 use Rattle.pd_expect.specs.declared.near.Near.{Near}
 use Rattle.pd_expect.specs.declared.near.Sign.{Sign}
 

@@ -8,11 +8,15 @@ use Rattle.pd_report.specs.FaultLines.{fault_words}
 use Rattle.pd_sweep.specs.Choices.{is_of_port}
 use Rattle.pd_sweep.specs.Summaries.{makers_at}
 use Rattle.pd_sweep.specs.Words.{makers_words}
-use Rattle.pd_expect.specs.Sentences.{Moves, starts}
+use Rattle.pd_expect.specs.OverTime.{Moves}
+use Rattle.pd_expect.specs.Sentences.{starts}
+use Rattle.pd_expect.specs.Words.{is_instant}
 use Rattle.pd_expect.specs.declared.found.Found.{Found}
 use Rattle.pd_expect.specs.declared.found.Found.TheVariants as found
 use Rattle.pd_expect.specs.declared.lines.Expectation.{Expectation}
 use Rattle.pd_expect.specs.declared.lines.Expectation.TheVariants as expect
+use Rattle.pd_expect.specs.declared.lines.Period.{Period}
+use Rattle.pd_expect.specs.declared.over_time.Break.{Break}
 use Rattle.pd_expect.specs.declared.near.Near.{Near}
 use Rattle.pd_expect.specs.declared.near.Sign.{Sign}
 use Rattle.pd_expect.specs.declared.near.Sign.TheVariants as sign
@@ -118,9 +122,22 @@ abbrev pub margin_details : Found → Moves → List ℕ
 margin_details (found.Least margin) moves = makers_words (makers_at margin.at moves)
 margin_details _ moves = []
 
+-- from when there is another contract than is wanted, where that isn't said by the line
+abbrev pub from_words : Period → ℕ → List ℕ
+from_words period at = if is_instant period then [] else codes " from " ++ decimal at
+
+-- and until when
+abbrev pub first_details : ℕ → Period → Option Break → Moves → List ℕ
+first_details port period None moves = []
+first_details port period (Some broken) moves =
+    from_words period broken.at ++ until_words (nearest (sign.Change port) 0 broken.at moves).after
+
+abbrev pub break_details : ℕ → Period → Found → Moves → List ℕ
+break_details port period (found.Contract broken) moves = first_details port period broken moves
+break_details port period _ moves = []
+
 abbrev pub details : Expectation → Found → Moves → List ℕ
-details (expect.Contract port at voltage current) what moves = until_words (nearest (sign.Change port) 0 at moves).after
-details (expect.NoContract port at) what moves = until_words (nearest (sign.Change port) 0 at moves).after
+details (expect.Contract port period wants) what moves = break_details port period what moves
 details (expect.Margin least) what moves = margin_details what moves
 details expect.NoFaults what moves = first_notes (notes_of None moves)
 details (expect.Fault port) what moves = others_words port (notes_of (Some port) moves)

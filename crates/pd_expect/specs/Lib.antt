@@ -4,6 +4,7 @@ pub mod Laws
 pub mod Losses
 pub mod Named
 pub mod Near
+pub mod OverTime
 pub mod Sentences
 pub mod Tests
 pub mod Texts

@@ -1,14 +1,17 @@
 -- The lines of a test script. It has the lines of an edit script, and beside them
---     expect contract PORT at TIME [voltage RANGE] [current RANGE]
---     expect no contract PORT at TIME
---     expect margin at_least MICROWATTS
+--     expect contract PORT TIME [voltage RANGE] [current RANGE] [power at_least POWER]
+--     expect no contract PORT TIME
+--     expect margin at_least POWER
 --     expect faults none
 --     expect fault PORT "WORDS"
 --     expect packet PORT SIDE NAME between FROM TO
 --     lose NTH NAME of port PORT
--- RANGE is a number, or two with .. between them. No range ends before it begins, and TO isn't before FROM.
+-- TIME is `at T`, `from T to T`, or one of these two ends alone: then the other is the run's. RANGE is a number, or two with .. between
+-- them. No range ends before it begins, and TO isn't before FROM. TIME, FROM and TO are in
+-- microseconds, voltages in millivolts, currents in milliamperes, where no unit stands behind the number. POWER has its unit.
 -- What stands behind a word that begins with # is passed over.
 use Rattle.std.specs.Prelude.{ℕ, ◌+◌, ◌==◌, Bool, true, false, List, [], ◌∷◌, ◌++◌, find, take, drop, codes, Option, Some, None, option_map}
+use Rattle.std.specs.Prelude.{length, option_and_then}
 use Rattle.std.specs.Prelude.{bytes_eq, nat_le, nat_lt, ◌&&◌, if◌then◌else◌}
 use Rattle.std.specs.List.{position_from}
 use Rattle.pd_header.specs.declared.kind.Kind.{Kind}
@@ -19,9 +22,15 @@ use Rattle.pd_edit_lines.specs.Words.{words, number, next, number_at, ◌>>=◌}
 use Rattle.pd_expect.specs.declared.lines.Expectation.{Expectation}
 use Rattle.pd_expect.specs.declared.lines.Expectation.TheVariants as expect
 use Rattle.pd_expect.specs.declared.lines.Lost.{Lost}
+use Rattle.pd_expect.specs.declared.lines.Period.{Period}
+use Rattle.pd_expect.specs.declared.lines.Wanted.{Wanted}
+use Rattle.pd_expect.specs.declared.lines.Wanted.TheVariants as wanted
 use Rattle.pd_expect.specs.declared.lines.TestLine.{TestLine}
 use Rattle.pd_expect.specs.declared.lines.TestLine.TheVariants as line_is
 use Rattle.pd_expect.specs.declared.span.Span.{Span}
+use Rattle.pd_units.specs.Quantities.{number_in}
+use Rattle.pd_units.specs.declared.unit.Unit.{Unit}
+use Rattle.pd_units.specs.declared.unit.Unit.TheVariants.{Microseconds, Millivolts, Milliamperes, Microwatts}
 
 abbrev pub Words : Type 0
 Words = List (List ℕ)
@@ -65,36 +74,65 @@ any_span = record { from = 0; to = 18446744073709551615 }
 abbrev pub one_span : ℕ → Span
 one_span n = record { from = n; to = n }
 
--- what stands behind the second dot
+-- what stands behind the second of two dots
 abbrev pub behind_dot : List ℕ → Option (List ℕ)
 behind_dot [] = None
 behind_dot (c ∷ cs) = if c == 46 then Some cs else None
 
-abbrev pub two_ends : List ℕ → List ℕ → Option Span
-two_ends low high = do
-  from ← number low
-  word ← behind_dot high
-  to ← number word
+-- the first dot of a word is a decimal point, with this before it and that behind: its ends, around the two dots that come next
+abbrev pub later_ends : List ℕ → List ℕ → List ℕ → Option (List ℕ × List ℕ)
+later_ends word before behind = do
+  next_dot ← cut 46 behind
+  high ← behind_dot next_dot.1
+  Some (take (length before + 1 + length next_dot.0) word, high)
+
+abbrev pub ends_around : List ℕ → List ℕ → List ℕ → Option (List ℕ) → Option (List ℕ × List ℕ)
+ends_around word before behind (Some high) = Some (before, high)
+ends_around word before behind None = later_ends word before behind
+
+-- the ends of `A..B`, around its two dots; A may have a decimal point
+abbrev pub ends_of : List ℕ → Option (List ℕ × List ℕ)
+ends_of word = do
+  dot ← cut 46 word
+  ends_around word dot.0 dot.1 (behind_dot dot.1)
+
+abbrev pub two_ends : Unit → List ℕ → List ℕ → Option Span
+two_ends unit low high = do
+  from ← number_in unit low
+  to ← number_in unit high
   Some (record { from = from; to = to })
 
-abbrev pub span_from : List ℕ → Option (List ℕ × List ℕ) → Option Span
-span_from word None = option_map one_span (number word)
-span_from word (Some ends) = two_ends ends.0 ends.1
+abbrev pub span_from : Unit → List ℕ → Option (List ℕ × List ℕ) → Option Span
+span_from unit word None = option_map one_span (number_in unit word)
+span_from unit word (Some ends) = two_ends unit ends.0 ends.1
 
 -- A, or A..B
-abbrev pub span_of : List ℕ → Option Span
-span_of word = span_from word (cut 46 word)
+abbrev pub span_of : Unit → List ℕ → Option Span
+span_of unit word = span_from unit word (ends_of word)
 
-abbrev pub span_at : Words → Option (Span × Words)
-span_at ws = do
+abbrev pub span_at : Unit → Words → Option (Span × Words)
+span_at unit ws = do
   w ← next ws
-  s ← span_of w.0
+  s ← span_of unit w.0
   Some (s, w.1)
 
 -- a range behind a word, or any number where the word isn't there
-abbrev pub optional_span : List ℕ → Words → Option (Span × Words)
-optional_span word [] = Some (any_span, [])
-optional_span word (first ∷ more) = if bytes_eq first word then span_at more else Some (any_span, first ∷ more)
+abbrev pub optional_span : List ℕ → Unit → Words → Option (Span × Words)
+optional_span word unit [] = Some (any_span, [])
+optional_span word unit (first ∷ more) = if bytes_eq first word then span_at unit more else Some (any_span, first ∷ more)
+
+-- ---- numbers with their units
+
+-- a power, but for one that is a bare number
+abbrev pub with_unit_of : List ℕ → Option ℕ → Option ℕ
+with_unit_of word None = number_in Microwatts word
+with_unit_of word (Some bare) = None
+
+abbrev pub quantity_at : Unit → Words → Option (ℕ × Words)
+quantity_at unit ws = do
+  w ← next ws
+  n ← number_in unit w.0
+  Some (n, w.1)
 
 -- ---- names
 
@@ -117,28 +155,82 @@ kind_at ws = do
 
 -- ---- expectations
 
+-- behind a word that stands before a time
+abbrev pub to_time : ℕ → Words → Option (Period × Words)
+to_time from ws = do
+  to ← quantity_at Microseconds ws
+  Some (record { from = from; to = Some to.0 }, to.1)
+
+abbrev pub at_time : Words → Option (Period × Words)
+at_time ws = do
+  at ← quantity_at Microseconds ws
+  Some (record { from = at.0; to = Some at.0 }, at.1)
+
+-- where the second end is left out, it is the run's
+abbrev pub from_with : ℕ → Words → Option Words → Option (Period × Words)
+from_with from ws None = Some (record { from = from; to = None }, ws)
+from_with from ws (Some behind) = to_time from behind
+
+abbrev pub from_time : Words → Option (Period × Words)
+from_time ws = do
+  from ← quantity_at Microseconds ws
+  from_with from.0 from.1 (after_word (codes "to") from.1)
+
+abbrev pub period_by : List ℕ → Words → Option (Period × Words)
+period_by word ws =
+    if bytes_eq word (codes "at") then at_time ws
+    else if bytes_eq word (codes "from") then from_time ws
+    else if bytes_eq word (codes "to") then to_time 0 ws
+    else None
+
+-- an instant, or the instants from one to another
+abbrev pub period_at : Words → Option (Period × Words)
+period_at ws = do
+  w ← next ws
+  period_by w.0 w.1
+
+-- a power, which has its unit
+abbrev pub power_at : Words → Option (ℕ × Words)
+power_at ws = do
+  w ← next ws
+  n ← with_unit_of w.0 (number w.0)
+  Some (n, w.1)
+
+-- at least so much power in microwatts, and none where the word isn't there
+abbrev pub optional_power : Words → Option (ℕ × Words)
+optional_power [] = Some (0, [])
+optional_power (first ∷ more) =
+    if bytes_eq first (codes "power") then option_and_then power_at (after_word (codes "at_least") more) else Some (0, first ∷ more)
+
 abbrev pub contract_of : Words → Option Expectation
 contract_of ws = do
   port ← number_at ws
-  rest ← after_word (codes "at") port.1
-  at ← number_at rest
-  voltage ← optional_span (codes "voltage") at.1
-  current ← optional_span (codes "current") voltage.1
-  alone (expect.Contract port.0 at.0 voltage.0 current.0) current.1
+  period ← period_at port.1
+  voltage ← optional_span (codes "voltage") Millivolts period.1
+  current ← optional_span (codes "current") Milliamperes voltage.1
+  power ← optional_power current.1
+  alone (expect.Contract port.0 period.0 (wanted.Such voltage.0 current.0 power.0)) power.1
 
 abbrev pub no_contract_of : Words → Option Expectation
 no_contract_of ws = do
   named ← after_word (codes "contract") ws
   port ← number_at named
-  rest ← after_word (codes "at") port.1
-  at ← number_at rest
-  alone (expect.NoContract port.0 at.0) at.1
+  period ← period_at port.1
+  alone (expect.Contract port.0 period.0 wanted.Nothing) period.1
 
 abbrev pub margin_of : Words → Option Expectation
 margin_of ws = do
   named ← after_word (codes "at_least") ws
-  least ← number_at named
+  least ← power_at named
   alone (expect.Margin least.0) least.1
+
+-- the number of a margin whose unit is left out, by what stands behind `expect`
+abbrev pub bare_margin : Words → Option ℕ
+bare_margin ws = do
+  margin ← after_word (codes "margin") ws
+  named ← after_word (codes "at_least") margin
+  bare ← number_at named
+  alone bare.0 bare.1
 
 abbrev pub faults_of : Words → Option Expectation
 faults_of ws = do
@@ -164,8 +256,8 @@ packet_of ws = do
   side ← side_named named.0
   kind ← kind_at named.1
   between ← after_word (codes "between") kind.1
-  from ← number_at between
-  to ← number_at from.1
+  from ← quantity_at Microseconds between
+  to ← quantity_at Microseconds from.1
   alone (expect.Packet port.0 side kind.0 from.0 to.0) to.1
 
 abbrev pub expectation_named : List ℕ → List ℕ → Words → Option Expectation
@@ -203,9 +295,17 @@ abbrev pub first_span : Option Span → Option Span → Option Span
 first_span None other = other
 first_span (Some span) other = Some span
 
+abbrev pub empty_ends : ℕ → Option ℕ → Option Span
+empty_ends from None = None
+empty_ends from (Some to) = if_empty (record { from = from; to = to })
+
+abbrev pub empty_wanted : Wanted → Option Span
+empty_wanted (wanted.Such voltage current least) = first_span (if_empty voltage) (if_empty current)
+empty_wanted wanted.Nothing = None
+
 -- the first range of an expectation in which no number is
 abbrev pub empty_span : Expectation → Option Span
-empty_span (expect.Contract port at voltage current) = first_span (if_empty voltage) (if_empty current)
+empty_span (expect.Contract port period wants) = first_span (empty_ends period.from period.to) (empty_wanted wants)
 empty_span (expect.Packet port side kind from to) = if_empty (record { from = from; to = to })
 empty_span _ = None
 
@@ -216,9 +316,14 @@ abbrev pub ranged : Expectation → Option Span → TestLine
 ranged expectation None = line_is.Expect expectation
 ranged expectation (Some span) = line_is.EmptyRange span
 
-abbrev pub expect_line : Option Expectation → TestLine
-expect_line None = line_is.NoTest
-expect_line (Some expectation) = ranged expectation (empty_span expectation)
+-- what is none may be a margin without its unit
+abbrev pub no_expectation : Option ℕ → TestLine
+no_expectation None = line_is.NoTest
+no_expectation (Some bare) = line_is.BareMargin bare
+
+abbrev pub expect_line : Option Expectation → Option ℕ → TestLine
+expect_line None bare = no_expectation bare
+expect_line (Some expectation) bare = ranged expectation (empty_span expectation)
 
 abbrev pub lose_line : Option Lost → TestLine
 lose_line None = line_is.NoTest
@@ -227,7 +332,7 @@ lose_line (Some lost) = line_is.Lose lost
 abbrev pub line_named : List ℕ → Option (List ℕ × Words) → TestLine
 line_named line None = line_is.Edit
 line_named line (Some first) =
-    if bytes_eq first.0 (codes "expect") then expect_line (expectation_of line first.1)
+    if bytes_eq first.0 (codes "expect") then expect_line (expectation_of line first.1) (bare_margin first.1)
     else if bytes_eq first.0 (codes "lose") then lose_line (lost_of first.1)
     else line_is.Edit
 

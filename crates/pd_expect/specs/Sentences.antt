@@ -1,11 +1,11 @@
 -- What an expectation says of a run, and when it is met.
 use Rattle.std.specs.Prelude.{◌≡◌, ℕ, ◌==◌, ◌&&◌, nat_le, nat_lt, Bool, true, false, List, [], if◌then◌else◌, bytes_eq, Option, Some, None}
-use Rattle.std.specs.List.{filter_map, last_or, list_any}
+use Rattle.std.specs.Prelude.{not, is_some, unwrap_or}
+use Rattle.std.specs.List.{list_any}
 use Rattle.pd_header.specs.declared.kind.Kind.{Kind}
 use Rattle.pd_header.specs.declared.side.Side.{Side}
 use Rattle.pd_header.specs.Kinds.{kind_of_header, name_of}
 use Rattle.pd_tell.specs.Words.{side_words}
-use Rattle.pd_objects.specs.declared.contract.Contract.{Contract}
 use Rattle.pd_line.specs.declared.notes.Start.{Start}
 use Rattle.pd_line.specs.declared.notes.Start.TheVariants as start
 use Rattle.pd_port.specs.declared.entry.Entry.{Entry}
@@ -13,23 +13,13 @@ use Rattle.pd_scenario.specs.Limits.{is_port}
 use Rattle.pd_scenario.specs.Plan.{Plan}
 use Rattle.pd_report.specs.FaultLines.{fault_words}
 use Rattle.pd_report.specs.LeastMargin.{IsLeastMargin}
-use Rattle.pd_report.specs.Margins.{change_on, up_to}
-use Rattle.pd_sweep.specs.Summaries.{left_by, mishaps_of}
-use Rattle.pd_expect.specs.Lines.{is_within, quoted}
+use Rattle.pd_sweep.specs.Summaries.{mishaps_of}
+use Rattle.pd_expect.specs.Lines.{quoted}
+use Rattle.pd_expect.specs.OverTime.{IsFirstBreak, Moves}
 use Rattle.pd_expect.specs.declared.found.Found.{Found}
 use Rattle.pd_expect.specs.declared.found.Found.TheVariants as found
 use Rattle.pd_expect.specs.declared.lines.Expectation.{Expectation}
 use Rattle.pd_expect.specs.declared.lines.Expectation.TheVariants as expect
-use Rattle.pd_expect.specs.declared.span.Span.{Span}
-
-abbrev pub Moves : Type 0
-Moves = List (ℕ × Entry)
-
--- ---- contracts
-
--- the contract of a port at the end of an instant, the ports being numbered from 1: what the last change of it up to then has left
-abbrev pub contract_at : ℕ → ℕ → Moves → Option Contract
-contract_at port at moves = left_by None (last_or None (filter_map (change_on port) (up_to at moves)))
 
 -- ---- faults
 
@@ -57,8 +47,8 @@ has_packet port side kind from to move =
 
 -- ---- what a run has of what is expected
 abbrev pub IsFound : Plan → Moves → List ℕ → Expectation → Found → Type 0
-IsFound plan moves line (expect.Contract port at voltage current) (found.Contract stands) = stands ≡ contract_at port at moves
-IsFound plan moves line (expect.NoContract port at) (found.Contract stands) = stands ≡ contract_at port at moves
+IsFound plan moves line (expect.Contract port period wants) (found.Contract broken) =
+    IsFirstBreak port wants moves period.from (unwrap_or period.to plan.end) broken
 IsFound plan moves line (expect.Margin least) (found.Least margin) = IsLeastMargin plan moves margin
 IsFound plan moves line expect.NoFaults (found.Faults count) = count ≡ (mishaps_of moves).faults
 IsFound plan moves line (expect.Fault port) (found.Fault there) = there ≡ list_any (has_fault port (words_of (quoted line))) moves
@@ -68,17 +58,8 @@ IsFound plan moves line _ _ = ⊥
 
 -- ---- whether that is what is expected
 
-abbrev pub is_such : Span → Span → Option Contract → Bool
-is_such voltage current None = false
-is_such voltage current (Some c) = is_within voltage c.mv && is_within current c.ma
-
-abbrev pub is_none : Option Contract → Bool
-is_none None = true
-is_none (Some c) = false
-
 abbrev pub is_met : Expectation → Found → Bool
-is_met (expect.Contract port at voltage current) (found.Contract stands) = is_such voltage current stands
-is_met (expect.NoContract port at) (found.Contract stands) = is_none stands
+is_met (expect.Contract port period wants) (found.Contract broken) = not (is_some broken)
 is_met (expect.Margin least) (found.Least margin) = nat_le least margin.left
 is_met expect.NoFaults (found.Faults count) = count == 0
 is_met (expect.Fault port) (found.Fault there) = there
@@ -89,8 +70,7 @@ is_met _ _ = false
 
 -- the port that an expectation names
 abbrev pub port_of : Expectation → Option ℕ
-port_of (expect.Contract port at voltage current) = Some port
-port_of (expect.NoContract port at) = Some port
+port_of (expect.Contract port period wants) = Some port
 port_of (expect.Margin least) = None
 port_of expect.NoFaults = None
 port_of (expect.Fault port) = Some port
@@ -105,8 +85,7 @@ unknown_port n (Some port) = if is_port n port then None else Some port
 
 -- the last time that an expectation names
 abbrev pub last_time : Expectation → Option ℕ
-last_time (expect.Contract port at voltage current) = Some at
-last_time (expect.NoContract port at) = Some at
+last_time (expect.Contract port period wants) = Some (unwrap_or period.to period.from)
 last_time (expect.Margin least) = None
 last_time expect.NoFaults = None
 last_time (expect.Fault port) = None

@@ -13,7 +13,7 @@ use Rattle.pd_expect.specs.Details.{details}
 use Rattle.pd_expect.specs.Lines.{test_line}
 use Rattle.pd_expect.specs.Losses.{IsLoss}
 use Rattle.pd_expect.specs.Sentences.{IsFound, is_met, last_time, late_time, port_of, unknown_port}
-use Rattle.pd_expect.specs.Words.{empty_range_line, failure_line, late_line, loss_line, no_test_line, time_word}
+use Rattle.pd_expect.specs.Words.{bare_margin_line, empty_range_line, failure_line, late_line, loss_line, no_test_line, time_word}
 use Rattle.pd_expect.specs.declared.found.Found.{Found}
 use Rattle.pd_expect.specs.declared.lines.Expectation.{Expectation}
 use Rattle.pd_expect.specs.declared.lines.Lost.{Lost}
@@ -96,6 +96,8 @@ AnswersAs n c at line tally (line_is.Expect expectation) answer =
 AnswersAs n c at line tally (line_is.Lose lost) answer = Loses n c at tally lost answer
 AnswersAs n c at line tally (line_is.EmptyRange span) answer =
     answer ≡ record { said = empty_range_line at span; tally = one_refused tally; after = c }
+AnswersAs n c at line tally (line_is.BareMargin bare) answer =
+    answer ≡ record { said = bare_margin_line at bare; tally = one_refused tally; after = c }
 AnswersAs n c at line tally line_is.NoTest answer =
     answer ≡ record { said = no_test_line at line; tally = one_refused tally; after = c }
 

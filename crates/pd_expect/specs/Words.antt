@@ -1,5 +1,6 @@
 -- What is said of a line of a test script: this product's own form, docs/FORMATS.md, "Tests".
-use Rattle.std.specs.Prelude.{ℕ, zero, suc, ◌==◌, if◌then◌else◌, List, [], ◌∷◌, ◌++◌, codes, decimal, bytes_eq, Option, Some, None}
+use Rattle.std.specs.Prelude.{ℕ, zero, suc, ◌==◌, Bool, false, if◌then◌else◌, List, [], ◌∷◌, ◌++◌, codes, decimal, bytes_eq}
+use Rattle.std.specs.Prelude.{Option, Some, None}
 use Rattle.pd_text.specs.declared.piece.Form.TheVariants.{Words}
 use Rattle.pd_text.specs.declared.piece.Unit.TheVariants.{Plain}
 use Rattle.pd_text.specs.Pieces.{PieceData, line_number, line_words, string}
@@ -17,6 +18,8 @@ use Rattle.pd_expect.specs.declared.loss.LoseFault.{LoseFault}
 use Rattle.pd_expect.specs.declared.loss.LoseFault.TheVariants as fault
 use Rattle.pd_expect.specs.declared.lines.Expectation.{Expectation}
 use Rattle.pd_expect.specs.declared.lines.Expectation.TheVariants as expect
+use Rattle.pd_expect.specs.declared.lines.Period.{Period}
+use Rattle.pd_expect.specs.declared.over_time.Break.{Break}
 use Rattle.pd_expect.specs.declared.span.Span.{Span}
 use Rattle.pd_expect.specs.declared.tally.TestTally.{TestTally}
 
@@ -32,9 +35,14 @@ contract_words (Some c) = known_words c.position c.mv c.ma
 abbrev pub faults_word : ℕ → List ℕ
 faults_word count = if count == 1 then codes " fault" else codes " faults"
 
+-- the contract where it isn't as wanted
+abbrev pub stands_of : Option Break → Option Contract
+stands_of None = None
+stands_of (Some broken) = broken.stands
+
 -- what there is in place of what is expected
 unfoldable pub found_words : Found → List ℕ
-found_words (found.Contract stands) = contract_words stands
+found_words (found.Contract broken) = contract_words (stands_of broken)
 found_words (found.Least margin) = codes "margin " ++ (decimal margin.left ++ (codes " at " ++ decimal margin.at))
 found_words (found.Faults count) = decimal count ++ faults_word count
 found_words (found.Fault there) = codes "no such fault"
@@ -57,9 +65,9 @@ failure_line at line what details =
 -- the form of a line, by the word behind `expect`
 abbrev pub form_named : List ℕ → List ℕ
 form_named word =
-    if bytes_eq word (codes "contract") then codes "`expect contract PORT at TIME [voltage RANGE] [current RANGE]`"
-    else if bytes_eq word (codes "no") then codes "`expect no contract PORT at TIME`"
-    else if bytes_eq word (codes "margin") then codes "`expect margin at_least MICROWATTS`"
+    if bytes_eq word (codes "contract") then codes "`expect contract PORT TIME [voltage RANGE] [current RANGE] [power at_least POWER]`"
+    else if bytes_eq word (codes "no") then codes "`expect no contract PORT TIME`"
+    else if bytes_eq word (codes "margin") then codes "`expect margin at_least POWER`"
     else if bytes_eq word (codes "faults") then codes "`expect faults none`"
     else if bytes_eq word (codes "fault") then codes "`expect fault PORT \"WORDS\"`"
     else if bytes_eq word (codes "packet") then codes "`expect packet PORT SIDE NAME between FROM TO`"
@@ -86,11 +94,36 @@ abbrev pub empty_range_words : Span → List ℕ
 empty_range_words span =
     text_of_all Words (line_number (codes "no number is from ") Plain span.from ∷ line_number (codes " to ") Plain span.to ∷ [])
 
+-- a margin without its unit: which ones it may be
+abbrev pub bare_margin_words : ℕ → List ℕ
+bare_margin_words n =
+    text_of_all Words
+    (line_number (codes "a power has its unit: ") Plain n ∷ line_number (codes "mW or ") Plain n ∷ line_words (codes "uW?") ∷ [])
+
+unfoldable pub bare_margin_line : FrontData → ℕ → List ℕ
+bare_margin_line at n = line_with (refused_at at Syntax) (said [] (bare_margin_words n) [])
+
 unfoldable pub empty_range_line : FrontData → Span → List ℕ
 empty_range_line at span = line_with (refused_at at Syntax) (said [] (empty_range_words span) (codes "the lesser one comes first"))
 
+-- a period is one instant
+abbrev pub is_end_at : ℕ → Option ℕ → Bool
+is_end_at from None = false
+is_end_at from (Some to) = to == from
+
+abbrev pub is_instant : Period → Bool
+is_instant period = is_end_at period.from period.to
+
 -- the word for the last time in the form of an expectation
+abbrev pub end_word : Option ℕ → List ℕ
+end_word None = codes "FROM"
+end_word (Some to) = codes "TO"
+
+abbrev pub period_word : Period → List ℕ
+period_word period = if is_instant period then codes "TIME" else end_word period.to
+
 abbrev pub time_word : Expectation → List ℕ
+time_word (expect.Contract port period wants) = period_word period
 time_word (expect.Packet port side kind from to) = codes "TO"
 time_word _ = codes "TIME"
 

@@ -3,7 +3,7 @@
 ghost use Rattle.std.specs.Prelude.{◌≡◌, ◌<◌, MatchOption, length, slice_get};
 ghost use Rattle.pd_sweep.specs.Summaries.{left_by};
 ghost use Rattle.pd_expect.specs.Along.{stands_after};
-ghost use Rattle.pd_expect.specs.Sentences.{contract_at};
+ghost use Rattle.pd_expect.specs.OverTime.{contract_at};
 
 use pd_objects::Contract;
 use pd_port::{ContractChange, Entry};

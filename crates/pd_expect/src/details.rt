@@ -1,14 +1,15 @@
 //! What is told of an expectation that isn't met, behind what there is in its place.
 
 ghost use Rattle.std.specs.Prelude.{◌≡◌, ◌++◌, IfOk, OnOk};
-ghost use Rattle.pd_expect.specs.Details.{details, margin_details};
+ghost use Rattle.pd_expect.specs.Details.{break_details, details, from_words, margin_details};
 
-use crate::Expectation;
-use crate::found::Found;
+use crate::found::{Found, is_instant};
 use crate::near::{Sign, nearest, push_near, push_until};
 use crate::notes::{notes_of, push_first, push_others};
+use crate::{Expectation, Period};
 use pd_run::Runner;
 use pd_sweep::{makers_of, push_makers};
+use pd_tell::push_number;
 use std::alloc::{AllocError, Global};
 
 /// Writes the ports whose contracts are made at the instant at which the least is left.
@@ -25,6 +26,39 @@ fn push_margin<const N: usize, T: Runner<N>>(
     }
 }
 
+/// Writes from when there is another contract than is wanted, where the line doesn't say it.
+fn push_from(text: &mut Vec<u8>, period: Period, at: u64) -> Result<(), AllocError>
+    ensures { OnOk result (text.new.items ≡ text.old.items ++ from_words period at) }
+{
+    if is_instant(period) {
+        return Ok(());
+    }
+    text.extend_from_slice(b" from ")?;
+    push_number(text, at)
+}
+
+/// Writes from when and until when there is another contract than is wanted.
+fn push_break<const N: usize, T: Runner<N>>(
+    text: &mut Vec<u8>,
+    run: &T,
+    port: u64,
+    period: Period,
+    found: &Found,
+) -> Result<(), AllocError>
+    ensures { OnOk result (text.new.items ≡ text.old.items ++ break_details port period found.now (T.entries run.now)) }
+{
+    match found {
+        Found::Contract(Some(broken)) => {
+            push_from(text, period, broken.at)?;
+            push_until(
+                text,
+                nearest(run, &Sign::Change { port }, 0, broken.at).after,
+            )
+        }
+        _ => Ok(()),
+    }
+}
+
 /// Writes what is told behind what there is.
 fn push_details<const N: usize, T: Runner<N>>(
     alloc: Global,
@@ -36,9 +70,7 @@ fn push_details<const N: usize, T: Runner<N>>(
     ensures { OnOk result (text.new.items ≡ text.old.items ++ details expectation.now found.now (T.entries run.now)) }
 {
     match *expectation {
-        Expectation::Contract { port, at, .. } | Expectation::NoContract { port, at } => {
-            push_until(text, nearest(run, &Sign::Change { port }, 0, at).after)
-        }
+        Expectation::Contract { port, period, .. } => push_break(text, run, port, period, found),
         Expectation::Margin { .. } => push_margin(text, run, found),
         Expectation::NoFaults => {
             let notes = notes_of(alloc, run, None)?;

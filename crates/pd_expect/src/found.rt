@@ -3,13 +3,12 @@
 ghost use Rattle.std.specs.Prelude.{◌≡◌};
 ghost use Rattle.pd_scenario.specs.Plans.{plan_of};
 ghost use Rattle.pd_expect.specs.Lines.{quoted};
-ghost use Rattle.pd_expect.specs.Sentences.{IsFound, is_met, is_none, is_such, last_time, port_of, words_of};
-ghost use Rattle.pd_expect.specs.Words.{time_word};
+ghost use Rattle.pd_expect.specs.Sentences.{IsFound, is_met, last_time, port_of, words_of};
+ghost use Rattle.pd_expect.specs.Words.{is_instant, period_word, time_word};
 
-use crate::contract::contract_at;
+use crate::over_time::{Break, first_break};
 use crate::seek::{Sought, has_fault};
-use crate::{Expectation, Span, quoted};
-use pd_objects::Contract;
+use crate::{Expectation, Period, quoted};
 use pd_report::{Margin, least_margin};
 use pd_run::Runner;
 use pd_scenario::Scenario;
@@ -18,8 +17,8 @@ use pd_sweep::summary_of;
 /// What a run has of what is expected.
 #[derive(Clone, Copy, Debug)]
 pub enum Found {
-    /// The contract of the port at the end of that instant.
-    Contract(Option<Contract>),
+    /// Where the contract of the port is first another than is wanted.
+    Contract(Option<Break>),
     /// The least that the contracts leave of the budget.
     Least(Margin),
     /// So many faults.
@@ -50,8 +49,13 @@ pub(crate) fn found_in<const N: usize, T: Runner<N>>(
     ensures { IsFound (plan_of scenario.now) (T.entries run.now) line.now expectation.now result }
 {
     match *expectation {
-        Expectation::Contract { port, at, .. } | Expectation::NoContract { port, at } => {
-            Found::Contract(contract_at(run, port, at))
+        Expectation::Contract {
+            port,
+            period,
+            wanted,
+        } => {
+            let to = period.to.unwrap_or(scenario.end_time());
+            Found::Contract(first_break(run, port, wanted, period.from, to))
         }
         Expectation::Margin { .. } => Found::Least(least_margin(run, scenario)),
         Expectation::NoFaults => Found::Faults(summary_of(run).mishaps.faults),
@@ -80,15 +84,7 @@ pub(crate) fn is_met(expectation: &Expectation, found: &Found) -> bool
     ensures { result ≡ is_met expectation.now found.now }
 {
     match (*expectation, *found) {
-        (
-            Expectation::Contract {
-                voltage,
-                current,
-                ..
-            },
-            Found::Contract(stands),
-        ) => is_such(voltage, current, stands),
-        (Expectation::NoContract { .. }, Found::Contract(stands)) => stands.is_none(),
+        (Expectation::Contract { .. }, Found::Contract(broken)) => broken.is_none(),
         (Expectation::Margin { least }, Found::Least(margin)) => least <= margin.left,
         (Expectation::NoFaults, Found::Faults(count)) => count == 0,
         (Expectation::Fault { .. }, Found::Fault(there))
@@ -103,7 +99,6 @@ pub(crate) fn port_of(expectation: &Expectation) -> Option<u64>
 {
     match *expectation {
         Expectation::Contract { port, .. }
-        | Expectation::NoContract { port, .. }
         | Expectation::Fault { port }
         | Expectation::Packet { port, .. } => Some(port),
         Expectation::Margin { .. } | Expectation::NoFaults => None,
@@ -115,9 +110,32 @@ pub(crate) fn last_time(expectation: &Expectation) -> Option<u64>
     ensures { result ≡ last_time expectation.now }
 {
     match *expectation {
-        Expectation::Contract { at, .. } | Expectation::NoContract { at, .. } => Some(at),
+        Expectation::Contract { period, .. } => Some(period.to.unwrap_or(period.from)),
         Expectation::Packet { to, .. } => Some(to),
         Expectation::Margin { .. } | Expectation::NoFaults | Expectation::Fault { .. } => None,
+    }
+}
+
+/// Whether a period is one instant.
+pub(crate) fn is_instant(period: Period) -> bool
+    ensures { result ≡ is_instant period }
+{
+    match period.to {
+        None => false,
+        Some(to) => to == period.from,
+    }
+}
+
+/// The word that stands for the last time of a period.
+fn period_word(period: Period) -> &'static [u8]
+    ensures { result.now ≡ period_word period }
+{
+    if is_instant(period) {
+        return b"TIME";
+    }
+    match period.to {
+        None => b"FROM",
+        Some(_) => b"TO",
     }
 }
 
@@ -126,19 +144,8 @@ pub(crate) fn time_word(expectation: &Expectation) -> &'static [u8]
     ensures { result.now ≡ time_word expectation.now }
 {
     match *expectation {
+        Expectation::Contract { period, .. } => period_word(period),
         Expectation::Packet { .. } => b"TO",
         _ => b"TIME",
-    }
-}
-
-/// Whether a contract is of such a voltage and such a current.
-fn is_such(voltage: Span, current: Span, stands: Option<Contract>) -> bool
-    ensures { result ≡ is_such voltage current stands }
-{
-    match stands {
-        None => false,
-        Some(contract) => {
-            voltage.has(u64::from(contract.mv)) && current.has(u64::from(contract.ma))
-        }
     }
 }

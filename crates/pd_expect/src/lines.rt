@@ -1,32 +1,48 @@
 //! The lines of a test script.
 
 ghost use Rattle.std.specs.Prelude.{◌≡◌, bytes_eq, option_map};
-ghost use Rattle.pd_edit_lines.specs.Words.{next, number_at, words};
+ghost use Rattle.pd_edit_lines.specs.Words.{next, number, number_at, words};
 ghost use Rattle.pd_header.specs.Kinds.{name_of};
 ghost use Rattle.pd_expect.specs.Lines.{after_word, alone, contract_of, expect_line, expectation_named, expectation_of, fault_of};
 ghost use Rattle.pd_expect.specs.Lines.{faults_of, is_comment, is_over, kind_at, kind_named, line_named, lose_line, lost_of};
 ghost use Rattle.pd_expect.specs.Lines.{empty_span, first_span, if_empty};
-ghost use Rattle.pd_expect.specs.Lines.{margin_of, no_contract_of, optional_span, packet_of, quoted, side_named, span_at, test_line};
+ghost use Rattle.pd_expect.specs.Lines.{margin_of, no_contract_of, optional_span, packet_of, quantity_at, quoted, side_named, span_at};
+ghost use Rattle.pd_expect.specs.Lines.{at_time, bare_margin, empty_ends, empty_wanted, from_time, no_expectation, optional_power};
+ghost use Rattle.pd_expect.specs.Lines.{period_at, period_by, power_at, test_line, to_time, with_unit_of};
 
 use crate::span::{Span, cut};
 use pd_edit_lines::{next, number};
 use pd_header::{Kind, Side};
+use pd_units::{Unit, number_in};
+
+/// The instants from one to another, both of them among these, in microseconds; where there is no last one, to the run's end.
+#[derive(Clone, Copy, Debug)]
+pub struct Period {
+    pub from: u64,
+    pub to: Option<u64>,
+}
+
+/// What a contract is to be.
+#[derive(Clone, Copy, Debug)]
+pub enum Wanted {
+    /// One of such a voltage, in millivolts, of such a current, in milliamperes, and of so much power at the least, in microwatts.
+    Such {
+        voltage: Span,
+        current: Span,
+        least: u64,
+    },
+    /// None.
+    Nothing,
+}
 
 /// What is expected of a run.
 #[derive(Clone, Copy, Debug)]
 pub enum Expectation {
-    /// At the end of an instant, in microseconds, the port has a contract of such a voltage, in millivolts, and such a current, in
-    /// milliamperes.
+    /// At the end of each of these instants the contract of the port is as wanted.
     Contract {
         port: u64,
-        at: u64,
-        voltage: Span,
-        current: Span,
-    },
-    /// At the end of an instant the port has no contract.
-    NoContract {
-        port: u64,
-        at: u64,
+        period: Period,
+        wanted: Wanted,
     },
     /// At the end of each instant the contracts leave so many microwatts of the budget, at the least.
     Margin {
@@ -65,6 +81,8 @@ pub enum TestLine {
     Lose(Lost),
     /// It would be an expectation, but for a range that ends before it begins.
     EmptyRange(Span),
+    /// It would be an expectation of a margin, but for the unit that this number lacks.
+    BareMargin(u64),
     /// It begins as one of the others, and is none.
     NoTest,
 }
@@ -121,20 +139,28 @@ fn number_at(line: &[u8]) -> Option<(u64, &[u8])>
     Some((number(word)?, rest))
 }
 
-/// The first word as a range, and what stands behind it.
-fn span_at(line: &[u8]) -> Option<(Span, &[u8])>
-    ensures { option_map (λ x. (x.0, words x.1.now)) result ≡ span_at (words line.now) }
+/// The first word as a number of a unit, and what stands behind it.
+fn quantity_at(unit: Unit, line: &[u8]) -> Option<(u64, &[u8])>
+    ensures { option_map (λ x. (x.0, words x.1.now)) result ≡ quantity_at unit (words line.now) }
 {
     let (word, rest) = next(line)?;
-    Some((Span::read(word)?, rest))
+    Some((number_in(unit, word)?, rest))
+}
+
+/// The first word as a range of numbers of a unit, and what stands behind it.
+fn span_at(unit: Unit, line: &[u8]) -> Option<(Span, &[u8])>
+    ensures { option_map (λ x. (x.0, words x.1.now)) result ≡ span_at unit (words line.now) }
+{
+    let (word, rest) = next(line)?;
+    Some((Span::read(unit, word)?, rest))
 }
 
 /// The range behind a word, or any number where the word isn't there; and what stands behind it.
-fn optional_span<'a>(word: &[u8], line: &'a [u8]) -> Option<(Span, &'a [u8])>
-    ensures { option_map (λ x. (x.0, words x.1.now)) result ≡ optional_span word.now (words line.now) }
+fn optional_span<'a>(word: &[u8], unit: Unit, line: &'a [u8]) -> Option<(Span, &'a [u8])>
+    ensures { option_map (λ x. (x.0, words x.1.now)) result ≡ optional_span word.now unit (words line.now) }
 {
     match next(line) {
-        Some((first, rest)) if first == word => span_at(rest),
+        Some((first, rest)) if first == word => span_at(unit, rest),
         _ => Some((Span::ANY, line)),
     }
 }
@@ -177,20 +203,110 @@ fn kind_at(line: &[u8]) -> Option<(Kind, &[u8])>
     Some((kind_named(word)?, rest))
 }
 
-/// `PORT at TIME [voltage RANGE] [current RANGE]`.
+/// `TIME`: one instant.
+fn at_time(line: &[u8]) -> Option<(Period, &[u8])>
+    ensures { option_map (λ x. (x.0, words x.1.now)) result ≡ at_time (words line.now) }
+{
+    let (at, rest) = quantity_at(Unit::Microseconds, line)?;
+    let period = Period {
+        from: at,
+        to: Some(at),
+    };
+    Some((period, rest))
+}
+
+/// `TIME`: the last of the instants from one on.
+fn to_time(from: u64, line: &[u8]) -> Option<(Period, &[u8])>
+    ensures { option_map (λ x. (x.0, words x.1.now)) result ≡ to_time from (words line.now) }
+{
+    let (to, rest) = quantity_at(Unit::Microseconds, line)?;
+    let period = Period { from, to: Some(to) };
+    Some((period, rest))
+}
+
+/// `TIME [to TIME]`.
+fn from_time(line: &[u8]) -> Option<(Period, &[u8])>
+    ensures { option_map (λ x. (x.0, words x.1.now)) result ≡ from_time (words line.now) }
+{
+    let (from, rest) = quantity_at(Unit::Microseconds, line)?;
+    match after_word(b"to", rest) {
+        None => Some((Period { from, to: None }, rest)),
+        Some(behind) => to_time(from, behind),
+    }
+}
+
+/// The instants by the word that stands before a time.
+fn period_by<'a>(word: &[u8], line: &'a [u8]) -> Option<(Period, &'a [u8])>
+    ensures { option_map (λ x. (x.0, words x.1.now)) result ≡ period_by word.now (words line.now) }
+{
+    if word == b"at".as_slice() {
+        return at_time(line);
+    }
+    if word == b"from".as_slice() {
+        return from_time(line);
+    }
+    if word == b"to".as_slice() {
+        return to_time(0, line);
+    }
+    None
+}
+
+/// `at TIME`, `from TIME to TIME`, or one of these ends alone.
+fn period_at(line: &[u8]) -> Option<(Period, &[u8])>
+    ensures { option_map (λ x. (x.0, words x.1.now)) result ≡ period_at (words line.now) }
+{
+    let (word, rest) = next(line)?;
+    period_by(word, rest)
+}
+
+/// A power in microwatts, which has its unit.
+fn with_unit_of(word: &[u8]) -> Option<u64>
+    ensures { result ≡ with_unit_of word.now (number word.now) }
+{
+    match number(word) {
+        None => number_in(Unit::Microwatts, word),
+        Some(_) => None,
+    }
+}
+
+/// The first word as a power with its unit, and what stands behind it.
+fn power_at(line: &[u8]) -> Option<(u64, &[u8])>
+    ensures { option_map (λ x. (x.0, words x.1.now)) result ≡ power_at (words line.now) }
+{
+    let (word, rest) = next(line)?;
+    Some((with_unit_of(word)?, rest))
+}
+
+/// `[power at_least POWER]`, and what stands behind it.
+fn optional_power(line: &[u8]) -> Option<(u64, &[u8])>
+    ensures { option_map (λ x. (x.0, words x.1.now)) result ≡ optional_power (words line.now) }
+{
+    match next(line) {
+        Some((first, rest)) if first == b"power".as_slice() => {
+            power_at(after_word(b"at_least", rest)?)
+        }
+        _ => Some((0, line)),
+    }
+}
+
+/// `PORT TIME [voltage RANGE] [current RANGE] [power at_least POWER]`.
 fn contract_of(line: &[u8]) -> Option<Expectation>
     ensures { result ≡ contract_of (words line.now) }
 {
     let (port, rest) = number_at(line)?;
-    let rest = after_word(b"at", rest)?;
-    let (at, rest) = number_at(rest)?;
-    let (voltage, rest) = optional_span(b"voltage", rest)?;
-    let (current, rest) = optional_span(b"current", rest)?;
-    let expectation = Expectation::Contract {
-        port,
-        at,
+    let (period, rest) = period_at(rest)?;
+    let (voltage, rest) = optional_span(b"voltage", Unit::Millivolts, rest)?;
+    let (current, rest) = optional_span(b"current", Unit::Milliamperes, rest)?;
+    let (least, rest) = optional_power(rest)?;
+    let wanted = Wanted::Such {
         voltage,
         current,
+        least,
+    };
+    let expectation = Expectation::Contract {
+        port,
+        period,
+        wanted,
     };
     if is_over(rest) {
         Some(expectation)
@@ -199,32 +315,46 @@ fn contract_of(line: &[u8]) -> Option<Expectation>
     }
 }
 
-/// `contract PORT at TIME`.
+/// `contract PORT TIME`.
 fn no_contract_of(line: &[u8]) -> Option<Expectation>
     ensures { result ≡ no_contract_of (words line.now) }
 {
     let rest = after_word(b"contract", line)?;
     let (port, rest) = number_at(rest)?;
-    let rest = after_word(b"at", rest)?;
-    let (at, rest) = number_at(rest)?;
+    let (period, rest) = period_at(rest)?;
+    let expectation = Expectation::Contract {
+        port,
+        period,
+        wanted: Wanted::Nothing,
+    };
     if is_over(rest) {
-        Some(Expectation::NoContract { port, at })
+        Some(expectation)
     } else {
         None
     }
 }
 
-/// `at_least MICROWATTS`.
+/// `at_least POWER`.
 fn margin_of(line: &[u8]) -> Option<Expectation>
     ensures { result ≡ margin_of (words line.now) }
 {
     let rest = after_word(b"at_least", line)?;
-    let (least, rest) = number_at(rest)?;
+    let (least, rest) = power_at(rest)?;
     if is_over(rest) {
         Some(Expectation::Margin { least })
     } else {
         None
     }
+}
+
+/// `margin at_least NUMBER`: the number, whose unit is left out.
+fn bare_margin(line: &[u8]) -> Option<u64>
+    ensures { result ≡ bare_margin (words line.now) }
+{
+    let rest = after_word(b"margin", line)?;
+    let rest = after_word(b"at_least", rest)?;
+    let (bare, rest) = number_at(rest)?;
+    if is_over(rest) { Some(bare) } else { None }
 }
 
 /// `none`.
@@ -269,8 +399,8 @@ fn packet_of(line: &[u8]) -> Option<Expectation>
     let side = side_named(word)?;
     let (kind, rest) = kind_at(rest)?;
     let rest = after_word(b"between", rest)?;
-    let (from, rest) = number_at(rest)?;
-    let (to, rest) = number_at(rest)?;
+    let (from, rest) = quantity_at(Unit::Microseconds, rest)?;
+    let (to, rest) = quantity_at(Unit::Microseconds, rest)?;
     let expectation = Expectation::Packet {
         port,
         side,
@@ -354,27 +484,60 @@ fn first_span(first: Option<Span>, other: Option<Span>) -> Option<Span>
     }
 }
 
+/// Instants that end before they begin.
+fn empty_ends(from: u64, to: Option<u64>) -> Option<Span>
+    ensures { result ≡ empty_ends from to }
+{
+    match to {
+        None => None,
+        Some(to) => if_empty(Span { from, to }),
+    }
+}
+
+/// The first range of what a contract is to be in which no number is.
+fn empty_wanted(wanted: Wanted) -> Option<Span>
+    ensures { result ≡ empty_wanted wanted }
+{
+    match wanted {
+        Wanted::Such {
+            voltage,
+            current,
+            ..
+        } => first_span(if_empty(voltage), if_empty(current)),
+        Wanted::Nothing => None,
+    }
+}
+
 /// The first range of an expectation in which no number is.
 fn empty_span(expectation: &Expectation) -> Option<Span>
     ensures { result ≡ empty_span expectation.now }
 {
     match *expectation {
-        Expectation::Contract {
-            voltage,
-            current,
-            ..
-        } => first_span(if_empty(voltage), if_empty(current)),
+        Expectation::Contract { period, wanted, .. } => first_span(
+            empty_ends(period.from, period.to),
+            empty_wanted(wanted),
+        ),
         Expectation::Packet { from, to, .. } => if_empty(Span { from, to }),
         _ => None,
     }
 }
 
+/// What a line is that has no expectation, by the number of a margin without its unit.
+fn no_expectation(bare: Option<u64>) -> TestLine
+    ensures { result ≡ no_expectation bare }
+{
+    match bare {
+        None => TestLine::NoTest,
+        Some(bare) => TestLine::BareMargin(bare),
+    }
+}
+
 /// What a line is by what is expected, if anything is.
-fn expect_line(expectation: Option<Expectation>) -> TestLine
-    ensures { result ≡ expect_line expectation }
+fn expect_line(expectation: Option<Expectation>, bare: Option<u64>) -> TestLine
+    ensures { result ≡ expect_line expectation bare }
 {
     let Some(expectation) = expectation else {
-        return TestLine::NoTest;
+        return no_expectation(bare);
     };
     match empty_span(&expectation) {
         None => TestLine::Expect(expectation),
@@ -392,7 +555,7 @@ impl TestLine {
             return TestLine::Edit;
         };
         if word == b"expect".as_slice() {
-            return expect_line(expectation_of(line, rest));
+            return expect_line(expectation_of(line, rest), bare_margin(rest));
         }
         if word == b"lose".as_slice() {
             return match lost_of(rest) {

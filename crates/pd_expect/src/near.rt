@@ -1,8 +1,9 @@
 //! What of a run is nearest to a range of times.
 
 ghost use Rattle.std.specs.Prelude.{◌≡◌, ◌<◌, ◌++◌, MatchOption, OnOk, length, slice_get};
-ghost use Rattle.pd_expect.specs.Details.{has_sign, near_words, nearest, packet_details, until_words};
+ghost use Rattle.pd_expect.specs.Details.{has_sign, near_words, nearest, packet_details, times_of, until_words};
 ghost use Rattle.pd_expect.specs.Near.{beside, near_after, nothing_near, or_first};
+ghost use Rattle.pd_expect.specs.OverTime.{IsSoonest};
 
 use crate::seek::starts;
 use pd_header::{Kind, Side};
@@ -114,7 +115,8 @@ pub(crate) fn nearest<const N: usize, T: Runner<N>>(
     from: u64,
     to: u64,
 ) -> Near
-    ensures { result ≡ nearest sign.now from to (T.entries run.now) }
+    ensures value { result ≡ nearest sign.now from to (T.entries run.now) }
+    ensures soonest { IsSoonest (times_of sign.now (T.entries run.now)) to result.after }
 {
     let mut near = Near::nothing();
     for index in 0..run.len() {

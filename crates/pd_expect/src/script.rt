@@ -8,7 +8,7 @@ ghost use Rattle.pd_expect.specs.Details.{details};
 ghost use Rattle.pd_expect.specs.Named.{script_lines};
 ghost use Rattle.pd_expect.specs.Sentences.{last_time, late_time, port_of, unknown_port};
 ghost use Rattle.pd_expect.specs.Tests.{AnswersAs, Expects, ExpectsInTime, IsAnswer, Judges, Loses, Tests, answered, no_test, one_refused};
-ghost use Rattle.pd_expect.specs.Words.{empty_range_line, failure_line, late_line, no_test_line, time_word};
+ghost use Rattle.pd_expect.specs.Words.{bare_margin_line, empty_range_line, failure_line, late_line, no_test_line, time_word};
 ghost use Rattle.pd_expect.specs.declared.lines.TestLine.TheVariants.{Edit as line_is_edit};
 
 use crate::details::details;
@@ -16,7 +16,9 @@ use crate::found::{Found, found_in, is_met, last_time, port_of, time_word};
 use crate::loss::lose;
 use crate::named::without_mark;
 use crate::tally::TestTally;
-use crate::words::{push_empty_range, push_failure, push_late, push_loss, push_no_test};
+use crate::words::{
+    push_bare_margin, push_empty_range, push_failure, push_late, push_loss, push_no_test,
+};
 use crate::{Expectation, Lost, Span, TestLine};
 use pd_edit_lines::EditFault;
 use pd_explain::{Place, is_port};
@@ -248,6 +250,24 @@ fn refuse_range(
     Ok(TestReport { text, tally })
 }
 
+/// Says that a margin lacks its unit.
+fn refuse_margin(
+    alloc: Global,
+    at: &Front,
+    bare: u64,
+    tally: TestTally,
+) -> Result<TestReport, AllocError>
+    requires room { answered tally < 2 ^ 64 - 1 }
+    ensures text { IfOk result (λ report. report.text.items ≡ bare_margin_line at.now bare) }
+    ensures tally { IfOk result (λ report. report.tally ≡ one_refused tally) }
+    ensures room { IfOk result (λ report. answered report.tally ≤ answered tally + 1) }
+{
+    let mut text = Vec::new(alloc);
+    push_bare_margin(alloc, &mut text, at, bare)?;
+    let tally = tally.one_refused();
+    Ok(TestReport { text, tally })
+}
+
 /// What a line of a test script comes to.
 fn answer_line<const N: usize, T: Runner<N>>(
     alloc: Global,
@@ -270,6 +290,7 @@ fn answer_line<const N: usize, T: Runner<N>>(
         }
         TestLine::Lose(lost) => lose_named(alloc, run, scenario, at, &lost, tally, meter),
         TestLine::EmptyRange(span) => refuse_range(alloc, at, span, tally),
+        TestLine::BareMargin(bare) => refuse_margin(alloc, at, bare, tally),
         TestLine::NoTest => refuse(alloc, at, line, tally),
     }
 }

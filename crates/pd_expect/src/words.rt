@@ -8,11 +8,11 @@ ghost use Rattle.pd_edit_lines.specs.Words.{next, words};
 ghost use Rattle.pd_expect.specs.Words.{contract_words, failure_line, found_words, faults_word, known_words};
 ghost use Rattle.pd_expect.specs.Words.{empty_range_line, form_behind, form_named, form_of, late_line, loss_line, loss_words, there_words};
 ghost use Rattle.pd_expect.specs.Words.{empty_range_words, late_words, loss_piece, no_packet_words, no_test_line, no_test_words};
-ghost use Rattle.pd_expect.specs.Words.{numbered_piece, there};
+ghost use Rattle.pd_expect.specs.Words.{bare_margin_line, bare_margin_words, numbered_piece, stands_of, there};
 
-use crate::Span;
 use crate::found::Found;
 use crate::loss::LoseFault;
+use crate::{Break, Span};
 use itoa::Buffer;
 use pd_edit_lines::{EditFault, next};
 use pd_objects::Contract;
@@ -67,13 +67,23 @@ fn faults_word(count: u128) -> &'static [u8]
     if count == 1 { b" fault" } else { b" faults" }
 }
 
+/// The contract where it isn't as wanted.
+fn stands_of(broken: &Option<Break>) -> Option<Contract>
+    ensures { result ≡ stands_of broken.now }
+{
+    match broken {
+        None => None,
+        Some(broken) => broken.stands,
+    }
+}
+
 /// Writes what there is in place of what is expected.
 #[tactic(auto, unfolding(crate::specs::Words::found_words))]
 fn push_found(text: &mut Vec<u8>, found: &Found) -> Result<(), AllocError>
     ensures { OnOk result (text.new.items ≡ text.old.items ++ found_words found.now) }
 {
     match found {
-        Found::Contract(stands) => push_contract(text, stands),
+        Found::Contract(broken) => push_contract(text, &stands_of(broken)),
         Found::Least(margin) => {
             text.extend_from_slice(b"margin ")?;
             push_number(text, margin.left)?;
@@ -134,13 +144,13 @@ fn form_named(word: &[u8]) -> &'static [u8]
     ensures { result.now ≡ form_named word.now }
 {
     if word == b"contract".as_slice() {
-        return b"`expect contract PORT at TIME [voltage RANGE] [current RANGE]`";
+        return b"`expect contract PORT TIME [voltage RANGE] [current RANGE] [power at_least POWER]`";
     }
     if word == b"no".as_slice() {
-        return b"`expect no contract PORT at TIME`";
+        return b"`expect no contract PORT TIME`";
     }
     if word == b"margin".as_slice() {
-        return b"`expect margin at_least MICROWATTS`";
+        return b"`expect margin at_least POWER`";
     }
     if word == b"faults".as_slice() {
         return b"`expect faults none`";
@@ -235,6 +245,37 @@ pub(crate) fn push_empty_range(
         sentence.as_slice(),
         b"the lesser one comes first",
     )
+}
+
+/// Writes that a margin lacks its unit, and which ones it may have.
+fn push_bare_margin_words(text: &mut Vec<u8>, bare: u64) -> Result<(), AllocError>
+    ensures { OnOk result (text.new.items ≡ text.old.items ++ bare_margin_words bare) }
+{
+    push_pieces(
+        text,
+        Form::Words,
+        &[
+            LineNumber(b"a power has its unit: ", Plain, bare),
+            LineNumber(b"mW or ", Plain, bare),
+            LineWords(b"uW?"),
+        ],
+    )
+}
+
+/// Writes that a line is refused for a margin without its unit.
+#[tactic(auto, unfolding(crate::specs::Words::bare_margin_line))]
+pub(crate) fn push_bare_margin(
+    alloc: Global,
+    text: &mut Vec<u8>,
+    at: &Front,
+    bare: u64,
+) -> Result<(), AllocError>
+    ensures { OnOk result (text.new.items ≡ text.old.items ++ bare_margin_line at.now bare) }
+{
+    let front = refused_at(alloc, at, EditFault::Syntax)?;
+    let mut sentence = Vec::new(alloc);
+    push_bare_margin_words(&mut sentence, bare)?;
+    front.say(text, b"", sentence.as_slice(), b"")
 }
 
 /// Writes that a time is after the end.

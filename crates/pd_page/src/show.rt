@@ -23,7 +23,15 @@ fn shown(
     ensures { Shows choice.now script.now scenario.now result.ending result.text.items }
 {
     let mut output = no_output(alloc);
-    match show_text(alloc, scenario, script, Refused::Skipped, choice, &mut output, meter) {
+    match show_text(
+        alloc,
+        scenario,
+        script,
+        Refused::Skipped,
+        choice,
+        &mut output,
+        meter,
+    ) {
         Ok(()) => Answer {
             ending: Ending::Done,
             text: output.writer,

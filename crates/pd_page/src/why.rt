@@ -22,7 +22,15 @@ fn asked(
 ) -> Answer
     ensures { Asks question.now script.now scenario.now result.ending result.text.items }
 {
-    match why_text(alloc, scenario, script, Refused::Skipped, question, Form::Json, meter) {
+    match why_text(
+        alloc,
+        scenario,
+        script,
+        Refused::Skipped,
+        question,
+        Form::Json,
+        meter,
+    ) {
         Ok(said) => Answer {
             ending: Ending::Done,
             text: said,

@@ -210,7 +210,7 @@ module _ (f : ℕ → List ℕ) where
 -- ---- the entries of a run
 
 -- each entry is no later than those after it
-pub Rising : Moves → Type 0
+unfoldable pub Rising : Moves → Type 0
 Rising [] = Unit {0}
 Rising (m ∷ ms) = NoneBefore m.1.at ms × Rising ms
 

@@ -197,14 +197,15 @@ lines are those of an edit script, and beside them
 
   expect contract PORT at TIME [voltage RANGE] [current RANGE]
   expect no contract PORT at TIME
-  expect margin at_least MICROWATTS
+  expect margin at_least POWER
   expect faults none
   expect fault PORT \"WORDS\"
   expect packet PORT SIDE NAME between FROM TO
   lose NTH NAME of port PORT
 
 Each expectation is held against the run of the scenario as the lines before it left
-it. Times are in microseconds, voltages in mV, currents in mA; RANGE is a number, or
+it. Times are in microseconds, voltages in mV, currents in mA, or have their unit behind
+them, as 54.9ms, 20V and 1.5A; a POWER always has its unit, as 5W. RANGE is a number, or
 two as 1500..3000; TIME means the end of that instant, and a margin is left at the end
 of every one; WORDS are those of show faults; SIDE is src, snk or cbl, and NAME that of
 a message, as Request. lose loses the NTH such packet of the run, wherever edits have
