@@ -13,6 +13,9 @@ const PORTS = ["#e69f00", "#56b4e9", "#009e73", "#f0e442", "#0072b2", "#d55e00",
 const PHASE_HEIGHTS = [3, 12, 15, 15, 6];
 const STEPS = [1, 2, 5];
 
+/** Dashes; a long curve has none, since they take longer than all else. */
+const dashes = (points, dash) => (points.length < FEW ? dash : undefined);
+
 /** The step of an axis that has some eight of them. */
 function niceStep(whole, count) {
   const rough = whole / count, power = 10 ** Math.floor(Math.log10(rough));
@@ -23,6 +26,7 @@ function niceStep(whole, count) {
 export class Picture {
   constructor(canvas, colours) {
     this.canvas = canvas;
+    this.paints = new CanvasPaint(canvas);
     this.colours = colours;
     this.cursors = [null, null];
     this.hidden = new Set();
@@ -130,55 +134,54 @@ export class Picture {
     });
   }
 
+  /** While the window moves, what is scrolled out of sight isn't painted. */
   paintNow() {
-    const { canvas } = this, ratio = window.devicePixelRatio || 1;
-    const width = canvas.clientWidth, height = canvas.clientHeight;
-    if (canvas.width !== Math.round(width * ratio) || canvas.height !== Math.round(height * ratio)) {
-      canvas.width = Math.round(width * ratio);
-      canvas.height = Math.round(height * ratio);
-    }
-    const context = canvas.getContext("2d", { alpha: false });
-    context.setTransform(ratio, 0, 0, ratio, 0, 0);
-    const began = performance.now();
-    this.paintTo(new CanvasPaint(context), width, height);
+    const { canvas } = this, { scrollTop, clientHeight } = canvas.parentElement, began = performance.now();
+    if (!canvas.clientWidth || !canvas.clientHeight) return;
+    const sight = this.moves ? [scrollTop, scrollTop + clientHeight] : undefined;
+    this.paintTo(this.paints, canvas.clientWidth, canvas.clientHeight, sight);
     this.took = performance.now() - began;
   }
 
-  paintTo(paint, width, height) {
-    const { colours } = this;
-    this.width = width;
-    this.height = height;
-    paint.rect(0, 0, width, height, colours.paper);
-    if (!this.run) return;
-    this.places = [];
-    this.isLess = false;
-    this.near = this.moves ? 2 : 0.8;
-    const bottom = this.chartBottom(height);
-    this.paintAxes(paint, width, height, bottom);
-    paint.within(LEFT, 0, width - LEFT - RIGHT, bottom + 2, () => this.paintChart(paint, bottom));
-    let top = bottom + AXIS;
-    for (const port of this.shownPorts()) {
-      this.paintLaneNames(paint, port, top, width);
-      paint.within(LEFT, top, width - LEFT - RIGHT, this.laneHeight, () => this.paintLane(paint, port, top, width));
-      top += this.laneHeight;
-    }
-    this.paintLegend(paint, width);
-    paint.within(LEFT - 1, 0, width - LEFT - RIGHT + 2, height, () => this.paintCursors(paint, bottom, top, height));
+  paintTo(paint, width, height, sight = [0, height]) {
+    Object.assign(this, { width, height, places: [], isLess: false, near: this.moves ? 2 : 0.8 });
+    paint.begin(width, height, this.colours.paper, sight);
+    if (this.run) this.paintAll(paint, sight);
+    paint.end();
   }
 
-  paintAxes(paint, width, height, bottom) {
-    const { colours, view } = this, step = niceStep(view.to - view.from, Math.max((width - LEFT) / 110, 2));
+  paintAll(paint, [from, to]) {
+    const { width, height, laneHeight } = this, across = width - LEFT - RIGHT, bottom = this.chartBottom(height);
+    this.paintGrid(paint, width, height, bottom);
+    if (from < bottom) paint.within(LEFT, 0, across, bottom + 2, () => this.paintChart(paint, bottom));
+    let top = bottom + AXIS;
+    for (const port of this.shownPorts()) {
+      if (top < to && top + laneHeight > from) {
+        this.paintLaneNames(paint, port, top, width);
+        paint.within(LEFT, top, across, laneHeight, () => this.paintLane(paint, port, top, width));
+      }
+      top += laneHeight;
+    }
+    this.paintLegend(paint, width);
+    paint.within(LEFT - 1, 0, across + 2, height, () => this.paintCursors(paint, bottom, top, height));
+  }
+
+  /** The lines of the axes, with their values. Those across the chart shine through its areas. */
+  paintGrid(paint, width, height, bottom) {
+    const { colours, view } = this, step = niceStep(view.to - view.from, Math.max((width - LEFT) / 110, 2)), lines = [];
     for (let at = Math.ceil(view.from / step) * step; at <= view.to; at += step) {
-      const x = Math.round(this.x(at)) + 0.5;
-      paint.line(x, HEAD, x, height, colours.grid);
-      paint.text(x, bottom + 14, this.tick(at, step), colours.faint, { align: "center" });
+      const x = Math.round(this.x(at));
+      lines.push(x, HEAD, 1, height - HEAD);
+      paint.text(Math.min(x, width - RIGHT - 8), bottom + 14, this.tick(at, step), colours.faint, { align: "center" });
     }
     const top = this.top(), watt = niceStep(top, 4);
     for (let power = 0; power <= top; power += watt) {
-      const y = Math.round(this.y(power, bottom)) + 0.5;
-      paint.line(LEFT, y, width - RIGHT, y, colours.grid);
+      const y = Math.round(this.y(power, bottom));
+      lines.push(LEFT, y, width - LEFT - RIGHT, 1);
+      paint.line(LEFT, y + 0.5, width - RIGHT, y + 0.5, colours.paper, { alpha: 0.35 });
       paint.text(LEFT - 6, y + 4, watts(power), colours.faint, { align: "right" });
     }
+    paint.rects(lines, colours.grid);
   }
 
   tick(at, step) {
@@ -215,7 +218,9 @@ export class Picture {
     const across = (this.width - LEFT - RIGHT) / (to - from), up = (bottom - HEAD) / this.top();
     let column = -1, low = 0, high = 0, y = 0;
     for (let step = first; step < last; step++) {
-      const x = Math.max(LEFT + (curves.at[step] - from) * across, LEFT - 1), next = bottom - values[step] * up, pixel = Math.floor(x);
+      const next = bottom - values[step] * up;
+      if (next === y && column >= 0) continue;
+      const x = Math.max(LEFT + (curves.at[step] - from) * across, LEFT - 1), pixel = Math.floor(x);
       if (pixel !== column) {
         if (column >= 0) points.push(x, y);
         points.push(x, next);
@@ -236,29 +241,28 @@ export class Picture {
   paintChart(paint, bottom) {
     const { run, colours } = this, { curves } = run, { least } = curves, [first, last] = this.stepsOf(curves);
     const rough = this.moves && last - first > DENSE;
-    for (let port = run.ports - 1; port >= 0; port--) {
-      const points = this.corners(curves, curves.contracts[port], bottom, rough);
-      paint.path([points[0], bottom, ...points, points.at(-2), bottom], { fill: PORTS[port], alpha: colours.area });
-      if (!rough) paint.path(points, { stroke: colours.ink, width: 0.7, alpha: 0.8 });
-    }
+    const areas = curves.contracts.map((values, port) => ({ points: this.corners(curves, values, bottom, rough), fill: PORTS[port] }));
+    paint.areas(areas, bottom, colours.area, colours.paper);
+    if (!rough) for (const { points } of areas) paint.path(points, { stroke: colours.ink, width: 0.7, alpha: 0.8 });
     if (this.holds && !rough) {
       for (let port = run.ports - 1; port >= 0; port--) {
         const points = this.corners(curves, curves.holds[port], bottom);
-        // Dashes of a long curve take longer than all else.
-        paint.path(points, { stroke: colours.ports[port], width: 1.4, dash: points.length < FEW ? [5, 3] : undefined });
+        paint.path(points, { stroke: colours.ports[port], width: 1.4, dash: dashes(points, [5, 3]) });
       }
     }
-    if (this.ghost && this.before) this.paintGhost(paint, bottom);
+    if (this.ghost && this.before) this.paintGhost(paint, bottom, rough);
     paint.path(this.corners(curves, curves.budget, bottom), { stroke: colours.ink, width: 2 });
     if (least.at < this.view.from || least.at > this.view.to) return;
     const x = this.x(least.at), y = this.y(curves.budget[least.step], bottom), lower = this.y(curves.all[least.step], bottom);
     paint.line(x, y, x, Math.max(lower, y + 3), colours.fault, { width: 4 });
   }
 
-  paintGhost(paint, bottom) {
+  paintGhost(paint, bottom, rough) {
     const { curves } = this.before, { colours } = this;
-    paint.path(this.corners(curves, curves.all, bottom), { stroke: colours.ghost, width: 2, dash: [2, 3] });
-    paint.path(this.corners(curves, curves.budget, bottom), { stroke: colours.ghost, width: 1, dash: [2, 3] });
+    for (const [values, width] of [[curves.all, 2], [curves.budget, 1]]) {
+      const points = this.corners(curves, values, bottom, rough);
+      paint.path(points, { stroke: colours.ghost, width, dash: dashes(points, [2, 3]) });
+    }
   }
 
   paintLegend(paint, width) {
@@ -318,7 +322,7 @@ export class Picture {
       const begin = Math.max(this.x(at), LEFT, done), high = PHASE_HEIGHTS[phase];
       if (to - done < this.near) continue;
       (to - begin > 9 ? wide : narrow)[phase].push(begin, top + BAND - high, to - begin, high);
-      const words = phase === 2 ? this.contractLabel(line) : PHASES[phase];
+      const words = (phases[place].words ??= phase === 2 ? this.contractLabel(line) : PHASES[phase]);
       if (to - begin > words.length * 6 + 8 && high > 6) labels.push({ begin, high, words });
       done = to;
     }
@@ -446,12 +450,17 @@ export class Picture {
   }
 
   paintHeat(paint, port, top) {
-    const { colours } = this;
+    const { colours, view } = this, cells = colours.heat.map(() => []), lower = colours.heat.map(() => []);
     for (const cell of this.heat.cells) {
-      if (cell.port !== port || cell.at < this.view.from || cell.at > this.view.to) continue;
-      paint.rect(this.x(cell.at) - 1, top, 3, HEAT - 1, colours.heat[cell.heat], { stroke: cell.lower ? colours.fault : undefined });
-      this.places.push({ cell, x: this.x(cell.at) - 3, y: top, width: 7, height: HEAT });
+      if (cell.port !== port || cell.at < view.from || cell.at > view.to) continue;
+      const x = this.x(cell.at);
+      (cell.lower ? lower : cells)[cell.heat].push(x - 1, top, 3, HEAT - 1);
+      this.places.push({ cell, x: x - 3, y: top, width: 7, height: HEAT });
     }
+    colours.heat.forEach((colour, heat) => {
+      paint.rects(cells[heat], colour);
+      paint.rects(lower[heat], colour, colours.fault);
+    });
   }
 
   paintCursors(paint, bottom, top, height) {
