@@ -1,6 +1,7 @@
 """A headless Chromium, driven by its own protocol over two pipes: pages, what they say, keys, pointers and pictures."""
 import base64
 import contextlib
+import glob
 import json
 import os
 import select
@@ -50,15 +51,32 @@ def browser(*flags):
         os.close(to_read[0])
         os.close(to_write[1])
         try:
-            yield Browser(to_read[1], to_write[0])
+            yield Browser(to_read[1], to_write[0], process.pid)
         finally:
             process.terminate()
             process.wait()
 
 
+def processor_times():
+    """For each process its parent, and the seconds that it has had of a processor."""
+    found, ticks = {}, os.sysconf("SC_CLK_TCK")
+    for path in glob.glob("/proc/[0-9]*/stat"):
+        with contextlib.suppress(OSError), open(path) as stat:
+            words = stat.read().rpartition(")")[2].split()
+            found[int(path.split("/")[2])] = int(words[1]), (int(words[11]) + int(words[12])) / ticks
+    return found
+
+
 class Browser:
-    def __init__(self, out, into):
-        self.out, self.into, self.number, self.rest, self.events = out, into, 0, b"", []
+    def __init__(self, out, into, process):
+        self.out, self.into, self.process, self.number, self.rest, self.events = out, into, process, 0, b"", []
+
+    def processor_time(self):
+        """The seconds that the browser has had of a processor, with all processes that it started."""
+        times, wanted = processor_times(), [self.process]
+        for parent in wanted:
+            wanted += [process for process, (it, _) in times.items() if it == parent]
+        return sum(times[process][1] for process in wanted if process in times)
 
     def call(self, method, session=None, **words):
         """Asks for something, and answers what comes of it; events that come before are kept."""
