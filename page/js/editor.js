@@ -27,10 +27,14 @@ CodeMirror.defineMode("edits", () => {
 export class Editor {
   constructor(host, mode, label, changed) {
     this.code = CodeMirror(host, {
-      mode, theme: "page", lineNumbers: true, inputStyle: "contenteditable", tabSize: 2, viewportMargin: 20, screenReaderLabel: label,
+      mode, theme: "page", lineNumbers: true, lineWrapping: true, inputStyle: "contenteditable", tabSize: 2, viewportMargin: 20,
+      screenReaderLabel: label,
       extraKeys: { "Ctrl-Z": false, "Cmd-Z": false, "Ctrl-Y": false, "Shift-Ctrl-Z": false, "Shift-Cmd-Z": false, Tab: false,
         "Shift-Tab": false },
     });
+    const field = this.code.getInputField();
+    field.setAttribute("role", "textbox");
+    field.setAttribute("aria-multiline", "true");
     this.said = [];
     this.code.on("change", (_, change) => change.origin !== "setValue" && change.origin !== "state" && changed());
   }

@@ -3,9 +3,8 @@ import { element } from "./table.js";
 
 const KEYS = [
   ["wheel, + −", "nearer, farther"], ["drag, ← →", "move the window"], ["F, 0", "all of the run"],
-  ["click, A", "cursor A; on a packet: choose it"],
-  ["Shift and click, B", "cursor B"], ["Z", "from cursor A to B"], ["N P, ↓ ↑", "next packet, the one before"],
-  [". ,", "next fault, the one before"],
+  ["click, A", "cursor A; on a packet: choose it"], ["Shift and click, B", "cursor B; a finger sets A and B in turn"],
+  ["Z", "from cursor A to B"], ["N P, ↓ ↑", "next packet, the one before; in a table the next row"], [". ,", "next fault, the one before"],
   ["/", "search in the packets"], ["Esc", "take cursors away"], ["Ctrl+Z, Ctrl+Shift+Z", "undo, redo"], ["?", "this help"],
 ];
 const ABOUT = [

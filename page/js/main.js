@@ -99,8 +99,9 @@ class Page {
     document.addEventListener("keydown", (event) => this.pressed(event));
     for (const name of ["dragover", "drop", "dragleave"]) document.addEventListener(name, (event) => this.dropped(event));
     new ResizeObserver(() => this.resized()).observe($("stage"));
-    splitter($("split"), "--texts", (event) => event.clientX, 400);
-    splitter($("split-rows"), "--picture", (event) => event.clientY - $("stage").getBoundingClientRect().top, 400);
+    splitter($("split"), "--texts", () => $("texts").clientWidth, (event) => event.clientX);
+    splitter($("split-rows"), "--picture", () => $("stage").clientHeight,
+      (event) => event.clientY - $("stage").getBoundingClientRect().top);
     pointing(this.picture, { stage: $("stage"), tip: $("tip"), words: (it) => this.tipWords(it), chosen: (it) => this.pointed(it),
       lit: (line) => this.light(line), moved: (user) => this.moved(user) });
     this.listExamples();
@@ -114,6 +115,7 @@ class Page {
 
   put({ scenario = "", script = "", test = "", name = "mine" }) {
     this.name = name;
+    document.title = `${name} — pdbench`;
     this.scenario.text = scenario;
     this.script.text = script;
     this.tests.value = test;
@@ -383,7 +385,8 @@ class Page {
     if (a !== null) said.push(`A ${seconds(a)} s`);
     if (b !== null) said.push(`B ${seconds(b)} s`);
     if (a !== null && b !== null) said.push(`B − A ${span(b - a)}`);
-    $("cursors").textContent = said.join(" · ") || "click: cursor A; Shift and click: B";
+    const isTouch = navigator.maxTouchPoints > 0 && matchMedia("(hover: none)").matches;
+    $("cursors").textContent = said.join(" · ") || (isTouch ? "tap: cursor A, then B" : "click: cursor A; Shift and click: B");
   }
 
   listPorts(count) {
@@ -392,7 +395,7 @@ class Page {
     $("ports").replaceChildren(...Array.from({ length: count }, (_, place) => {
       const swatch = element("span", { class: "swatch" });
       swatch.style.background = PORT_COLOURS[place];
-      return element("button", { "aria-pressed": "true", title: `Port ${place + 1}: shown or not`,
+      return element("button", { "aria-pressed": "true", "aria-label": `Port ${place + 1}`, title: `Port ${place + 1}: shown or not`,
         onclick: (event) => this.togglePort(place + 1, event.currentTarget) }, swatch, String(place + 1));
     }));
   }

@@ -1,4 +1,5 @@
-// What pointers do on the picture: the wheel and two fingers zoom, dragging moves the window, a click chooses or sets a cursor.
+// What pointers do on the picture: the wheel and two fingers zoom, dragging moves the window, a click chooses or sets a cursor. A finger,
+// which has no Shift, sets the two cursors in turn.
 
 const FAR = 4, WHEEL = 1.0018;
 
@@ -53,9 +54,11 @@ export function pointing(picture, { stage, tip, words, chosen, lit, moved }) {
     const { far } = drag, [x, y] = place(event);
     drag = null;
     if (far || !picture.run) return;
-    const found = picture.at(x, y);
-    if (found && !event.shiftKey && !event.altKey) return chosen(found);
-    picture.cursors[event.shiftKey ? 1 : 0] = picture.snapped(x);
+    const found = picture.at(x, y), isTouch = event.pointerType === "touch";
+    if (found && !found.isGone && !event.shiftKey && !event.altKey) return chosen(found);
+    const isSecond = event.shiftKey || (isTouch && picture.cursors[0] !== null && picture.cursors[1] === null);
+    if (isTouch && !isSecond) picture.cursors[1] = null;
+    picture.cursors[isSecond ? 1 : 0] = picture.snapped(x);
     picture.paint();
     moved(false);
   });

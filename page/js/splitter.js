@@ -2,19 +2,28 @@
 
 const LEAST = 120, STEP = 20;
 
-export function splitter(bar, name, place, first) {
-  let size = first;
+/** `size()`: how large the part is now; `place(event)`: how large it is to be, where a pointer is. */
+export function splitter(bar, name, size, place) {
+  const tell = () => {
+    const most = Math.max(window.innerWidth, window.innerHeight);
+    for (const [key, value] of [["min", LEAST], ["max", most], ["now", size()]]) bar.setAttribute(`aria-value${key}`, Math.round(value));
+  };
   const set = (wanted) => {
-    size = Math.max(wanted, LEAST);
-    document.documentElement.style.setProperty(name, `${size}px`);
+    document.documentElement.style.setProperty(name, `${Math.max(wanted, LEAST)}px`);
+    tell();
   };
   bar.addEventListener("pointerdown", (event) => {
     bar.setPointerCapture(event.pointerId);
     bar.onpointermove = (moved) => set(place(moved));
     bar.onpointerup = () => (bar.onpointermove = null);
   });
-  bar.addEventListener("keydown", ({ key }) => {
-    const step = { ArrowLeft: -STEP, ArrowUp: -STEP, ArrowRight: STEP, ArrowDown: STEP }[key];
-    if (step) set(size + step);
+  bar.addEventListener("focus", tell);
+  bar.addEventListener("keydown", (event) => {
+    const step = { ArrowLeft: -STEP, ArrowUp: -STEP, ArrowRight: STEP, ArrowDown: STEP }[event.key];
+    if (!step) return;
+    event.preventDefault();
+    event.stopPropagation();
+    set(size() + step);
   });
+  tell();
 }

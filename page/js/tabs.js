@@ -11,7 +11,7 @@ export class Tabs {
     for (const panel of panels) {
       panel.count = element("span", { class: "count" });
       panel.tab = element("button", { role: "tab", id: `tab-${panel.name}`, "aria-controls": `panel-${panel.name}`,
-        onclick: () => this.open(panel.name) }, panel.name, panel.count);
+        onclick: () => this.open(panel.name) }, panel.name, " ", panel.count);
       panel.host = element("div", { role: "tabpanel", id: `panel-${panel.name}`, "aria-labelledby": `tab-${panel.name}`, hidden: true },
         ...panel.parts);
       bar.append(panel.tab);
