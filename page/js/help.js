@@ -11,7 +11,7 @@ const ABOUT = [
   "Left stands a scenario, a charger with its ports, cables, sinks and events, and a script of edits, which are made before the run; " +
     "right what comes of it. The picture shows the budget as a line, contracts as areas, holds as broken lines, and for each port a " +
     "lane: its phases, events, faults, and packets with their true durations, SOP apart from SOP'.",
-  "The dotted lines are the run before the last edit; Differences lists what that took away and brought.",
+  "The dotted lines and the empty boxes are the run before the last edit; Differences lists what that took away and brought.",
   "Everything that is shown comes from the proved module in this file; the page sends nothing anywhere. Proved are the module's " +
     "exports; the compiler that made the module, its heap, the browser and the page's own script are not.",
   "The editor is CodeMirror 5, by Marijn Haverbeke and others, under the MIT licence.",

@@ -337,7 +337,8 @@ class Page {
   }
 
   tipWords(it) {
-    return it.cell ? sweepWords(it.cell.packet) : lineWords(this.run.line(it.line));
+    if (it.cell) return sweepWords(it.cell.packet);
+    return it.isGone ? `before the edit: ${lineWords(this.picture.before.line(it.line))}` : lineWords(this.run.line(it.line));
   }
 
   goTo(at, port) {

@@ -1,5 +1,6 @@
 // The picture of a run: the chart of the budget, and a lane for each port, in a window of time.
 import { CanvasPaint } from "./paint.js";
+import { goneFrom } from "./ghost.js";
 import { Kind, PHASES, SIDES, firstOf } from "./run.js";
 import { seconds, span, watts } from "./words.js";
 
@@ -46,6 +47,7 @@ export class Picture {
     const whole = !this.run || (this.view.from === 0 && this.view.to === this.run.end);
     this.run = run;
     this.before = before;
+    this.gone = before ? goneFrom(before, run) : [];
     this.hover = -1;
     if (whole) this.view = { from: 0, to: Math.max(run.end, 1) };
     else this.look(this.view.from, this.view.to);
@@ -309,6 +311,7 @@ export class Picture {
     if (this.ghost && this.before?.lanes[port - 1]) this.paintGhostLane(paint, this.before.lanes[port - 1], top);
     this.paintMarks(paint, lane.events, top + BAND, this.colours.event, "events", width);
     this.paintMarks(paint, lane.faults, top + BAND + MARKS, this.colours.fault, "faults", width);
+    if (this.ghost && this.gone[port - 1]) this.paintGone(paint, this.gone[port - 1], top + BAND + 2 * MARKS);
     this.paintPackets(paint, lane, top + BAND + 2 * MARKS, width);
     if (this.heat) this.paintHeat(paint, port, top + BAND + 2 * MARKS + 3 * ROW);
   }
@@ -382,8 +385,21 @@ export class Picture {
     return [name, line.message, line.side, line.id].filter((it) => it !== undefined).join(" ");
   }
 
-  rowOf(line) {
-    return this.run.prime[line] ? 2 : this.run.side[line] === 0 ? 0 : 1;
+  rowOf(line, run = this.run) {
+    return run.prime[line] ? 2 : run.side[line] === 0 ? 0 : 1;
+  }
+
+  /** The packets of the run before the edit that this one hasn't, as empty boxes. */
+  paintGone(paint, gone, top) {
+    const { before, view, colours } = this, scale = (this.width - LEFT - RIGHT) / (view.to - view.from), boxes = [], last = [-9, -9, -9];
+    const begin = Math.max(firstOf(gone, before.at, view.from) - 1, 0);
+    for (const line of gone.slice(begin, firstOf(gone, before.at, view.to + 1))) {
+      const row = this.rowOf(line, before), x = LEFT + (before.at[line] - view.from) * scale;
+      if (x - last[row] < this.near) continue;
+      boxes.push(x, top + row * ROW, Math.max(before.lasts[line] * scale, 2), ROW - 2);
+      last[row] = x;
+    }
+    paint.rects(boxes, colours.paper, colours.ghost);
   }
 
   paintPackets(paint, lane, top, width) {
@@ -499,19 +515,27 @@ export class Picture {
     return this.packetAt(x, y);
   }
 
-  /** The packet at a place, or the nearest of its row. */
+  /** The packet at a place, or the nearest of its row; where there is none, that of the run before the edit. */
   packetAt(x, y) {
-    const { run, laneHeight } = this, top = this.chartBottom(this.height) + AXIS, number = Math.floor((y - top) / laneHeight);
+    const { laneHeight } = this, top = this.chartBottom(this.height) + AXIS, number = Math.floor((y - top) / laneHeight);
     const port = this.shownPorts()[number], row = Math.floor((y - top - number * laneHeight - BAND - 2 * MARKS) / ROW);
     if (port === undefined || row < 0 || row > 2) return null;
-    const { packets } = run.lanes[port - 1];
-    let found = null, least = 4;
-    for (let place = Math.max(firstOf(packets, run.at, this.time(x - 4) - 2000), 0); place < packets.length; place++) {
+    const line = this.nearest(this.run, this.run.lanes[port - 1].packets, x, row, this.accepts);
+    if (line >= 0) return { line };
+    const gone = this.ghost && this.gone[port - 1] ? this.nearest(this.before, this.gone[port - 1], x, row, () => true) : -1;
+    return gone >= 0 ? { line: gone, isGone: true } : null;
+  }
+
+  /** The packet of a row that is nearest to a place, or -1. */
+  nearest(run, packets, x, row, accepts) {
+    const scale = (this.width - LEFT - RIGHT) / (this.view.to - this.view.from);
+    let found = -1, least = 4;
+    for (let place = firstOf(packets, run.at, this.time(x - 4) - 2000); place < packets.length; place++) {
       const line = packets[place], begin = this.x(run.at[line]);
       if (begin > x + 4) break;
-      if (this.rowOf(line) !== row || !this.accepts(line)) continue;
-      const far = Math.max(begin - x, x - begin - (run.lasts[line] * (this.x(this.view.to) - LEFT)) / (this.view.to - this.view.from), 0);
-      if (far <= least) [found, least] = [{ line }, far];
+      if (this.rowOf(line, run) !== row || !accepts(line)) continue;
+      const far = Math.max(begin - x, x - begin - run.lasts[line] * scale, 0);
+      if (far <= least) [found, least] = [line, far];
     }
     return found;
   }

@@ -91,8 +91,8 @@ export function pointing(picture, { stage, tip, words, chosen, lit, moved }) {
 
   function point(x, y) {
     const found = picture.at(x, y);
-    canvas.style.cursor = found ? "pointer" : "";
-    lit(found?.line ?? -1);
+    canvas.style.cursor = found && !found.isGone ? "pointer" : "";
+    lit(found?.isGone ? -1 : found?.line ?? -1);
     tip.hidden = !found;
     if (!found) return;
     tip.textContent = words(found);

@@ -23,16 +23,11 @@ export function showsOf(answers) {
 
 /** The lines that the first list has and the second hasn't. */
 function without(lines, others) {
-  const left = new Map();
-  for (const line of others) left.set(line, (left.get(line) ?? 0) + 1);
-  return lines.filter((line) => {
-    const count = left.get(line) ?? 0;
-    left.set(line, count - 1);
-    return count <= 0;
-  });
+  const there = new Set(others);
+  return lines.filter((line) => !there.has(line));
 }
 
-/** What one run has and the other hasn't: `gone` and `come`, by the show, in the order of time. */
+/** What one run has and the other hasn't, as `:diff` tells it, by the show, in the order of time. */
 export function differences(before, after) {
   return SHOWS.flatMap((show) => {
     const gone = without(before[show], after[show]).map((line) => ({ show, line, sign: "−" }));
