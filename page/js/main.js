@@ -62,7 +62,7 @@ class Page {
       { name: "Faults", parts: [tables.faults.host] },
       { name: "Warnings", parts: [tables.warnings.host] },
       { name: "Differences", parts: [tables.differences.host], opened: () => this.showDifferences() },
-      { name: "Sweep", parts: [sweep.tools, sweep.summary, sweep.table.host] },
+      { name: "Sweep", parts: [sweep.tools, sweep.summary, sweep.table.host, sweep.groups.host] },
       { name: "Session", parts: [this.session], opened: () => this.showSession() },
       { name: "Tests", parts: [this.tests, tables.tests.host], opened: () => this.showTests() },
       { name: "Decode", parts: [this.log, tables.log.host], opened: () => this.showLog() },
@@ -512,13 +512,14 @@ class Page {
 
   // The rest.
 
-  /** On paper all is light, and the table has more rows than are in sight. */
+  /** On paper all is light, and the tables have more rows than are in sight. */
   onPaper(isPaper) {
     const { dataset } = document.documentElement;
     if (isPaper) [this.theme, dataset.theme] = [dataset.theme, "light"];
     else if (this.theme) dataset.theme = this.theme;
     else delete dataset.theme;
-    if (isPaper) this.packets.table.unroll(MOST_ON_PAPER);
+    const { packets, sweep, tables } = this;
+    if (isPaper) for (const it of [packets.table, sweep.table, sweep.groups, ...Object.values(tables)]) it.unroll(MOST_ON_PAPER);
     this.recolour();
     this.picture.paintNow();
   }

@@ -1,36 +1,60 @@
-// Each packet lost in turn: a worker runs the parts, and here stands what came of them.
+// Each packet lost in turn: a worker runs the parts, and here stands what came of them, packet by packet and by message.
 import { endingWords } from "./engine.js";
-import { Table, element } from "./table.js";
+import { HEATS, grouped, heatOf, worseFirst } from "./groups.js";
+import { SortedTable, element } from "./table.js";
 import { named, objectWords, seconds, span, watts } from "./words.js";
 
-const COLUMNS = [
-  { title: "time s", width: 92, right: true }, { title: "port", width: 44, right: true }, { title: "packet lost", width: 210 },
-  { title: "comes to", width: 190 }, { title: "settled", width: 96, right: true }, { title: "faults", width: 56, right: true },
-  { title: "resets", width: 60, right: true }, { title: "least margin", width: 110, right: true }, { title: "contracts at the end" },
-];
-/** How bad what a loss leads to is, from 0: not lost; the same; later; faults; Hard Resets; other contracts at the end. */
-export const HEATS = ["not lost", "as before", "settles later or earlier", "more faults", "more Hard Resets", "other contracts at the end"];
+const signed = (number) => (number > 0 ? `+${number}` : String(number).replace("-", "−"));
+const later = (us) => `${us > 0 ? "+" : ""}${span(us)}`;
+/** A value of packets that were lost; where none was, nothing. */
+const orNone = (value, words) => (Number.isFinite(value) ? words(value) : "");
+const contractWords = (it) => (it ? `${it.voltage_mv / 1000} V ${(it.current_ma / 1000).toFixed(2)} A` : "none");
+const fromWords = (it) => `${it.side} ${it.set}`;
 
-export function heatOf(it) {
-  if (it.outcome !== "hit") return 0;
-  if (!it.same_contracts) return 5;
-  if (it.hard_resets > 0) return 4;
-  if (it.faults > 0) return 3;
-  return it.settled_us !== 0 ? 2 : 1;
+function othersWords(it) {
+  if (it.outcome !== "hit") return named("outcome", it.outcome)[1] + (it.refusal ? ` ${it.refusal}` : "");
+  return it.contracts.map((of) => `port ${of.port}: ${contractWords(of.contract)}, was ${contractWords(of.was)}`).join("; ") || "the same";
 }
 
-const signed = (number) => (number > 0 ? `+${number}` : String(number).replace("-", "−"));
-const contractWords = (it) => (it ? `${it.voltage_mv / 1000} V ${(it.current_ma / 1000).toFixed(2)} A` : "none");
+/** The columns of packets and of groups: their words, and by what they are sorted. */
+const PACKETS = [
+  { title: "time s", width: 92, right: true, least: true, by: (it) => it.at_us, words: (it) => seconds(it.at_us) },
+  { title: "port", width: 54, right: true, least: true, by: (it) => it.port, words: (it) => it.port },
+  { title: "packet lost", width: 210, by: (it) => it.message, words: (it) => `${fromWords(it)} ${it.message} ${it.id}` },
+  { title: "comes to", width: 190, by: heatOf, words: (it) => HEATS[heatOf(it)], worst: worseFirst },
+  { title: "settled", width: 106, right: true, by: (it) => it.settled_us ?? -Infinity, words: (it) => orNone(it.settled_us, later) },
+  { title: "faults", width: 66, right: true, by: (it) => it.faults ?? -Infinity, words: (it) => orNone(it.faults, signed) },
+  { title: "resets", width: 66, right: true, by: (it) => it.hard_resets ?? -Infinity, words: (it) => orNone(it.hard_resets, signed) },
+  { title: "least margin", width: 110, right: true, by: (it) => it.least_margin_uw ?? Infinity, least: true,
+    words: (it) => orNone(it.least_margin_uw, watts) },
+  { title: "contracts at the end", words: othersWords, by: othersWords },
+];
+const GROUPS = [
+  { title: "port", width: 54, right: true, least: true, by: (it) => it.port, words: (it) => it.port },
+  { title: "from", width: 78, by: fromWords, words: fromWords },
+  { title: "message lost", width: 158, by: (it) => it.message, words: (it) => it.message },
+  { title: "packets", width: 72, right: true, by: (it) => it.packets.length, words: (it) => it.packets.length },
+  { title: "at worst", width: 196, by: (it) => heatOf(it.worst), words: (it) => HEATS[heatOf(it.worst)],
+    worst: (one, other) => worseFirst(one.worst, other.worst) },
+  { title: "how many", width: 86, right: true, by: (it) => it.counts[heatOf(it.worst)], words: (it) => it.counts[heatOf(it.worst)] },
+  { title: "settled", width: 106, right: true, by: (it) => it.settled, words: (it) => orNone(it.settled, later) },
+  { title: "faults", width: 66, right: true, by: (it) => it.faults, words: (it) => orNone(it.faults, signed) },
+  { title: "resets", width: 66, right: true, by: (it) => it.resets, words: (it) => orNone(it.resets, signed) },
+  { title: "least margin", width: 110, right: true, by: (it) => it.margin, least: true, words: (it) => orNone(it.margin, watts) },
+  { title: "the worst at", least: true, by: (it) => it.worst.at_us, words: (it) => `${seconds(it.worst.at_us)} s` },
+];
 
 export class Sweep {
   /** `heat(cells)`: what the picture shows; `variant(packet, choice)`: the run with this packet lost is to be shown. */
   constructor({ heat, variant, given, colours }) {
-    Object.assign(this, { heat, variant, given, colours, results: [], order: [] });
-    this.table = new Table({
-      label: "Sweep", columns: COLUMNS, none: "no packet was lost yet", cells: (row) => this.cells(this.results[this.order[row]]),
-      kind: (row) => (heatOf(this.results[this.order[row]]) > 2 ? "bad" : ""),
-        open: (row) => this.variant(this.results[this.order[row]], this.choice),
-    });
+    Object.assign(this, { heat, variant, given, colours, results: [] });
+    const kind = (it) => (heatOf(it) > 2 ? "bad" : "");
+    const none = "no packet was lost yet: Lose each packet begins";
+    this.table = new SortedTable({ label: "Sweep, each packet", columns: PACKETS, none, kind,
+      open: (it) => this.variant(it, this.choice) });
+    this.groups = new SortedTable({ label: "Sweep, by message", columns: GROUPS, none,
+      kind: (it) => kind(it.worst), open: (it) => this.variant(it.worst, this.choice) });
+    this.groups.host.hidden = true;
     this.tools = this.madeTools();
     this.summary = element("div", { class: "tools", hidden: true });
   }
@@ -43,13 +67,13 @@ export class Sweep {
     this.row = element("input", { type: "number", min: 1, max: 8, value: 1, "aria-label": "How many in a row" });
     this.row.style.width = "52px";
     this.window = element("input", { type: "checkbox" });
-    this.worst = element("input", { type: "checkbox", onchange: () => this.list() });
+    this.rows = element("select", { "aria-label": "Rows", onchange: () => this.list() },
+      element("option", { value: "packets", words: "each packet" }), element("option", { value: "groups", words: "by message" }));
     this.bar = element("progress", { max: 1, value: 0, "aria-label": "Progress of the sweep" });
     this.told = element("output", { "aria-live": "polite" });
     this.key = element("span", { class: "key" });
     return element("div", { class: "tools" }, this.start, this.stop, this.port, element("label", {}, this.window, " the window alone"),
-      element("label", {}, this.damage, " damage"), element("label", {}, this.row, " in a row"),
-        element("label", {}, this.worst, " worst first"), this.bar, this.told, this.key);
+      element("label", {}, this.damage, " damage"), element("label", {}, this.row, " in a row"), this.rows, this.bar, this.told, this.key);
   }
 
   paintKey() {
@@ -64,7 +88,6 @@ export class Sweep {
   clear(ports) {
     this.end("");
     this.results = [];
-    this.order = [];
     const chosen = this.port.value;
     this.port.replaceChildren(element("option", { value: 0, words: "all ports" }),
       ...Array.from({ length: ports }, (_, port) => element("option", { value: port + 1, words: `port ${port + 1}` })));
@@ -134,28 +157,19 @@ export class Sweep {
     this.summary.textContent = `${tried} packets tried, ${others} with other contracts at the end${worst ?? ""}`;
   }
 
+  /** Shows the rows that are chosen: each packet, or the messages. */
   list() {
-    this.order = this.results.map((_, place) => place);
-    if (this.worst.checked) {
-      this.order.sort((one, other) => heatOf(this.results[other]) - heatOf(this.results[one]) ||
-        (this.results[other].settled_us ?? 0) - (this.results[one].settled_us ?? 0) || one - other);
-    }
-    this.table.show(this.order.length);
-  }
-
-  cells(it) {
-    const packet = `${it.side} ${it.set} ${it.message} ${it.id}`, head = [seconds(it.at_us), it.port, packet, HEATS[heatOf(it)]];
-    if (it.outcome !== "hit") return [...head, "", "", "", "", named("outcome", it.outcome)[1] + (it.refusal ? ` ${it.refusal}` : "")];
-    const others = it.contracts.map((of) => `port ${of.port}: ${contractWords(of.contract)}, was ${contractWords(of.was)}`).join("; ");
-    return [...head, `${it.settled_us > 0 ? "+" : ""}${span(it.settled_us)}`, signed(it.faults), signed(it.hard_resets),
-      watts(it.least_margin_uw), others || "the same"];
+    const isGrouped = this.rows.value === "groups";
+    this.table.host.hidden = isGrouped;
+    this.groups.host.hidden = !isGrouped;
+    if (isGrouped) this.groups.give(grouped(this.results));
+    else this.table.give(this.results);
   }
 }
 
 /** What a loss led to, in a line. */
 export function sweepWords(it) {
   return `${seconds(it.at_us)} s port ${it.port} ${it.side} ${it.message} lost: ${HEATS[heatOf(it)]}` +
-    (it.outcome === "hit"
-      ? `, settled ${it.settled_us > 0 ? "+" : ""}${span(it.settled_us)}, faults ${signed(it.faults)}, resets ${signed(it.hard_resets)}`
+    (it.outcome === "hit" ? `, settled ${later(it.settled_us)}, faults ${signed(it.faults)}, resets ${signed(it.hard_resets)}`
       : `, ${objectWords({ outcome: it.outcome })}`);
 }

@@ -23,8 +23,8 @@ export class Table {
     Object.assign(this, { columns, cells, kind, open, hover, none, count: 0, selected: -1, nodes: new Map() });
     this.name = `table${++tables}`;
     this.body = element("div", { class: "rows", role: "rowgroup" });
-    const heads = columns.map((it) => this.cell(it, it.title, "columnheader"));
-    this.head = element("div", { class: "head", role: "row" }, ...heads);
+    this.heads = columns.map((it) => this.cell(it, it.title, "columnheader"));
+    this.head = element("div", { class: "head", role: "row", "aria-rowindex": 1 }, ...this.heads);
     this.host = element("div", { class: "grid", role: "grid", tabindex: 0, "aria-label": label }, this.head, this.body);
     this.host.addEventListener("scroll", () => this.fill());
     this.host.addEventListener("keydown", (event) => this.pressed(event));
@@ -120,5 +120,54 @@ export class Table {
   /** All rows, for paper: not more than so many. */
   unroll(most) {
     this.fill([0, Math.min(this.count, most)]);
+  }
+}
+
+const compared = (one, other) => (one < other ? -1 : one > other ? 1 : 0);
+
+/** A table of rows that are given, which a click on the head of a column sorts, and a second one the other way. Of a column, `words(row)`
+ * is what stands in it, and `by(row)` what it is sorted by: the greatest first where it is a number, the least with `least`, by
+ * `worst(row, other)` where that is there. */
+export class SortedTable extends Table {
+  constructor({ columns, kind, open, ...given }) {
+    super({ ...given, columns, cells: (row) => columns.map((it) => it.words(this.rows[row])), kind: (row) => kind(this.rows[row]),
+      open: (row) => open(this.rows[row]) });
+    Object.assign(this, { given: [], rows: [], by: -1, isTurned: false });
+    this.heads.forEach((head, place) => {
+      const button = element("button", { title: `Sort by ${columns[place].title}`, onclick: () => this.sort(place) }, head.textContent);
+      head.replaceChildren(button);
+    });
+  }
+
+  give(rows) {
+    this.given = rows;
+    this.list();
+  }
+
+  /** By a column; again by it, the other way; a third time as the rows were given. */
+  sort(place) {
+    if (this.by !== place) Object.assign(this, { by: place, isTurned: false });
+    else if (!this.isTurned) this.isTurned = true;
+    else this.by = -1;
+    this.list();
+  }
+
+  list() {
+    const column = this.columns[this.by], sign = this.isTurned ? -1 : 1;
+    this.rows = column ? [...this.given].sort((one, other) => sign * this.order(column, one, other)) : [...this.given];
+    this.heads.forEach((head, place) => {
+      head.setAttribute("aria-sort", place !== this.by ? "none" : this.isAscending(column) ? "ascending" : "descending");
+    });
+    this.show(this.rows.length);
+  }
+
+  order({ by, worst, least }, one, other) {
+    const isNumber = typeof by(one) === "number";
+    return worst ? worst(one, other) : compared(by(one), by(other)) * (isNumber && !least ? -1 : 1);
+  }
+
+  isAscending({ by, least }) {
+    const isNumber = this.rows.length > 0 && typeof by(this.rows[0]) === "number";
+    return (!isNumber || Boolean(least)) !== this.isTurned;
   }
 }
