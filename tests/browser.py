@@ -166,6 +166,13 @@ class Page:
         for kind in ("mousePressed", "mouseReleased"):
             self.point(kind, x, y, button="left", clickCount=1, modifiers=modifiers)
 
+    def tap(self, x, y):
+        """A finger that touches and is taken away."""
+        self.call("Emulation.setTouchEmulationEnabled", enabled=True)
+        self.call("Input.dispatchTouchEvent", type="touchStart", touchPoints=[{"x": x, "y": y}])
+        self.call("Input.dispatchTouchEvent", type="touchEnd", touchPoints=[])
+        self.call("Emulation.setTouchEmulationEnabled", enabled=False)
+
     def picture(self, path):
         path.write_bytes(base64.b64decode(self.call("Page.captureScreenshot", format="png")["data"]))
 
