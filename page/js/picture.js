@@ -174,7 +174,8 @@ export class Picture {
     for (let at = Math.ceil(view.from / step) * step; at <= view.to; at += step) {
       const x = Math.round(this.x(at));
       lines.push(x, HEAD, 1, height - HEAD);
-      paint.text(Math.min(x, width - RIGHT - 8), bottom + 14, this.tick(at, step), colours.faint, { align: "center" });
+      const isLast = x > width - RIGHT - 24;
+      paint.text(isLast ? width - 4 : x, bottom + 14, this.tick(at, step), colours.faint, { align: isLast ? "right" : "center" });
     }
     const top = this.top(), watt = niceStep(top, 4);
     for (let power = 0; power <= top; power += watt) {
@@ -245,11 +246,13 @@ export class Picture {
     const rough = this.moves && last - first > DENSE;
     const areas = curves.contracts.map((values, port) => ({ points: this.corners(curves, values, bottom, rough), fill: PORTS[port] }));
     paint.areas(areas, bottom, colours.area, colours.paper);
-    if (!rough) for (const { points } of areas) paint.path(points, { stroke: colours.ink, width: 0.7, alpha: 0.8 });
+    // The outlines of areas that change at each pixel would hide them.
+    const isDense = ({ length }) => length > this.width;
+    if (!rough) for (const { points } of areas) if (!isDense(points)) paint.path(points, { stroke: colours.ink, width: 0.7, alpha: 0.8 });
     if (this.holds && !rough) {
       for (let port = run.ports - 1; port >= 0; port--) {
-        const points = this.corners(curves, curves.holds[port], bottom);
-        paint.path(points, { stroke: colours.ports[port], width: 1.4, dash: dashes(points, [5, 3]) });
+        const points = this.corners(curves, curves.holds[port], bottom), width = isDense(points) ? 0.7 : 1.4;
+        paint.path(points, { stroke: colours.ports[port], width, dash: dashes(points, [5, 3]) });
       }
     }
     if (this.ghost && this.before) this.paintGhost(paint, bottom, rough);
@@ -334,7 +337,7 @@ export class Picture {
       paint.rects(wide[phase], colours.phases[phase], colours.edge);
     });
     for (const { begin, high, words } of labels) {
-      paint.text(begin + 4, top + BAND - (high > 12 ? 4 : 3), words, colours.onPhase, { size: high > 12 ? 11 : 10 });
+      paint.text(begin + 4, top + BAND - 4, words, colours.onPhase, { size: high > 12 ? 11 : 10 });
     }
   }
 
@@ -417,7 +420,7 @@ export class Picture {
         this.paintPacket(paint, line, x, top + row * ROW, wide, alpha);
         if (isNear) this.labelPacket(paint, lane, place, x, top + row * ROW, wide, alpha);
       } else if (isBad || run.fate[line]) {
-        (isBad ? bad : lost).push(x, top + row * ROW + 1, wide, ROW - 4);
+        (isBad ? bad : lost).push(x, top + row * ROW + 1, wide, ROW - 3);
       } else {
         // Packets of a row that stand less than a pixel or two apart are painted as one.
         const side = run.side[line], open = close[row];
@@ -425,12 +428,12 @@ export class Picture {
           open.to = Math.max(open.to, x + wide);
           this.isLess = true;
         } else {
-          if (open) joined[open.side].push(open.from, top + row * ROW + 1, open.to - open.from, ROW - 4);
+          if (open) joined[open.side].push(open.from, top + row * ROW + 1, open.to - open.from, ROW - 3);
           close[row] = { from: x, to: x + wide, side };
         }
       }
     }
-    close.forEach((open, row) => open && joined[open.side].push(open.from, top + row * ROW + 1, open.to - open.from, ROW - 4));
+    close.forEach((open, row) => open && joined[open.side].push(open.from, top + row * ROW + 1, open.to - open.from, ROW - 3));
     joined.forEach((list, side) => paint.rects(list, this.colours.sides[side]));
     paint.rects(lost, this.colours.paper, this.colours.fault);
     paint.rects(bad, this.colours.fault, this.colours.fault);
@@ -440,7 +443,7 @@ export class Picture {
     const { run, colours } = this, isReset = run.kind[line] === Kind.hard_reset;
     const fill = isReset || run.fate[line] === 2 ? colours.fault : run.fate[line] === 1 ? colours.paper : colours.sides[run.side[line]];
     const stroke = run.fate[line] || wide > 4 ? (run.fate[line] ? colours.fault : colours.edge) : undefined;
-    paint.rect(x, y + 1, wide, ROW - 4, fill, { stroke, alpha, dash: run.fate[line] === 1 && wide > 6 ? [3, 2] : undefined });
+    paint.rect(x, y + 1, wide, ROW - 3, fill, { stroke, alpha, dash: run.fate[line] === 1 && wide > 6 ? [3, 2] : undefined });
     if (line === this.selected) paint.rect(x - 2, y - 1, wide + 4, ROW, null, { stroke: colours.select });
   }
 
