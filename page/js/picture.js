@@ -173,7 +173,7 @@ export class Picture {
     const { colours, view } = this, step = niceStep(view.to - view.from, Math.max((width - LEFT) / 110, 2)), lines = [];
     for (let at = Math.ceil(view.from / step) * step; at <= view.to; at += step) {
       const x = Math.round(this.x(at));
-      lines.push(x, HEAD, 1, height - HEAD);
+      lines.push(x, HEAD, 1, bottom + 4 - HEAD, x, bottom + AXIS - 3, 1, height - bottom - AXIS + 3);
       const isLast = x > width - RIGHT - 24;
       paint.text(isLast ? width - 4 : x, bottom + 14, this.tick(at, step), colours.faint, { align: isLast ? "right" : "center" });
     }
