@@ -8,7 +8,7 @@ const LEFT = 84, RIGHT = 14, AXIS = 22, HEAD = 16;
 const BAND = 15, ROW = 15, MARKS = 15, HEAT = 9, GAP = 8;
 const LEAST_SPAN = 40, SNAP = 7;
 /** Of more packets in a lane none has a label or a border. */
-const FEW = 500, DENSE = 1000, REST = 150;
+const FEW = 500, DENSE = 300, REST = 150;
 /** The colours of Okabe and Ito, which stay apart for who doesn't see all colours. */
 const PORTS = ["#e69f00", "#56b4e9", "#009e73", "#f0e442", "#0072b2", "#d55e00", "#cc79a7", "#999999"];
 const PHASE_HEIGHTS = [3, 12, 15, 15, 6];
