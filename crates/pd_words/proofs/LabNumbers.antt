@@ -1,6 +1,7 @@
 -- What `parse` reads is the number of a word.
-use Rattle.std.proofs.Common.{◌≡◌, ◌&&◌, ◌^◌, ℕ, Bool, true, false, List, [], ◌∷◌, length, Result, Ok, Err, Some, None, nat_lt}
+use Rattle.std.proofs.Common.{◌≡◌, ◌&&◌, ◌^◌, ℕ, Bool, true, false, [], ◌∷◌, length, Result, Ok, Err, Some, None, nat_lt}
 use Rattle.std.proofs.Common.{ap, lt-ltb, ltb-true, refl, sym, true≢false}
+use Rattle.std.specs.Prelude.{if◌then◌else◌}
 use Rattle.std.specs.Char.{digit_value}
 use Rattle.std.specs.List.{list_all}
 use Rattle.std.specs.Result.{result_ok}
@@ -34,3 +35,19 @@ number_read text (Err e) h = go (is_number text) refl
         let outer = both _ _ t in
         let inner = both _ _ outer.0 in
         absurd (h ((ltb-true _ _ inner.0, digits_from (without_leading_plus text) inner.1), ltb-true _ _ outer.1))
+
+-- ---- whether there is one
+
+of_some : (b : Bool) (m n : ℕ) → Some n ≡ (if b then Some m else None) → true ≡ b
+of_some true m n e = refl
+of_some false m n e = absurd (cc)
+
+of_none : (b : Bool) (m : ℕ) → None ≡ (if b then Some m else None) → false ≡ b
+of_none true m e = absurd (cc)
+of_none false m e = refl
+
+pub there_is : (word : Text) (n : ℕ) → Some n ≡ number word → true ≡ is_number word
+there_is word n e = of_some (is_number word) (digits_value 10 (without_leading_plus word)) n e
+
+pub there_is_none : (word : Text) → None ≡ number word → false ≡ is_number word
+there_is_none word e = of_none (is_number word) (digits_value 10 (without_leading_plus word)) e

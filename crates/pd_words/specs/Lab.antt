@@ -1,5 +1,5 @@
 -- The command line of `pdlab`: its commands, each with its words and options.
-use Rattle.std.specs.Prelude.{true, false, List, [], ◌∷◌, codes, Some}
+use Rattle.std.specs.Prelude.{ℕ, true, false, List, [], ◌∷◌, codes, Some}
 use Rattle.clap.specs.Words.{App, Rule, Shape, Text, new_rule, with_subcommand}
 use Rattle.clap.specs.Simple.{new_shape}
 use Rattle.clap.specs.declared.builder.action.ArgAction.TheVariants.{Set, SetTrue, Append}
@@ -18,9 +18,12 @@ may name = record (new_rule name) { action = Some Set }
 abbrev pub several : Text → Rule
 several name = record (new_rule name) { required = true; action = Some Append }
 
--- an option with a word behind it, as `--port 2` or `--port=2`, and one that is alone
+-- an option with a word behind it, as `--port 2` or `--port=2`, one of a letter, as `-o FILE`, and one that is alone
 abbrev pub value : Text → Rule
 value name = record (new_rule name) { long = Some name; action = Some Set }
+
+abbrev pub letter : ℕ → Text → Rule
+letter code name = record (new_rule name) { short = Some code; action = Some Set }
 
 abbrev pub flag : Text → Rule
 flag name = record (new_rule name) { long = Some name; action = Some SetTrue }
@@ -30,6 +33,7 @@ rule (slot.Must name) = must name.now
 rule (slot.May name) = may name.now
 rule (slot.Several name) = several name.now
 rule (slot.Value name) = value name.now
+rule (slot.Letter code name) = letter code name.now
 rule (slot.Flag name) = flag name.now
 
 -- ---- the commands
@@ -40,17 +44,26 @@ command name rules = record (new_shape name) { rules = rules }
 abbrev pub live : Shape
 live = command (codes "live") (must (codes "SCENARIO") ∷ [])
 
+-- a refused line of EDITS is passed over
+abbrev pub keep_going : Rule
+keep_going = flag (codes "keep-going")
+
+-- the file that is written, by `-o`
+abbrev pub out : Rule
+out = letter 111 (codes "FILE")
+
 abbrev pub show : Shape
-show = command (codes "show") (must (codes "SCENARIO") ∷ may (codes "EDITS")
+show = command (codes "show") (must (codes "SCENARIO") ∷ may (codes "EDITS") ∷ keep_going ∷ out
     ∷ value (codes "port") ∷ value (codes "from") ∷ value (codes "to") ∷ flag (codes "no-goodcrc") ∷ flag (codes "codes")
     ∷ flag (codes "json") ∷ flag (codes "csv") ∷ [])
 
+-- behind the scenario stand EDITS, PORT and AT, of which the first and the last may be left out
 abbrev pub why : Shape
-why = command (codes "why") (must (codes "SCENARIO") ∷ must (codes "EDITS") ∷ must (codes "PORT") ∷ may (codes "AT")
-    ∷ flag (codes "json") ∷ [])
+why = command (codes "why") (must (codes "SCENARIO") ∷ must (codes "PORT") ∷ may (codes "SECOND") ∷ may (codes "THIRD")
+    ∷ keep_going ∷ flag (codes "json") ∷ [])
 
 abbrev pub sweep : Shape
-sweep = command (codes "sweep") (must (codes "SCENARIO") ∷ may (codes "EDITS")
+sweep = command (codes "sweep") (must (codes "SCENARIO") ∷ may (codes "EDITS") ∷ keep_going
     ∷ value (codes "port") ∷ value (codes "from") ∷ value (codes "to") ∷ value (codes "kind") ∷ flag (codes "damage")
     ∷ value (codes "in-a-row") ∷ value (codes "reserve") ∷ flag (codes "json") ∷ flag (codes "csv") ∷ [])
 
@@ -58,8 +71,11 @@ abbrev pub test : Shape
 test = command (codes "test") (several (codes "SCRIPT") ∷ flag (codes "json") ∷ [])
 
 abbrev pub draw : Shape
-draw = command (codes "draw") (must (codes "SCENARIO") ∷ may (codes "EDITS")
+draw = command (codes "draw") (must (codes "SCENARIO") ∷ may (codes "EDITS") ∷ keep_going ∷ out
     ∷ value (codes "port") ∷ value (codes "from") ∷ value (codes "to") ∷ value (codes "width") ∷ [])
+
+abbrev pub page : Shape
+page = command (codes "page") (must (codes "SCENARIO") ∷ may (codes "EDITS") ∷ keep_going ∷ out ∷ value (codes "page") ∷ [])
 
 abbrev pub explain : Shape
 explain = command (codes "explain") (must (codes "SCENARIO") ∷ may (codes "EDITS") ∷ flag (codes "json") ∷ [])
@@ -71,7 +87,7 @@ decode = command (codes "decode") (may (codes "FILE") ∷ flag (codes "json") �
 unfoldable pub lab : App
 lab = record {
   top = record (new_shape (codes "pdlab")) { is_leaf = false };
-  subs = live ∷ show ∷ why ∷ sweep ∷ test ∷ draw ∷ explain ∷ decode ∷ [];
+  subs = live ∷ show ∷ why ∷ sweep ∷ test ∷ draw ∷ page ∷ explain ∷ decode ∷ [];
 }
 
 abbrev pub with_command : App → Text → List Rule → App

@@ -1,13 +1,12 @@
 -- What a command line of `pdlab` asks for, by the words and options that clap finds in it (`Lab`).
-use Rattle.std.specs.Prelude.{ℕ, ◌+◌, ◌-◌, ◌^◌, ◌==◌, ◌&&◌, Bool, true, false, not, List, [], ◌∷◌, codes, bytes_eq, length, map}
-use Rattle.std.specs.Prelude.{Option, None, Some, option_and_then, option_map, unwrap_or, min, count_by, nat_lt, if◌then◌else◌}
+use Rattle.std.specs.Prelude.{ℕ, ◌-◌, ◌^◌, ◌&&◌, Bool, false, not, List, [], ◌∷◌, codes, bytes_eq, length, map}
+use Rattle.std.specs.Prelude.{Option, None, Some, option_and_then, option_map, unwrap_or, count_by, nat_lt, if◌then◌else◌}
 use Rattle.std.specs.Char.{digit_value}
 use Rattle.std.specs.List.{list_all}
 use Rattle.std.specs.Option.{option_map_or}
 use Rattle.std.specs.Str.Parse.{digits_value, without_leading_plus}
 use Rattle.clap.specs.Words.{Row, Text, all_of, first_of, fault_of, subcommand_of}
 use Rattle.clap.specs.Kinds.{Kinds}
-use Rattle.pd_header.specs.declared.kind.Kind.{Kind}
 use Rattle.pd_words.specs.Lab.{lab}
 use Rattle.pd_words.specs.Names.{named}
 use Rattle.pd_words.specs.declared.lab_task.DrawOptions.{DrawOptions}
@@ -21,9 +20,13 @@ use Rattle.pd_words.specs.declared.lab_task.SweepOptions.{SweepOptions}
 use Rattle.pd_words.specs.declared.lab_task.WhyOptions.{WhyOptions}
 use Rattle.pd_words.specs.declared.lab_task.Window.{Window}
 
--- a scenario's file, and an edit script's where one is named
-abbrev pub Files : Type 0
-Files = Text × Option Text
+-- a scenario's file; an edit script's, where one is named, and whether a refused line of it is passed over; and the file that is
+-- written, where one is named
+pub record Files : Type 0 where
+  pub scenario : Text
+  pub edits : Option Text
+  pub keep_going : Bool
+  pub out : Option Text
 
 -- ---- what may be asked
 
@@ -34,6 +37,7 @@ pub data Asked : Type 0 where
   sweep : Files → SweepOptions → Asked
   test : (scripts : List Text) → (json : Bool) → Asked
   draw : Files → DrawOptions → Asked
+  page : Files → (page : Option Text) → Asked
   explain : Files → (json : Bool) → Asked
   decode : (file : Text) → (json : Bool) → Asked
 
@@ -63,18 +67,27 @@ number_of name rows = given_by number (first_of name rows)
 abbrev pub is_twice : List Text → Bool
 is_twice files = nat_lt 1 (count_by (λ file. bytes_eq file (codes "-")) files)
 
-abbrev pub scene_with : Option Text → Text → Option Files
-scene_with edits scenario =
-    if is_twice (scenario ∷ unwrap_or edits [] ∷ []) then None else Some (scenario, edits)
+abbrev pub scene_with : Option Text → List Row → Option Files
+scene_with edits rows = option_and_then (λ scenario.
+    if is_twice (scenario ∷ unwrap_or edits [] ∷ []) then None else Some (record {
+      scenario = scenario;
+      edits = edits;
+      keep_going = is_on (codes "keep-going") rows;
+      out = first_of (codes "FILE") rows;
+    })) (first_of (codes "SCENARIO") rows)
 
 abbrev pub scene_by : List Row → Option Files
-scene_by rows = option_and_then (scene_with (first_of (codes "EDITS") rows)) (first_of (codes "SCENARIO") rows)
+scene_by rows = scene_with (first_of (codes "EDITS") rows) rows
+
+-- a part of a run that ends before it begins is none
+abbrev pub window_with : Option ℕ → ℕ → ℕ → Option Window
+window_with port from to = if nat_lt to from then None else Some (record { port = port; from = from; to = to })
 
 -- times reach from 0 to the greatest, where they are left out
 abbrev pub window_by : List Row → Option Window
 window_by rows =
-    option_and_then (λ port. option_and_then (λ from. option_map (λ to.
-    record { port = port; from = unwrap_or from 0; to = unwrap_or to (2 ^ 64 - 1) })
+    option_and_then (λ port. option_and_then (λ from. option_and_then (λ to.
+    window_with port (unwrap_or from 0) (unwrap_or to (2 ^ 64 - 1)))
     (number_of (codes "to") rows)) (number_of (codes "from") rows)) (number_of (codes "port") rows)
 
 -- not both as JSON and as values
@@ -104,12 +117,28 @@ show_by rows = option_and_then (λ files. option_and_then (λ window. option_map
   form = form;
 })) (form_by rows)) (window_by rows)) (scene_by rows)
 
-abbrev pub why_by : List Row → Option Asked
-why_by rows = option_and_then (λ files. option_and_then (λ port. option_map (λ at. why files (record {
-  port = unwrap_or port 0;
+-- The words behind a scenario as EDITS, PORT and AT: of two of them the first is PORT where it is a number, and else EDITS.
+pub record WhyWords : Type 0 where
+  pub edits : Option Text
+  pub port : Text
+  pub at : Option Text
+
+abbrev pub why_words : Text → Option Text → Option Text → WhyWords
+why_words first None third = record { edits = None; port = first; at = third }
+why_words first (Some second) (Some third) = record { edits = Some first; port = second; at = Some third }
+why_words first (Some second) None = if is_number first then record { edits = None; port = first; at = Some second }
+    else record { edits = Some first; port = second; at = None }
+
+abbrev pub why_with : List Row → WhyWords → Option Asked
+why_with rows words = option_and_then (λ files. option_and_then (λ port. option_map (λ at. why files (record {
+  port = port;
   at = at;
   json = is_on (codes "json") rows;
-})) (number_of (codes "AT") rows)) (number_of (codes "PORT") rows)) (scene_by rows)
+})) (given_by number words.at)) (number words.port)) (scene_with words.edits rows)
+
+abbrev pub why_by : List Row → Option Asked
+why_by rows = option_and_then (λ first. why_with rows (why_words first (first_of (codes "SECOND") rows) (first_of (codes "THIRD") rows)))
+    (first_of (codes "PORT") rows)
 
 abbrev pub sweep_by : List Row → Option Asked
 sweep_by rows = option_and_then (λ files. option_and_then (λ window. option_and_then (λ reserve. option_and_then (λ kind.
@@ -127,11 +156,20 @@ abbrev pub test_by : List Row → Option Asked
 test_by rows = option_and_then (λ scripts. if is_twice scripts then None else Some (test scripts (is_on (codes "json") rows)))
     (all_of (codes "SCRIPT") rows)
 
--- a picture is 1,200 pixels wide where nothing else is asked, and never more than 2^32 - 1
+-- a picture is 1,000 to 10,000 pixels wide, 1,200 where nothing is asked
+abbrev pub width_with : Option ℕ → Option ℕ
+width_with None = Some 1200
+width_with (Some width) = if nat_lt 999 width && nat_lt width 10001 then Some width else None
+
+abbrev pub width_by : List Row → Option ℕ
+width_by rows = option_and_then width_with (number_of (codes "width") rows)
+
 abbrev pub draw_by : List Row → Option Asked
 draw_by rows = option_and_then (λ files. option_and_then (λ window. option_map (λ width.
-    draw files (record { window = window; width = min (unwrap_or width 1200) (2 ^ 32 - 1) }))
-    (number_of (codes "width") rows)) (window_by rows)) (scene_by rows)
+    draw files (record { window = window; width = width })) (width_by rows)) (window_by rows)) (scene_by rows)
+
+abbrev pub page_by : List Row → Option Asked
+page_by rows = option_map (λ files. page files (first_of (codes "page") rows)) (scene_by rows)
 
 abbrev pub explain_by : List Row → Option Asked
 explain_by rows = option_map (λ files. explain files (is_on (codes "json") rows)) (scene_by rows)
@@ -147,8 +185,9 @@ asked_by found = if bytes_eq found.0 (codes "live") then live_by found.1
     else (if bytes_eq found.0 (codes "sweep") then sweep_by found.1
     else (if bytes_eq found.0 (codes "test") then test_by found.1
     else (if bytes_eq found.0 (codes "draw") then draw_by found.1
+    else (if bytes_eq found.0 (codes "page") then page_by found.1
     else (if bytes_eq found.0 (codes "explain") then explain_by found.1
-    else (if bytes_eq found.0 (codes "decode") then decode_by found.1 else None)))))))
+    else (if bytes_eq found.0 (codes "decode") then decode_by found.1 else None))))))))
 
 -- ---- a whole line: words that clap takes, and what the command is that they name
 
@@ -162,7 +201,12 @@ lab_asked words = asked_unless (fault_of lab words) (subcommand_of lab words)
 -- ---- what a task asks for, by its texts
 
 abbrev pub files : Scene → Files
-files scene = (scene.scenario.now, option_map (λ x. x.now) scene.edits)
+files scene = record {
+  scenario = scene.scenario.now;
+  edits = option_map (λ x. x.now) scene.edits;
+  keep_going = scene.keep_going;
+  out = option_map (λ x. x.now) scene.out;
+}
 
 abbrev pub asked : LabTask → Asked
 asked (task.Live scenario) = live scenario.now
@@ -171,5 +215,6 @@ asked (task.Why scene options) = why (files scene) options
 asked (task.Sweep scene options) = sweep (files scene) options
 asked (task.Test scripts json) = test (map (λ x. x.now) scripts.items) json
 asked (task.Draw scene options) = draw (files scene) options
+asked (task.Page scene name) = page (files scene) (option_map (λ x. x.now) name)
 asked (task.Explain scene json) = explain (files scene) json
 asked (task.Decode file json) = decode file.now json

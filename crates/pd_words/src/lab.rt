@@ -19,11 +19,13 @@ enum Slot<'a> {
     Several(&'a str),
     /// An option with a word behind it.
     Value(&'a str),
+    /// An option of a letter with a word behind it.
+    Letter(char, &'a str),
     /// An option that is alone.
     Flag(&'a str),
 }
 
-use Slot::{Flag, May, Must, Several, Value};
+use Slot::{Flag, Letter, May, Must, Several, Value};
 
 /// The same, as the library has it.
 fn argument<'a>(alloc: Global, slot: Slot<'a>) -> Arg<'a>
@@ -37,6 +39,7 @@ fn argument<'a>(alloc: Global, slot: Slot<'a>) -> Arg<'a>
             .required(true)
             .action(ArgAction::Append),
         Value(name) => Arg::new(alloc, name).long(name).action(ArgAction::Set),
+        Letter(letter, name) => Arg::new(alloc, name).short(letter).action(ArgAction::Set),
         Flag(name) => Arg::new(alloc, name).long(name).action(ArgAction::SetTrue),
     }
 }
@@ -71,22 +74,35 @@ pub fn lab<'a>(alloc: Global) -> Result<Command<'a>, AllocError>
 {
     let (scenario, edits, json, csv) = (Must("SCENARIO"), May("EDITS"), Flag("json"), Flag("csv"));
     let (port, from, to) = (Value("port"), Value("from"), Value("to"));
+    let (keep_going, out) = (Flag("keep-going"), Letter('o', "FILE"));
     let program = Command::new(alloc, "pdlab");
     let program = with_command(alloc, program, "live", &[scenario])?;
     let (bare, codes) = (Flag("no-goodcrc"), Flag("codes"));
-    let show = [scenario, edits, port, from, to, bare, codes, json, csv];
+    let show = [
+        scenario, edits, keep_going, out, port, from, to, bare, codes, json, csv,
+    ];
     let program = with_command(alloc, program, "show", &show)?;
-    let why = [scenario, Must("EDITS"), Must("PORT"), May("AT"), json];
+    let why = [
+        scenario,
+        Must("PORT"),
+        May("SECOND"),
+        May("THIRD"),
+        keep_going,
+        json,
+    ];
     let program = with_command(alloc, program, "why", &why)?;
     let (kind, damage) = (Value("kind"), Flag("damage"));
     let (in_a_row, reserve) = (Value("in-a-row"), Value("reserve"));
     let sweep = [
-        scenario, edits, port, from, to, kind, damage, in_a_row, reserve, json, csv,
+        scenario, edits, keep_going, port, from, to, kind, damage, in_a_row, reserve, json, csv,
     ];
     let program = with_command(alloc, program, "sweep", &sweep)?;
     let program = with_command(alloc, program, "test", &[Several("SCRIPT"), json])?;
-    let draw = [scenario, edits, port, from, to, Value("width")];
+    let width = Value("width");
+    let draw = [scenario, edits, keep_going, out, port, from, to, width];
     let program = with_command(alloc, program, "draw", &draw)?;
+    let page = [scenario, edits, keep_going, out, Value("page")];
+    let program = with_command(alloc, program, "page", &page)?;
     let program = with_command(alloc, program, "explain", &[scenario, edits, json])?;
     with_command(alloc, program, "decode", &[May("FILE"), json])
 }

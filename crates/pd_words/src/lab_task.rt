@@ -8,6 +8,10 @@ pub struct Scene<'a> {
     pub scenario: &'a str,
     /// The edit script that is followed first, where there is one.
     pub edits: Option<&'a str>,
+    /// Whether a refused line of it is passed over.
+    pub keep_going: bool,
+    /// The file that is written in place of standard output, where one is named.
+    pub out: Option<&'a str>,
 }
 
 /// A part of a run: of one port, numbered from 1, or of all, and from one time to another, in microseconds.
@@ -55,7 +59,7 @@ pub struct SweepOptions {
     pub form: Form,
 }
 
-/// What is drawn of a run, so many pixels wide.
+/// What is drawn of a run, so many pixels wide, 1,000 to 10,000.
 #[derive(Clone, Copy)]
 pub struct DrawOptions {
     pub window: Window,
@@ -77,6 +81,8 @@ pub enum LabTask<'a> {
     Test(Vec<&'a str>, bool),
     /// A picture of a run.
     Draw(Scene<'a>, DrawOptions),
+    /// The page with a scenario in it, which is made of the file of this name.
+    Page(Scene<'a>, Option<&'a str>),
     /// Why a scenario or lines of its edit script are refused.
     Explain(Scene<'a>, bool),
     /// What the lines of a log say.
@@ -101,6 +107,8 @@ pub enum LabFault<'a> {
     Words(Option<String>),
     /// An option that excludes another one was given with it.
     Both(&'static str, &'static str),
+    /// A part of a run is asked for that ends before it begins.
+    Window(Window),
     /// A word isn't the number that is wanted there.
     Number { wanted: Wanted, word: &'a str },
     /// No message has this name.

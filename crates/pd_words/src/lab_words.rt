@@ -6,7 +6,7 @@ ghost use Rattle.std.specs.String.{string_bytes};
 ghost use Rattle.clap.specs.Words.{all_of, first_of, found_of, kind_of, rows_of, subcommand_rows_of};
 ghost use Rattle.pd_words.specs.LabTasks.{asked, asked_by, behind_by, decode_by, draw_by, explain_by, files, form_by, given_by};
 ghost use Rattle.pd_words.specs.LabTasks.{is_on, is_twice, lab_asked, live_by, number_of, scene_by, show_by, sweep_by, test_by};
-ghost use Rattle.pd_words.specs.LabTasks.{why_by, window_by};
+ghost use Rattle.pd_words.specs.LabTasks.{is_number, number, page_by, scene_with, why_by, why_with, why_words, width_by, window_by};
 ghost use Rattle.pd_words.specs.Names.{named};
 
 use crate::lab::lab;
@@ -38,10 +38,39 @@ fn is_on(matches: &ArgMatches<'_>, option: &str) -> bool
     }
 }
 
-/// A number that may be left out.
+/// The number that a word is.
 ///
 /// # Errors
 /// The word isn't decimal digits for a number below 2^64.
+fn number<'a>(word: &'a str, wanted: Wanted) -> Result<u64, LabFault<'a>>
+    ensures { result_ok result ≡ number word.now }
+{
+    match word.parse::<u64>() {
+        Ok(number) => Ok(number),
+        Err(_) => Err(LabFault::Number { wanted, word }),
+    }
+}
+
+/// The number that a word is, where there is one.
+///
+/// # Errors
+/// As of `number`.
+fn given_number<'a>(word: Option<&'a str>, wanted: Wanted) -> Result<Option<u64>, LabFault<'a>>
+    ensures { result_ok result ≡ given_by number (option_map (λ x. x.now) word.entry) }
+{
+    match word {
+        None => Ok(None),
+        Some(word) => match number(word, wanted) {
+            Ok(number) => Ok(Some(number)),
+            Err(fault) => Err(fault),
+        },
+    }
+}
+
+/// A number that may be left out.
+///
+/// # Errors
+/// As of `number`.
 fn number_of<'a>(
     matches: &ArgMatches<'a>,
     id: &str,
@@ -49,13 +78,7 @@ fn number_of<'a>(
 ) -> Result<Option<u64>, LabFault<'a>>
     ensures { result_ok result ≡ number_of id.now (rows_of (found_of matches.now)) }
 {
-    let Some(word) = first(matches, id) else {
-        return Ok(None);
-    };
-    match word.parse::<u64>() {
-        Ok(number) => Ok(Some(number)),
-        Err(_) => Err(LabFault::Number { wanted, word }),
-    }
+    given_number(first(matches, id), wanted)
 }
 
 const PORTS: &str = "the number of a port, 1 to 8";
@@ -108,14 +131,10 @@ const AT: Wanted = Wanted {
 ///
 /// # Errors
 /// The word is no number.
-fn port_of<'a>(
-    matches: &ArgMatches<'a>,
-    id: &str,
-    wanted: Wanted,
-) -> Result<Option<usize>, LabFault<'a>>
-    ensures { result_ok result ≡ number_of id.now (rows_of (found_of matches.now)) }
+fn port_of<'a>(matches: &ArgMatches<'a>) -> Result<Option<usize>, LabFault<'a>>
+    ensures { result_ok result ≡ number_of (codes "port") (rows_of (found_of matches.now)) }
 {
-    match number_of(matches, id, wanted)? {
+    match number_of(matches, "port", PORT)? {
         None => Ok(None),
         Some(port) => Ok(Some(port as usize)),
     }
@@ -128,6 +147,30 @@ fn is_twice(files: &[&str]) -> bool
     files.iter().filter(|file| **file == "-").count() > 1
 }
 
+/// The files of a command that is about one charger, of which the edit script is known.
+///
+/// # Errors
+/// Both are standard input.
+fn scene_with<'a>(
+    matches: &ArgMatches<'a>,
+    edits: Option<&'a str>,
+) -> Result<Scene<'a>, LabFault<'a>>
+    ensures { option_map files (result_ok result) ≡ scene_with (option_map (λ x. x.now) edits.entry) (rows_of (found_of matches.now)) }
+{
+    let Some(scenario) = first(matches, "SCENARIO") else {
+        return Err(LabFault::Words(None));
+    };
+    if is_twice(&[scenario, edits.unwrap_or("")]) {
+        return Err(LabFault::Twice);
+    }
+    Ok(Scene {
+        scenario,
+        edits,
+        keep_going: is_on(matches, "keep-going"),
+        out: first(matches, "FILE"),
+    })
+}
+
 /// The files of a command that is about one charger.
 ///
 /// # Errors
@@ -135,31 +178,24 @@ fn is_twice(files: &[&str]) -> bool
 fn scene_of<'a>(matches: &ArgMatches<'a>) -> Result<Scene<'a>, LabFault<'a>>
     ensures { option_map files (result_ok result) ≡ scene_by (rows_of (found_of matches.now)) }
 {
-    let Some(scenario) = first(matches, "SCENARIO") else {
-        return Err(LabFault::Words(None));
-    };
-    let edits = first(matches, "EDITS");
-    if is_twice(&[scenario, edits.unwrap_or("")]) {
-        return Err(LabFault::Twice);
-    }
-    Ok(Scene { scenario, edits })
+    scene_with(matches, first(matches, "EDITS"))
 }
 
 /// The part of a run that options choose.
 ///
 /// # Errors
-/// One of the numbers is none.
+/// One of the numbers is none, or the part ends before it begins.
 fn window_of<'a>(matches: &ArgMatches<'a>) -> Result<Window, LabFault<'a>>
     ensures { result_ok result ≡ window_by (rows_of (found_of matches.now)) }
 {
-    let port = port_of(matches, "port", PORT)?;
-    let from = number_of(matches, "from", FROM)?;
-    let to = number_of(matches, "to", TO)?;
-    Ok(Window {
-        port,
-        from: from.unwrap_or(0),
-        to: to.unwrap_or(u64::MAX),
-    })
+    let port = port_of(matches)?;
+    let from = number_of(matches, "from", FROM)?.unwrap_or(0);
+    let to = number_of(matches, "to", TO)?.unwrap_or(u64::MAX);
+    let window = Window { port, from, to };
+    if to < from {
+        return Err(LabFault::Window(window));
+    }
+    Ok(window)
 }
 
 /// How it is to be told.
@@ -238,17 +274,51 @@ fn show_of<'a>(matches: &ArgMatches<'a>) -> Result<LabTask<'a>, LabFault<'a>>
     Ok(LabTask::Show(scene, options))
 }
 
-/// `why SCENARIO EDITS PORT [AT]`
-fn why_of<'a>(matches: &ArgMatches<'a>) -> Result<LabTask<'a>, LabFault<'a>>
-    ensures { option_map asked (result_ok result) ≡ why_by (rows_of (found_of matches.now)) }
+/// Whether a word is a number.
+fn is_number(word: &str) -> bool
+    ensures { result ≡ is_number word.now }
 {
-    let scene = scene_of(matches)?;
+    match word.parse::<u64>() {
+        Ok(_) => true,
+        Err(_) => false,
+    }
+}
+
+/// What `why` is given: EDITS, PORT and AT.
+///
+/// # Errors
+/// PORT or AT is no number, or both files are standard input.
+fn why_with<'a>(
+    matches: &ArgMatches<'a>,
+    edits: Option<&'a str>,
+    port: &'a str,
+    at: Option<&'a str>,
+) -> Result<LabTask<'a>, LabFault<'a>>
+    ensures { option_map asked (result_ok result) ≡ why_with (rows_of (found_of matches.now))
+        (record { edits = option_map (λ x. x.now) edits.entry; port = port.now; at = option_map (λ x. x.now) at.entry }) }
+{
+    let scene = scene_with(matches, edits)?;
     let options = WhyOptions {
-        port: port_of(matches, "PORT", PORT_WORD)?.unwrap_or(0),
-        at: number_of(matches, "AT", AT)?,
+        port: number(port, PORT_WORD)? as usize,
+        at: given_number(at, AT)?,
         json: is_on(matches, "json"),
     };
     Ok(LabTask::Why(scene, options))
+}
+
+/// `why SCENARIO [EDITS] PORT [AT]`
+fn why_of<'a>(matches: &ArgMatches<'a>) -> Result<LabTask<'a>, LabFault<'a>>
+    ensures { option_map asked (result_ok result) ≡ why_by (rows_of (found_of matches.now)) }
+{
+    let Some(word) = first(matches, "PORT") else {
+        return Err(LabFault::Words(None));
+    };
+    match (first(matches, "SECOND"), first(matches, "THIRD")) {
+        (None, at) => why_with(matches, None, word, at),
+        (Some(port), Some(at)) => why_with(matches, Some(word), port, Some(at)),
+        (Some(at), None) if is_number(word) => why_with(matches, None, word, Some(at)),
+        (Some(port), None) => why_with(matches, Some(word), port, None),
+    }
 }
 
 /// `sweep SCENARIO [EDITS]`
@@ -268,14 +338,40 @@ fn sweep_of<'a>(matches: &ArgMatches<'a>) -> Result<LabTask<'a>, LabFault<'a>>
     Ok(LabTask::Sweep(scene, options))
 }
 
+/// How wide a picture is, in pixels.
+///
+/// # Errors
+/// That is no number from 1,000 to 10,000.
+fn width_of<'a>(matches: &ArgMatches<'a>) -> Result<u32, LabFault<'a>>
+    ensures { result_ok result ≡ width_by (rows_of (found_of matches.now)) }
+{
+    match number_of(matches, "width", WIDTH)? {
+        None => Ok(1_200),
+        Some(width) if 999 < width && width < 10_001 => Ok(width as u32),
+        Some(_) => {
+            let word = first(matches, "width").unwrap_or("");
+            Err(LabFault::Number {
+                wanted: WIDTH,
+                word,
+            })
+        }
+    }
+}
+
 /// `draw SCENARIO [EDITS]`
 fn draw_of<'a>(matches: &ArgMatches<'a>) -> Result<LabTask<'a>, LabFault<'a>>
     ensures { option_map asked (result_ok result) ≡ draw_by (rows_of (found_of matches.now)) }
 {
     let (scene, window) = (scene_of(matches)?, window_of(matches)?);
-    let width = number_of(matches, "width", WIDTH)?.unwrap_or(1_200);
-    let width = u32::try_from(width).unwrap_or(u32::MAX);
+    let width = width_of(matches)?;
     Ok(LabTask::Draw(scene, DrawOptions { window, width }))
+}
+
+/// `page SCENARIO [EDITS]`
+fn page_of<'a>(matches: &ArgMatches<'a>) -> Result<LabTask<'a>, LabFault<'a>>
+    ensures { option_map asked (result_ok result) ≡ page_by (rows_of (found_of matches.now)) }
+{
+    Ok(LabTask::Page(scene_of(matches)?, first(matches, "page")))
 }
 
 /// `test SCRIPT..`
@@ -326,6 +422,7 @@ fn task_of<'a>(
         "sweep" => sweep_of(matches),
         "test" => test_of(alloc, matches),
         "draw" => draw_of(matches),
+        "page" => page_of(matches),
         "explain" => explain_of(matches),
         "decode" => Ok(decode_of(matches)),
         _ => Err(LabFault::Words(None)),

@@ -116,15 +116,7 @@ pub fn show<R: Files + Input + Print + Alloc<A = Global>, E: Print>(
     let (text, script) = (opened.text.as_slice(), opened.script.as_slice());
     let choice = choice_of(options);
     let (mut out, mut meter) = (output(rt), Meter::new());
-    match show_text(
-        rt.alloc(),
-        text,
-        script,
-        Refused::Skipped,
-        &choice,
-        &mut out,
-        &mut meter,
-    ) {
+    match show_text(rt.alloc(), text, script, Refused::Skipped, &choice, &mut out, &mut meter) {
         Ok(()) => Ok(Ending::Done),
         Err(fault) => Err(tell_scene(rt, errors, opened.file, text, choice.port, fault)),
     }
@@ -151,15 +143,7 @@ pub fn why<R: Files + Input + Print + Alloc<A = Global>, E: Print>(
     } else {
         AnswerForm::Words
     };
-    match why_text(
-        rt.alloc(),
-        text,
-        script,
-        Refused::Skipped,
-        &question,
-        form,
-        &mut Meter::new(),
-    ) {
+    match why_text(rt.alloc(), text, script, Refused::Skipped, &question, form, &mut Meter::new()) {
         Ok(said) => write_out(rt, errors, said.as_slice()),
         Err(fault) => Err(tell_scene(rt, errors, opened.file, text, Some(question.port), fault)),
     }
@@ -183,14 +167,7 @@ pub fn draw<R: Files + Input + Print + Alloc<A = Global>, E: Print>(
         width: options.width,
         port: options.window.port,
     };
-    match draw_text(
-        rt.alloc(),
-        text,
-        script,
-        Refused::Skipped,
-        look,
-        &mut Meter::new(),
-    ) {
+    match draw_text(rt.alloc(), text, script, Refused::Skipped, look, &mut Meter::new()) {
         Ok(picture) => write_out(rt, errors, picture.as_slice()),
         Err(fault) => Err(tell_scene(rt, errors, opened.file, text, look.port, fault)),
     }

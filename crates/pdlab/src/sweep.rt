@@ -70,25 +70,9 @@ fn tally_of<R: Print + Clock + Alloc<A = Global>, E: Print + IsTerminal>(
     let (alloc, mut meter) = (rt.alloc(), Meter::new());
     if !errors.is_terminal() {
         let mut out = output(rt);
-        return sweep_text(
-            alloc,
-            text,
-            script,
-            Refused::Skipped,
-            campaign,
-            form,
-            &mut out,
-            &mut meter,
-        );
+        return sweep_text(alloc, text, script, Refused::Skipped, campaign, form, &mut out, &mut meter);
     }
-    let total = packet_count(
-        alloc,
-        text,
-        script,
-        Refused::Skipped,
-        &campaign.choice,
-        &mut meter,
-    )?;
+    let total = packet_count(alloc, text, script, Refused::Skipped, &campaign.choice, &mut meter)?;
     match Instant::now(rt) {
         Ok(began) => {
             let packets = Packets {
@@ -96,29 +80,11 @@ fn tally_of<R: Print + Clock + Alloc<A = Global>, E: Print + IsTerminal>(
                 heads: heads(form),
             };
             let mut lines = Watched::of(output(rt), rt, errors, packets, began);
-            sweep_text(
-                alloc,
-                text,
-                script,
-                Refused::Skipped,
-                campaign,
-                form,
-                &mut lines,
-                &mut meter,
-            )
+            sweep_text(alloc, text, script, Refused::Skipped, campaign, form, &mut lines, &mut meter)
         }
         Err(_) => {
             let mut out = output(rt);
-            sweep_text(
-                alloc,
-                text,
-                script,
-                Refused::Skipped,
-                campaign,
-                form,
-                &mut out,
-                &mut meter,
-            )
+            sweep_text(alloc, text, script, Refused::Skipped, campaign, form, &mut out, &mut meter)
         }
     }
 }

@@ -18,5 +18,6 @@ returns c =
     let sweep = more _ _ _ _ _ c.in_ok-program-4.ensures why in
     let test = more _ _ _ _ _ c.in_ok-program-5.ensures sweep in
     let draw = more _ _ _ _ _ c.in_ok-program-6.ensures test in
-    let explain = more _ _ _ _ _ c.in_ok-program-7.ensures draw in
-    IfOk-weaker c.with_command-8.result _ _ (λ program added. more _ _ _ _ _ added explain) c.with_command-8.ensures
+    let page = more _ _ _ _ _ c.in_ok-program-7.ensures draw in
+    let explain = more _ _ _ _ _ c.in_ok-program-8.ensures page in
+    IfOk-weaker c.with_command-9.result _ _ (λ program added. more _ _ _ _ _ added explain) c.with_command-9.ensures

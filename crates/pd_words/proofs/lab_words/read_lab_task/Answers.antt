@@ -1,4 +1,4 @@
-use Rattle.std.proofs.Common.{◌≡◌, ◌⊎◌, Some, None, inl, inr, map, subst}
+use Rattle.std.proofs.Common.{◌≡◌, ◌⊎◌, Some, None, inl, inr, subst}
 use Rattle.std.specs.Prelude.{IfOk, IfErr}
 use Rattle.pd_words.specs.LabTasks.{asked}
 use Rattle.pd_words.specs.declared.lab_task.LabFault.TheVariants.{Memory}
