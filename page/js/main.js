@@ -592,9 +592,9 @@ async function begin() {
   }
   const module = $("module").textContent, page = new Page(await Engine.of(await unpacked(module)), module);
   globalThis.pdbench = page;
-  const given = document.getElementById("given");
+  const given = document.getElementById("given").textContent;
   const isLinked = await page.fromAddress();
-  if (given && !isLinked) page.take(JSON.parse(given.textContent));
+  if (given && !isLinked) page.take(JSON.parse(given));
   else if (!isLinked) page.take(page.examples.find((it) => it.name === FIRST_EXAMPLE) ?? page.examples[0]);
   page.picture.paintNow();
   page.opened = performance.now();

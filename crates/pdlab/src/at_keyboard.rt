@@ -3,10 +3,11 @@
 ghost use Rattle.pd_desk.specs.Shelf.{untold};
 
 use crate::Ending;
-use crate::fault::{output, tell, tell_refused, tell_unread};
+use crate::answers::Counted;
+use crate::fault::{output, tell_refused, tell_unread, tell_unwritten};
 use pd_bench::{RunFault, read_whole};
 use pd_desk::{ByteIn, Outlets, Shelf, run_live};
-use pd_device::DeviceFault;
+use pd_device::{DeviceFault, Output};
 use pd_port::Meter;
 use std::alloc::Global;
 use std::fs::Permissions;
@@ -38,7 +39,7 @@ impl<'a, R: Files + Alloc<A = Global>> Shelf for Folder<'a, R> {
 }
 
 /// Writes a file whole, or leaves what stood there. A link stays, and what is no file, as a pipe, is written to.
-fn save<R: Files + Alloc<A = Global>>(files: &R, name: &str, text: &[u8]) -> io::Result<()> {
+pub fn save<R: Files + Alloc<A = Global>>(files: &R, name: &str, text: &[u8]) -> io::Result<()> {
     match fs::metadata(files, name) {
         Ok(found) if found.is_file() => {
             let place = fs::canonicalize(files, name)?;
@@ -120,14 +121,19 @@ where
     );
     match ended {
         Ok(_) => Ending::Done,
-        Err(fault) => tell_fault(errors, scenario, fault),
+        Err(fault) => tell_fault(errors, scenario, &outlets.answers, fault),
     }
 }
 
 /// Tells why the desk could not go on.
-fn tell_fault<E: Print>(errors: &E, scenario: &str, fault: RunFault) -> Ending {
+fn tell_fault<E: Print, W>(
+    errors: &E,
+    scenario: &str,
+    answers: &Output<Counted<W>>,
+    fault: RunFault,
+) -> Ending {
     match fault {
         RunFault::Scenario(fault) => tell_refused(errors, scenario, fault),
-        RunFault::Session(fault) => tell(errors, fault),
+        RunFault::Session(fault) => tell_unwritten(errors, answers, fault),
     }
 }

@@ -1,9 +1,10 @@
 //! `pdlab explain [--json] SCENARIO [EDITS]`.
 
 use crate::Ending;
-use crate::fault::{output, tell, tell_unread};
+use crate::fault::{output, tell, tell_unread, tell_unwritten};
+use crate::put::put_out;
 use crate::script_file::{read_input, read_script};
-use pd_device::{BenchFault, write_all};
+use pd_device::BenchFault;
 use pd_explain_text::{Form, SceneFault, Telling, explain_text};
 use pd_places::explain_places;
 use pd_port::Meter;
@@ -18,9 +19,9 @@ fn tell_places<R: Print + Alloc<A = Global>, E: Print>(
     text: &[u8],
 ) -> Ending {
     match explain_places(rt.alloc(), telling.form, telling.file, text) {
-        Ok(said) if !said.is_empty() => match write_all(&mut output(rt), said.as_slice()) {
+        Ok(said) if !said.is_empty() => match put_out(rt, errors, said.as_slice()) {
             Ok(()) => Ending::Refused,
-            Err(fault) => tell(errors, fault),
+            Err(ending) => ending,
         },
         _ => tell(errors, BenchFault::Memory),
     }
@@ -52,7 +53,7 @@ pub fn explained<R: Files + Input + Print + Alloc<A = Global>, E: Print>(
     match explain_text(rt.alloc(), text, &telling, script, &mut meter, &mut out) {
         Ok(false) => Ending::Done,
         Ok(true) => Ending::Refused,
-        Err(SceneFault::Job(fault)) => tell(errors, fault),
+        Err(SceneFault::Job(fault)) => tell_unwritten(errors, &out, fault),
         Err(_) => tell_places(rt, errors, &telling, text),
     }
 }

@@ -1,20 +1,20 @@
 //! Refusals and faults, as the program tells them on standard error.
 
 use crate::Ending;
+use crate::answers::Counted;
 use crate::help::{USAGE, help_of};
 use pd_desk::tell_reason;
 use pd_device::{BenchFault, Output};
 use pd_scenario_text::{ScenarioFault, port_count};
-use pd_scene::SceneFault;
 use pd_words::LabFault;
 use std::alloc::Global;
 use std::io;
 use std::io::Printer;
 
 /// A device that writes to what prints.
-pub fn output<P: Print>(to: &P) -> Output<Printer<'_, P>> {
+pub fn output<P: Print>(to: &P) -> Output<Counted<Printer<'_, P>>> {
     Output {
-        writer: io::writer(to),
+        writer: Counted::of(io::writer(to)),
         failures: 0,
     }
 }
@@ -26,29 +26,25 @@ pub fn tell<E: Print>(errors: &E, fault: BenchFault) -> Ending {
     Ending::Fault
 }
 
+/// Tells why not all was written; nothing, where nobody reads it any more.
+pub fn tell_unwritten<E: Print, W>(
+    errors: &E,
+    out: &Output<Counted<W>>,
+    fault: BenchFault,
+) -> Ending {
+    if out.writer.is_closed {
+        Ending::Closed
+    } else {
+        tell(errors, fault)
+    }
+}
+
 /// Tells that the scenario of a file is refused, and why.
 pub fn tell_refused<E: Print>(errors: &E, file: &str, fault: ScenarioFault) -> Ending {
     let _ = println!(errors; "scenario refused {}", fault.number());
     let _ = print!(errors; "{file}: ");
     let _ = tell_reason(&mut output(errors), fault.number());
     Ending::Refused
-}
-
-/// Tells why nothing, or not all, was done for the scenario of a file, of which a port may have been asked for.
-pub fn tell_scene<R: Alloc<A = Global>, E: Print>(
-    rt: &R,
-    errors: &E,
-    file: &str,
-    text: &[u8],
-    port: Option<usize>,
-    fault: SceneFault,
-) -> Ending {
-    match fault {
-        SceneFault::Scenario(fault) => tell_refused(errors, file, fault),
-        SceneFault::NoSuchPort => tell_no_port(rt, errors, file, text, port),
-        SceneFault::Lines => Ending::Refused,
-        SceneFault::Job(fault) => tell(errors, fault),
-    }
 }
 
 /// Tells that the scenario of a file, by its text, doesn't have the port that was asked for.
@@ -78,6 +74,12 @@ pub fn tell_words<R: Print, E: Print>(rt: &R, errors: &E, fault: &LabFault<'_>) 
         LabFault::Both(one, other) => {
             println!(errors; "error: the argument '{one}' cannot be used with '{other}'")
         }
+        LabFault::Window(window) => {
+            println!(errors;
+                "`--to` is {}, before `--from`, which is {}",
+                window.to, window.from
+            )
+        }
         LabFault::Number { wanted, word } => {
             println!(errors; "`{}` is `{word}`, not {}", wanted.name, wanted.range)
         }
@@ -98,6 +100,7 @@ pub fn tell_words<R: Print, E: Print>(rt: &R, errors: &E, fault: &LabFault<'_>) 
 fn tell_help<R: Print, E: Print>(rt: &R, errors: &E, topic: &str) -> Ending {
     match rt.print(help_of(topic)) {
         Ok(()) => Ending::Done,
+        Err(error) if error.kind() == io::ErrorKind::BrokenPipe => Ending::Closed,
         Err(_) => tell(errors, BenchFault::WriteFailed),
     }
 }

@@ -2,9 +2,9 @@
 
 /// What stands where the words are others.
 pub const USAGE: &str =
-    "usage: pdlab live SCENARIO | show SCENARIO [EDITS] [OPTIONS] | why [--json] SCENARIO EDITS PORT [AT] | \
+    "usage: pdlab live SCENARIO | show SCENARIO [EDITS] [OPTIONS] | why [OPTIONS] SCENARIO [EDITS] PORT [AT] | \
      sweep SCENARIO [EDITS] [OPTIONS] | test [--json] SCRIPT.. | draw SCENARIO [EDITS] [OPTIONS] | \
-     explain [--json] SCENARIO [EDITS] | decode [--json] [FILE] | --help";
+     page SCENARIO [EDITS] [OPTIONS] | explain [--json] SCENARIO [EDITS] | decode [--json] [FILE] | --help";
 
 /// What `--help` prints.
 pub const HELP: &str = "pdlab: the engineer's desk
@@ -14,13 +14,15 @@ usage: pdlab COMMAND ..
   live SCENARIO             a session at the keyboard
   show SCENARIO [EDITS] [OPTIONS]
                             a run as an engineer reads it, all ports in one list
-  why [--json] SCENARIO EDITS PORT [AT]
+  why [OPTIONS] SCENARIO [EDITS] PORT [AT]
                             what bounds a port's offers, and what came of them
   sweep SCENARIO [EDITS] [OPTIONS]
                             each packet lost in turn, and what that leads to
   test [--json] SCRIPT..    whether runs are as scripts expect them
   draw SCENARIO [EDITS] [OPTIONS]
                             a picture of a run, as SVG for a browser
+  page SCENARIO [EDITS] [OPTIONS]
+                            the page of the bench, with a scenario in it
   explain [--json] SCENARIO [EDITS]
                             why a scenario, or lines of an edit script, are refused,
                             and what is surely not meant
@@ -31,7 +33,7 @@ usage: pdlab COMMAND ..
 One of the files that are read may be -, standard input; not the scenario of live.
 
 status: 0 all is well, 1 the input is refused, 2 the words are others,
-        3 a file can't be read, or a fault
+        3 a file can't be read, or a fault; 141 nobody reads the answers any more
 ";
 
 /// What `live --help` prints.
@@ -74,11 +76,11 @@ pub const SHOW_HELP: &str = "pdlab show: a run as an engineer reads it
 usage: pdlab show SCENARIO [EDITS] [OPTIONS]
 
 Shows the run of the charger of the file SCENARIO, as the edit script EDITS leaves
-it (one of them may be -, standard input): why lines of EDITS are refused is told on
-standard error, and they change nothing. A line is shown for each thing that is told,
+it (one of them may be -, standard input). A line is shown for each thing that is told,
 in the order of time: events, faults, what is asked of the shared budget and answered,
 contracts, holds, packets with their content, and the states of source and sink. Each
-line begins with its time and the time since the line before, in microseconds.
+line begins with its time and the time since the line before, in microseconds. Where a
+line of EDITS is refused, nothing is shown but why, on standard error.
 
   --port P       of this port alone; ports are numbered from 1
   --from T       from this time on, in microseconds
@@ -89,39 +91,47 @@ line begins with its time and the time since the line before, in microseconds.
                  _ma, _mw, _uw)
   --csv          comma-separated values for each line, behind a line with their
                  names: at_us,since_us,port,kind,text
+  -o FILE        writes the file FILE in place of standard output
+  --keep-going   passes over refused lines of EDITS: they change nothing, and the status
+                 is 1 all the same
 
 example: pdlab show --no-goodcrc --port 1 examples/charger_65w.toml
   pdlab show --json examples/charger_65w.toml | grep contract
 
-status: 0 the run was shown, 1 the scenario is refused, or has no such port,
+status: 0 the run was shown, 1 the scenario or a line of EDITS is refused, there is no
+        such port, or nothing in that part of the run,
         2 the words are others, 3 a file can't be read, or a fault
 ";
 
 /// What `why --help` prints.
 pub const WHY_HELP: &str = "pdlab why: what bounds a port
 
-usage: pdlab why [--json] SCENARIO EDITS PORT [AT]
+usage: pdlab why [OPTIONS] SCENARIO [EDITS] PORT [AT]
 
 Runs the charger of the file SCENARIO, as the edit script EDITS leaves it (one of
-them may be -, standard input; /dev/null has no edits), and tells of the last offer of port PORT:
+them may be -, standard input), and tells of the last offer of port PORT:
 the budget, what each other port holds of it and why, and what is free; what the
 cable carries and how that is known; of each supply what is configured, what the
 cable and what is free allow, and which of them set the current that is offered,
-all that are the least; what the sink asks for and why; and what comes of it. Why
-lines of EDITS are refused is told on standard error, and they change nothing.
+all that are the least; what the sink asks for and why; and what comes of it. Where
+a line of EDITS is refused, nothing is told but why, on standard error. Of two words
+behind SCENARIO the first is PORT where it is a number, and else EDITS.
 
-  PORT     the port; ports are numbered from 1
-  AT       tells of each offer up to this time, in microseconds, in place of the last
-  --json   a JSON object for each line, with units in its keys (_us, _mv, _ma, _mw,
-           _uw), for other programs
+  PORT           the port; ports are numbered from 1
+  AT             tells of each offer up to this time, in microseconds, in place of
+                 the last
+  --json         a JSON object for each line, with units in its keys (_us, _mv, _ma,
+                 _mw, _uw), for other programs
+  --keep-going   passes over refused lines of EDITS: they change nothing, and the status
+                 is 1 all the same
 
 Voltages are in volts, currents in amperes, in the steps of 10 mA in which offers
 state them, powers in watts.
 
-example: pdlab why examples/derating.toml /dev/null 2
+example: pdlab why examples/derating.toml 2
 
-status: 0 it was told, 1 the scenario is refused, or has no such port,
-        2 the words are others, 3 a file can't be read, or a fault
+status: 0 it was told, 1 the scenario or a line of EDITS is refused, or there is no
+        such port, 2 the words are others, 3 a file can't be read, or a fault
 ";
 
 /// What `sweep --help` prints.
@@ -137,8 +147,8 @@ comes, how many faults and Hard Resets there are more, and the least that the
 contracts leave of the budget, in microwatts; where that is less than without the
 loss, when, and by which ports: those of which a contract is made then. At the end
 how many packets were tried, how many of the runs end with other contracts, and the
-worst of each column. Why lines of EDITS are refused is told on standard error, and
-they change nothing. A terminal is shown there how far it is.
+worst of each column. Where a line of EDITS is refused, nothing is told but why, on
+standard error. A terminal is shown there how far it is.
 
   --port P       packets of this port alone; ports are numbered from 1
   --from T       packets from this time on, in microseconds
@@ -152,13 +162,15 @@ they change nothing. A terminal is shown there how far it is.
                  in its keys (_us, _mv, _ma, _mw, _uw)
   --csv          comma-separated values for each packet, behind a line with their
                  names; no summary
+  --keep-going   passes over refused lines of EDITS: they change nothing, and the status
+                 is 1 all the same
 
 example: pdlab sweep --kind Request examples/charger_65w.toml
   pdlab sweep --csv examples/derating.toml > derating.csv
 
-status: 0 the packets were tried, 1 a run left less than MW, or the scenario is
-        refused, or has no such port, 2 the words are others, 3 a file can't be
-        read, or a fault
+status: 0 the packets were tried, 1 a run left less than MW, no packet was tried, the
+        scenario or a line of EDITS is refused, or there is no such port,
+        2 the words are others, 3 a file can't be read, or a fault
 ";
 
 /// What `draw --help` prints.
@@ -171,19 +183,44 @@ them may be -, standard input), and writes a picture of the run, an SVG that any
 the shared budget as a line over time, the contracts of the ports stacked below it,
 and the least margin with its value and its time; and below that a lane for each
 port, with the phases of its source, events, contracts, faults and packets. A
-browser tells more of each where the pointer is on it. Why lines of EDITS are
-refused is told on standard error, and they change nothing.
+browser tells more of each where the pointer is on it. Where a line of EDITS is
+refused, nothing is drawn, and standard error says why.
 
   --port P       the lane of this port alone; ports are numbered from 1
   --from T       from this time on, in microseconds
   --to T         up to this time
-  --width PX     the width of the picture, 1000 to 10000 pixels: another counts as
-                 the nearest of these; 1200 if left out
+  --width PX     the width of the picture, 1000 to 10000 pixels; 1200 if left out
+  -o FILE        writes the file FILE in place of standard output
+  --keep-going   passes over refused lines of EDITS: they change nothing, and the status
+                 is 1 all the same
 
 example: pdlab draw examples/derating.toml > derating.svg
 
-status: 0 the run was drawn, 1 the scenario is refused, or has no such port,
+status: 0 the run was drawn, 1 the scenario or a line of EDITS is refused, there is no
+        such port, or the run ends before T,
         2 the words are others, 3 a file can't be read, or a fault
+";
+
+/// What `page --help` prints.
+pub const PAGE_HELP: &str = "pdlab page: the page of the bench, with a scenario in it
+
+usage: pdlab page SCENARIO [EDITS] [OPTIONS]
+
+Writes the page of the bench, which runs in a browser with nothing installed, with
+the scenario of the file SCENARIO and the edit script EDITS in it (one of them may be
+-, standard input). Where a line of EDITS is refused, nothing is written, and standard
+error says why.
+
+  --page FILE    the page's file, as tools/page builds it; pdbench.html beside this
+                 program if left out
+  -o FILE        writes the file FILE in place of standard output
+  --keep-going   passes over refused lines of EDITS: they change nothing, and the status
+                 is 1 all the same
+
+example: pdlab page --page out/pdbench.html -o run.html examples/derating.toml
+
+status: 0 the page was written, 1 the scenario or a line of EDITS is refused,
+        2 the words are others, 3 a file can't be read, or is no page, or a fault
 ";
 
 /// What `test --help` prints.
@@ -212,7 +249,8 @@ a message, as Request. lose loses the NTH such packet of the run, wherever edits
 moved it. What stands behind a # is passed over, and shows are too.
 
 Each line that fails is told with what there is, and each that is refused with the
-reason; at the end how many expectations passed and failed.
+reason; at the end how many expectations passed and failed. A script that can't be
+gone through is told, and the others go on; the worst status is that of all.
 
   --json   a JSON object for each of these lines: file, line, and expected and found,
            refusal and sentence, not_lost, or not_tried; and one for the counts:
@@ -220,8 +258,8 @@ reason; at the end how many expectations passed and failed.
 
 example: pdlab test examples/charger_65w.test
 
-status: 0 all passed, 1 one failed, or a line or a scenario is refused,
-        2 the words are others, 3 a file can't be read, or a fault
+status: 0 all passed, 1 one failed, a line or a scenario is refused, or a script
+        expects nothing, 2 the words are others, 3 a file can't be read, or a fault
 ";
 
 /// What `explain --help` prints.
@@ -301,6 +339,7 @@ pub fn help_of(word: &str) -> &'static str {
         "sweep" => SWEEP_HELP,
         "test" => TEST_HELP,
         "draw" => DRAW_HELP,
+        "page" => PAGE_HELP,
         "explain" => EXPLAIN_HELP,
         "decode" => DECODE_HELP,
         _ => HELP,

@@ -1,7 +1,8 @@
 //! `pdlab decode [FILE]`.
 
 use crate::Ending;
-use crate::fault::{output, tell, tell_no_file};
+use crate::answers::Counted;
+use crate::fault::{output, tell, tell_no_file, tell_unwritten};
 use pd_device::{BenchFault, Output, write_all};
 use pd_log::{Answer, push_json, push_line, read};
 use std::alloc::{AllocError, Global};
@@ -61,7 +62,7 @@ fn decode_lines<R: Print + Alloc<A = Global>, E: Print, I: BufRead + Drop>(
         match decode_line(rt.alloc(), &mut writer, number, line.as_slice(), is_json) {
             Ok(true) => {}
             Ok(false) => ending = Ending::Refused,
-            Err(fault) => return tell(errors, fault),
+            Err(fault) => return tell_unwritten(errors, &writer, fault),
         }
     }
     ending
@@ -70,7 +71,7 @@ fn decode_lines<R: Print + Alloc<A = Global>, E: Print, I: BufRead + Drop>(
 /// Tells one line, with its line feed or without; whether it holds what the desk can read.
 fn decode_line<P: Print>(
     alloc: Global,
-    writer: &mut Output<Printer<'_, P>>,
+    writer: &mut Output<Counted<Printer<'_, P>>>,
     number: u64,
     line: &[u8],
     is_json: bool,

@@ -1,12 +1,16 @@
-//! The engineer's desk as a program: `pdlab live`, `show`, `why`, `sweep`, `test`, `draw`, `explain` and `decode`.
+//! The engineer's desk as a program: `pdlab live`, `show`, `why`, `sweep`, `test`, `draw`, `page`, `explain` and `decode`.
 #![tactic(auto)]
 
+mod answers;
 mod at_keyboard;
 mod explained;
 mod fault;
 mod help;
 mod log;
+mod opened;
+mod page;
 mod progress;
+mod put;
 mod runs;
 mod script_file;
 mod sweep;
@@ -16,6 +20,7 @@ use at_keyboard::live;
 use explained::explained;
 use fault::tell_words;
 use log::decode;
+use page::page;
 use pd_words::{LabFault, LabTask, read_lab_task};
 use runs::{draw, show, why};
 use std::alloc::{AllocError, Global};
@@ -36,6 +41,8 @@ pub enum Ending {
     Usage,
     /// A fault of a session, a file or the memory.
     Fault,
+    /// Nobody reads the answers any more, as behind `| head`.
+    Closed,
 }
 
 impl Ending {
@@ -46,6 +53,17 @@ impl Ending {
             Ending::Refused => 1,
             Ending::Usage => 2,
             Ending::Fault => 3,
+            // As of a program that the signal SIGPIPE ends: 128 and its number, 13.
+            Ending::Closed => 141,
+        }
+    }
+
+    /// The worse of two endings, by their statuses.
+    fn or_worse(self, other: Ending) -> Ending {
+        if self.status() < other.status() {
+            other
+        } else {
+            self
         }
     }
 }
@@ -69,6 +87,7 @@ where
         LabTask::Sweep(scene, options) => sweep(rt, errors, scene, &options),
         LabTask::Test(scripts, json) => test(rt, errors, scripts.as_slice(), json),
         LabTask::Draw(scene, options) => draw(rt, errors, scene, &options),
+        LabTask::Page(scene, file) => page(rt, errors, scene, file),
         LabTask::Explain(scene, json) => {
             Ok(explained(rt, errors, scene.scenario, scene.edits, json))
         }

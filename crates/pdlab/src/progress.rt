@@ -2,6 +2,7 @@
 
 ghost use Rattle.std.specs.Prelude.{◌≡◌};
 
+use crate::answers::lines_in;
 use pd_device::{DeviceFault, TextOut};
 use std::fmt;
 use std::rt::Clock;
@@ -20,7 +21,7 @@ pub struct Packets {
 /// Passes the lines of a sweep on, and tells a terminal how many of so many there were, ten times a second at most.
 #[derive(Drop)]
 pub struct Watched<'a, W, C, E> {
-    lines: W,
+    pub lines: W,
     clock: &'a C,
     terminal: &'a E,
     packets: Packets,
@@ -42,17 +43,6 @@ impl<'a, W: TextOut, C: Clock, E: Print> TextOut for Watched<'a, W, C, E> {
         self.tell();
         Ok(count)
     }
-}
-
-/// How many lines end within the first bytes.
-fn lines_in(bytes: &[u8], count: usize) -> u64 {
-    let mut lines: u64 = 0;
-    for byte in bytes.iter().take(count) {
-        if *byte == b'\n' {
-            lines = lines.saturating_add(1);
-        }
-    }
-    lines
 }
 
 impl<'a, W: TextOut, C: Clock, E: Print> Watched<'a, W, C, E> {

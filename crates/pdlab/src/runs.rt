@@ -1,90 +1,18 @@
 //! `pdlab show`, `why` and `draw`: a run of a scenario's file, as the edits of a script leave it.
 
 use crate::Ending;
-use crate::fault::{output, tell, tell_scene, tell_unread};
-use crate::script_file::{read_input, read_script};
-use pd_device::{BenchFault, write_all};
+use crate::answers::Counted;
+use crate::fault::{output, tell};
+use crate::opened::{Opened, open, reaches, tell_scene};
+use crate::put::{put, put_file};
+use pd_device::{BenchFault, Output, TextOut};
 use pd_draw::{Look, draw_text};
-use pd_explain_text::{Form as TellingForm, SceneFault, Telling, explain_text};
 use pd_port::Meter;
-use pd_scenario_text::ScenarioFault;
-use pd_scene::Refused;
-use pd_show::{Choice, Form, show_text};
+use pd_show::{Choice, Form, SceneFault, show_text};
 use pd_why::{Form as AnswerForm, Question, why_text};
-use pd_words::{DrawOptions, Form as Asked, Scene, ShowOptions, WhyOptions};
+use pd_words::{DrawOptions, Form as Asked, Scene, ShowOptions, WhyOptions, Window};
 use std::alloc::Global;
 use std::rt::Files;
-
-/// What was read of the files of a scene.
-#[derive(Drop)]
-pub struct Opened<'a> {
-    /// The name of the scenario's file.
-    pub file: &'a str,
-    /// Its bytes.
-    pub text: Vec<u8>,
-    /// The bytes of the edit script: none where none is named.
-    pub script: Vec<u8>,
-}
-
-/// Tells on standard error why lines of a script are refused. What that doesn't take is lost, and of a scenario that is refused
-/// what comes next tells.
-///
-/// # Errors
-/// There is no memory.
-fn tell_lines<R: Alloc<A = Global>, E: Print>(
-    rt: &R,
-    errors: &E,
-    opened: &Opened<'_>,
-    name: &str,
-) -> Result<(), BenchFault> {
-    let telling = Telling {
-        file: b"",
-        edits: name.as_bytes(),
-        form: TellingForm::Words,
-        warns: false,
-    };
-    let (text, script) = (opened.text.as_slice(), opened.script.as_slice());
-    let (mut out, mut meter) = (output(errors), Meter::new());
-    match explain_text(rt.alloc(), text, &telling, script, &mut meter, &mut out) {
-        Err(SceneFault::Scenario(ScenarioFault::Memory)) => Err(BenchFault::Memory),
-        Err(SceneFault::Job(BenchFault::Memory)) => Err(BenchFault::Memory),
-        _ => Ok(()),
-    }
-}
-
-/// Reads the files of a scene, and tells why lines of the script are refused.
-///
-/// # Errors
-/// One of them can't be read, or there is no memory; that is told.
-pub fn open<'a, R: Files + Input + Alloc<A = Global>, E: Print>(
-    rt: &R,
-    errors: &E,
-    scene: Scene<'a>,
-) -> Result<Opened<'a>, Ending> {
-    let (file, name) = (scene.scenario, scene.edits.unwrap_or("-"));
-    let Ok(text) = read_input(rt, file) else {
-        return Err(tell_unread(errors, file));
-    };
-    let Ok(script) = read_script(rt, scene.edits) else {
-        return Err(tell_unread(errors, name));
-    };
-    let opened = Opened { file, text, script };
-    match tell_lines(rt, errors, &opened, name) {
-        Ok(()) => Ok(opened),
-        Err(fault) => Err(tell(errors, fault)),
-    }
-}
-
-/// Writes a text to standard output.
-///
-/// # Errors
-/// It can't be written; that is told.
-fn write_out<R: Print, E: Print>(rt: &R, errors: &E, text: &[u8]) -> Result<Ending, Ending> {
-    match write_all(&mut output(rt), text) {
-        Ok(()) => Ok(Ending::Done),
-        Err(fault) => Err(tell(errors, fault)),
-    }
-}
 
 /// What is shown of the run.
 fn choice_of(options: &ShowOptions) -> Choice {
@@ -102,7 +30,84 @@ fn choice_of(options: &ShowOptions) -> Choice {
     }
 }
 
-/// Shows the run.
+/// Whether all of a run is asked for.
+fn is_whole(window: Window) -> bool {
+    window.port.is_none() && window.from == 0 && window.to == u64::MAX
+}
+
+/// How many lines a run has in a form without anything in it.
+fn heads(form: Asked) -> u64 {
+    match form {
+        Asked::Words | Asked::Json => 0,
+        Asked::Csv => 1,
+    }
+}
+
+/// Writes what is shown of the run of a scene.
+///
+/// # Errors
+/// As of `show_text`.
+fn shown<R: Alloc<A = Global>, W: TextOut>(
+    rt: &R,
+    opened: &Opened<'_>,
+    choice: &Choice,
+    out: &mut W,
+) -> Result<(), SceneFault> {
+    let (text, script) = (opened.text.as_slice(), opened.script.as_slice());
+    let mut meter = Meter::new();
+    show_text(
+        rt.alloc(),
+        text,
+        script,
+        opened.refused,
+        choice,
+        out,
+        &mut meter,
+    )
+}
+
+/// Shows the run on standard output, and says how many lines that took.
+///
+/// # Errors
+/// Something kept it from being shown; that is told.
+fn show_out<R: Print + Alloc<A = Global>, E: Print>(
+    rt: &R,
+    errors: &E,
+    opened: &Opened<'_>,
+    choice: &Choice,
+) -> Result<u64, Ending> {
+    let mut out = output(rt);
+    match shown(rt, opened, choice, &mut out) {
+        Ok(()) => Ok(out.writer.lines),
+        Err(_) if out.writer.is_closed => Err(Ending::Closed),
+        Err(fault) => Err(tell_scene(rt, errors, opened, choice.port, fault)),
+    }
+}
+
+/// Shows the run in a file, and says how many lines that took.
+///
+/// # Errors
+/// Something kept it from being shown; that is told.
+fn show_in<R: Files + Alloc<A = Global>, E: Print>(
+    rt: &R,
+    errors: &E,
+    opened: &Opened<'_>,
+    choice: &Choice,
+    file: &str,
+) -> Result<u64, Ending> {
+    let mut out = Output {
+        writer: Counted::of(Vec::new(rt.alloc())),
+        failures: 0,
+    };
+    match shown(rt, opened, choice, &mut out) {
+        Ok(()) => put_file(rt, errors, file, out.writer.writer.as_slice())?,
+        Err(SceneFault::Job(_)) => return Err(tell(errors, BenchFault::Memory)),
+        Err(fault) => return Err(tell_scene(rt, errors, opened, choice.port, fault)),
+    }
+    Ok(out.writer.lines)
+}
+
+/// Shows the run. A part of it in which nothing is, is told.
 ///
 /// # Errors
 /// Something kept it from being shown; that is told.
@@ -113,13 +118,17 @@ pub fn show<R: Files + Input + Print + Alloc<A = Global>, E: Print>(
     options: &ShowOptions,
 ) -> Result<Ending, Ending> {
     let opened = open(rt, errors, scene)?;
-    let (text, script) = (opened.text.as_slice(), opened.script.as_slice());
+    reaches(rt, errors, &opened, options.window.from)?;
     let choice = choice_of(options);
-    let (mut out, mut meter) = (output(rt), Meter::new());
-    match show_text(rt.alloc(), text, script, Refused::Skipped, &choice, &mut out, &mut meter) {
-        Ok(()) => Ok(Ending::Done),
-        Err(fault) => Err(tell_scene(rt, errors, opened.file, text, choice.port, fault)),
+    let lines = match scene.out {
+        None => show_out(rt, errors, &opened, &choice)?,
+        Some(file) => show_in(rt, errors, &opened, &choice, file)?,
+    };
+    if lines == heads(options.form) && !is_whole(options.window) {
+        let _ = println!(errors; "{}: nothing of the run is in this part of it", opened.file);
+        return Err(Ending::Refused);
     }
+    Ok(opened.ending)
 }
 
 /// Tells what bounds a port in the run.
@@ -143,10 +152,20 @@ pub fn why<R: Files + Input + Print + Alloc<A = Global>, E: Print>(
     } else {
         AnswerForm::Words
     };
-    match why_text(rt.alloc(), text, script, Refused::Skipped, &question, form, &mut Meter::new()) {
-        Ok(said) => write_out(rt, errors, said.as_slice()),
-        Err(fault) => Err(tell_scene(rt, errors, opened.file, text, Some(question.port), fault)),
+    let (refused, mut meter) = (opened.refused, Meter::new());
+    match why_text(
+        rt.alloc(),
+        text,
+        script,
+        refused,
+        &question,
+        form,
+        &mut meter,
+    ) {
+        Ok(said) => put(rt, errors, None, said.as_slice())?,
+        Err(fault) => return Err(tell_scene(rt, errors, &opened, Some(question.port), fault)),
     }
+    Ok(opened.ending)
 }
 
 /// Draws the run.
@@ -160,6 +179,7 @@ pub fn draw<R: Files + Input + Print + Alloc<A = Global>, E: Print>(
     options: &DrawOptions,
 ) -> Result<Ending, Ending> {
     let opened = open(rt, errors, scene)?;
+    reaches(rt, errors, &opened, options.window.from)?;
     let (text, script) = (opened.text.as_slice(), opened.script.as_slice());
     let look = Look {
         from: options.window.from,
@@ -167,8 +187,16 @@ pub fn draw<R: Files + Input + Print + Alloc<A = Global>, E: Print>(
         width: options.width,
         port: options.window.port,
     };
-    match draw_text(rt.alloc(), text, script, Refused::Skipped, look, &mut Meter::new()) {
-        Ok(picture) => write_out(rt, errors, picture.as_slice()),
-        Err(fault) => Err(tell_scene(rt, errors, opened.file, text, look.port, fault)),
+    match draw_text(
+        rt.alloc(),
+        text,
+        script,
+        opened.refused,
+        look,
+        &mut Meter::new(),
+    ) {
+        Ok(picture) => put(rt, errors, scene.out, picture.as_slice())?,
+        Err(fault) => return Err(tell_scene(rt, errors, &opened, look.port, fault)),
     }
+    Ok(opened.ending)
 }
