@@ -4,6 +4,7 @@ ghost use Rattle.std.specs.Prelude.{◌≡◌, ◌++◌, IfOk, OnOk};
 ghost use Rattle.std.specs.List.{flat_map};
 ghost use Rattle.pd_edit.specs.Refusals.{edited};
 ghost use Rattle.pd_explain.specs.Lines.{place_line};
+ghost use Rattle.pd_explain.specs.Places.{reasons};
 ghost use Rattle.pd_desk.specs.LineReasons.{bare, edit_reasons, no_line_text, reasons_text, show_reasons};
 
 use pd_edit::apply;
@@ -41,6 +42,21 @@ fn push_places<const N: usize>(
     Ok(())
 }
 
+/// Writes a line for the place of each reason for which an edit is refused.
+fn push_refused<const N: usize>(
+    alloc: Global,
+    text: &mut Vec<u8>,
+    scenario: &Scenario<N>,
+    edit: &Edit,
+) -> Result<(), AllocError>
+    ensures { OnOk result (text.new.items
+        ≡ text.old.items ++ flat_map (λ r. place_line bare N scenario.now r.place) (reasons N scenario.now edit.now)) }
+{
+    let front = bare(alloc)?;
+    let reasons = reasons(alloc, scenario, edit)?;
+    push_places(alloc, text, &front, scenario, reasons.as_slice())
+}
+
 /// Writes why an edit is refused, where it is.
 fn push_edit<const N: usize>(
     alloc: Global,
@@ -54,11 +70,7 @@ fn push_edit<const N: usize>(
     match apply(alloc, scenario, edit) {
         Ok(_) => Ok(()),
         Err(EditFault::Memory) => Err(AllocError),
-        Err(_) => {
-            let front = bare(alloc)?;
-            let reasons = reasons(alloc, scenario, edit)?;
-            push_places(alloc, text, &front, scenario, reasons.as_slice())
-        }
+        Err(_) => push_refused(alloc, text, scenario, edit),
     }
 }
 
