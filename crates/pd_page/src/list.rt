@@ -11,7 +11,7 @@ use crate::answer::Answer;
 use crate::ending::scene_ending;
 use pd_save::list_scenario;
 use pd_scenario::Scenario;
-use pd_scene::{BenchFault, Job, JobOn, on_scene};
+use pd_scene::{BenchFault, Job, JobOn, Refused, on_scene};
 use std::alloc::Global;
 
 // A scenario is listed.
