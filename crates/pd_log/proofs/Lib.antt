@@ -1,5 +1,6 @@
 pub mod Digits
 pub mod FirstPart
+pub mod ByteByByte
 pub mod ObjectByObject
 pub mod PartByPart
 pub mod Joined

@@ -5,7 +5,7 @@ use Rattle.pd_log.specs.Parts.{Parts, next}
 use Rattle.pd_log.specs.Words.{object_of, objects_in, with_objects}
 use Rattle.pd_log.proofs.PartByPart.{begins}
 
-joined : (read : List ℕ) (object : ℕ) (more : Option (List ℕ))
+pub joined : (read : List ℕ) (object : ℕ) (more : Option (List ℕ))
     → with_objects (read ++ object ∷ []) more ≡ with_objects read (option_and_then (λ others. Some (object ∷ others)) more)
 joined read object None = refl
 joined read object (Some more) = rw append_assoc

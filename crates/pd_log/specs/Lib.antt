@@ -4,5 +4,6 @@ pub mod Forms
 pub mod Places
 pub mod Answers
 pub mod Words
+pub mod Bytes
 pub mod Lines
 pub mod Objects

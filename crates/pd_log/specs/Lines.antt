@@ -4,11 +4,12 @@ use Rattle.pd_symbols.specs.declared.channel.Channel.TheVariants.{Sop}
 use Rattle.pd_header.specs.Header.{count_of}
 use Rattle.pd_packet.specs.declared.fault.PacketFault.{PacketFault}
 use Rattle.pd_packet.specs.declared.fault.PacketFault.TheVariants as fault
+use Rattle.pd_packet.specs.Contents.{Contents}
 use Rattle.pd_packet.specs.Reading.{number_of}
 use Rattle.pd_log.specs.declared.mark.Mark.{Mark}
 use Rattle.pd_log.specs.declared.mark.Mark.TheVariants.{Whole, Lost, Damaged}
 use Rattle.pd_log.specs.declared.answer.Answer.{Answer}
-use Rattle.pd_log.specs.declared.answer.Answer.TheVariants.{Nothing, Packet, Fault, HardReset, Header, Miscounted, Unknown}
+use Rattle.pd_log.specs.declared.answer.Answer.TheVariants.{Nothing, Packet, Bytes, Either, Fault, HardReset, Header, Miscounted, Unknown}
 use Rattle.pd_content.specs.Texts.{header_text, packet_text}
 
 abbrev pub mark_text : Mark → List ℕ
@@ -35,9 +36,19 @@ told_text header = codes ", told by the header " ++ decimal (count_of header)
 unfoldable pub counts_text : ℕ → ℕ → List ℕ
 counts_text header there = header_text Sop header ++ (codes " | objects there " ++ (decimal there ++ told_text header))
 
+-- a packet that was read as bytes
+unfoldable pub bytes_text : Contents → List ℕ
+bytes_text p = packet_text p ++ codes " (as bytes, low first)"
+
+-- a packet of words, and that of the bytes
+unfoldable pub either_text : Contents → Contents → List ℕ
+either_text p q = packet_text p ++ (codes "; or as bytes, low first: " ++ packet_text q)
+
 unfoldable pub said : Answer → List ℕ
 said Nothing = []
 said (Packet p mark) = packet_text p ++ mark_text mark
+said (Bytes p) = bytes_text p
+said (Either p q) = either_text p q
 said (Fault fault at mark) = fault_text fault at ++ mark_text mark
 said (HardReset mark) = codes "Hard Reset" ++ mark_text mark
 said (Header header) = counts_text header 0

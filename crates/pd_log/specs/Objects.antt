@@ -3,11 +3,12 @@ use Rattle.std.specs.Prelude.{ℕ, List, [], ◌∷◌, ◌++◌, codes, decimal
 use Rattle.pd_symbols.specs.declared.channel.Channel.TheVariants.{Sop}
 use Rattle.pd_header.specs.Header.{count_of}
 use Rattle.pd_packet.specs.declared.fault.PacketFault.{PacketFault}
+use Rattle.pd_packet.specs.Contents.{Contents}
 use Rattle.pd_packet.specs.Reading.{number_of}
 use Rattle.pd_log.specs.declared.mark.Mark.{Mark}
 use Rattle.pd_log.specs.declared.mark.Mark.TheVariants.{Whole, Lost, Damaged}
 use Rattle.pd_log.specs.declared.answer.Answer.{Answer}
-use Rattle.pd_log.specs.declared.answer.Answer.TheVariants.{Nothing, Packet, Fault, HardReset, Header, Miscounted, Unknown}
+use Rattle.pd_log.specs.declared.answer.Answer.TheVariants.{Nothing, Packet, Bytes, Either, Fault, HardReset, Header, Miscounted, Unknown}
 use Rattle.pd_content.specs.Members.{header_members, packet_members}
 use Rattle.pd_log.specs.Lines.{fault_words}
 
@@ -36,10 +37,21 @@ counts_members header there =
 unfoldable pub reset_members : Mark → List ℕ
 reset_members mark = codes "\"hard_reset\"" ++ mark_member mark
 
+-- a packet that was read as bytes
+unfoldable pub bytes_members : Contents → List ℕ
+bytes_members p = codes "\"packet\",\"mark\":\"whole\",\"read_as\":\"bytes\"," ++ packet_members p
+
+-- a packet of words, and that of the bytes
+unfoldable pub either_members : Contents → Contents → List ℕ
+either_members p q =
+    codes "\"packet\",\"mark\":\"whole\"," ++ (packet_members p ++ (codes ",\"or_as_bytes\":{" ++ (packet_members q ++ codes "}")))
+
 -- the kind, and the members of that kind
 unfoldable pub members : Answer → List ℕ
 members Nothing = codes "\"nothing\""
 members (Packet p mark) = codes "\"packet\"" ++ (mark_member mark ++ 44 ∷ packet_members p)
+members (Bytes p) = bytes_members p
+members (Either p q) = either_members p q
 members (Fault fault at mark) = fault_members fault at ++ mark_member mark
 members (HardReset mark) = reset_members mark
 members (Header header) = counts_members header 0

@@ -10,6 +10,10 @@ pub enum Answer {
     Nothing,
     /// Its codes spell this packet, or its header and its objects are those of this packet on SOP.
     Packet(Packet, Mark),
+    /// Its bytes are those of this packet, low byte first.
+    Bytes(Packet),
+    /// Its header and its objects are those of the first packet on SOP; its bytes, low byte first, those of the second.
+    Either(Packet, Packet),
     /// Its codes spell none: the first fault, and at which of the codes it shows, from 1.
     Fault {
         fault: PacketFault,
@@ -22,6 +26,6 @@ pub enum Answer {
     Header(u16),
     /// It gives a header and so many objects, and the header tells another count.
     Miscounted(u16, usize),
-    /// It gives neither codes nor a header.
+    /// It gives neither codes, nor a header, nor a packet as bytes.
     Unknown,
 }

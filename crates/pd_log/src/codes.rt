@@ -19,7 +19,7 @@ fn digit_of(byte: u8) -> Option<u8>
 }
 
 /// The number of two hexadecimal digits.
-fn pair_of(high: u8, low: u8) -> Option<u8>
+pub(crate) fn pair_of(high: u8, low: u8) -> Option<u8>
     ensures { result ≡ pair_of high low }
 {
     Some(16 * digit_of(high)? + digit_of(low)?)

@@ -1,14 +1,14 @@
 //! What a line of a log says, as a JSON object.
 
 ghost use Rattle.std.specs.Prelude.{◌≡◌, ◌++◌, OnOk};
-ghost use Rattle.pd_log.specs.Objects.{counts_members, fault_members, json_text, mark_member, mark_name, members};
+ghost use Rattle.pd_log.specs.Objects.{bytes_members, counts_members, either_members, fault_members, json_text, mark_member, mark_name, members};
 ghost use Rattle.pd_log.specs.Objects.{reason_member, reset_members, told_member};
 
 use crate::line::fault_words;
 use crate::{Answer, Mark};
 use pd_content::{push_header_members, push_number, push_packet_members};
 use pd_header::header_count;
-use pd_packet::PacketFault;
+use pd_packet::{Packet, PacketFault};
 use pd_symbols::Channel;
 use std::alloc::AllocError;
 
@@ -90,6 +90,29 @@ fn push_reset(text: &mut Vec<u8>, mark: Mark) -> Result<(), AllocError>
     Ok(())
 }
 
+/// Writes a packet that was read as bytes, as members.
+#[tactic(auto, unfolding(crate::specs::Objects::bytes_members))]
+fn push_bytes(text: &mut Vec<u8>, packet: &Packet) -> Result<(), AllocError>
+    ensures { OnOk result (text.new.items ≡ text.old.items ++ bytes_members packet.now) }
+{
+    text.extend_from_slice(b"\"packet\",\"mark\":\"whole\",\"read_as\":\"bytes\",")?;
+    push_packet_members(text, packet)?;
+    Ok(())
+}
+
+/// Writes a packet of words, and that of the bytes, as members.
+#[tactic(auto, unfolding(crate::specs::Objects::either_members))]
+fn push_either(text: &mut Vec<u8>, packet: &Packet, bytes: &Packet) -> Result<(), AllocError>
+    ensures { OnOk result (text.new.items ≡ text.old.items ++ either_members packet.now bytes.now) }
+{
+    text.extend_from_slice(b"\"packet\",\"mark\":\"whole\",")?;
+    push_packet_members(text, packet)?;
+    text.extend_from_slice(b",\"or_as_bytes\":{")?;
+    push_packet_members(text, bytes)?;
+    text.extend_from_slice(b"}")?;
+    Ok(())
+}
+
 /// Writes what a line says: its kind, and the members of that kind.
 #[tactic(auto, unfolding(crate::specs::Objects::members))]
 fn push_members(text: &mut Vec<u8>, answer: &Answer) -> Result<(), AllocError>
@@ -103,6 +126,8 @@ fn push_members(text: &mut Vec<u8>, answer: &Answer) -> Result<(), AllocError>
             text.push(b',')?;
             push_packet_members(text, packet)
         }
+        Answer::Bytes(packet) => push_bytes(text, packet),
+        Answer::Either(packet, bytes) => push_either(text, packet, bytes),
         Answer::Fault { fault, at, mark } => {
             push_fault(text, *fault, *at)?;
             push_mark(text, *mark)

@@ -1,8 +1,9 @@
-//! What a line of a log says: a packet, by its codes, or by its header and its objects; and what is told of it, as a line of text and as a
-//! JSON object.
+//! What a line of a log says: a packet, by its codes, by its header and its objects, or by its bytes; and what is told of it, as a line
+//! of text and as a JSON object.
 #![tactic(auto)]
 
 mod answer;
+mod bytes;
 mod codes;
 mod given;
 mod heads;

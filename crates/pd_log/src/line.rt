@@ -1,12 +1,12 @@
 //! What a line of a log says, as a line of text.
 
 ghost use Rattle.std.specs.Prelude.{◌≡◌, ◌++◌, OnOk};
-ghost use Rattle.pd_log.specs.Lines.{counts_text, fault_text, fault_words, line_text, mark_text, said, told_text};
+ghost use Rattle.pd_log.specs.Lines.{bytes_text, counts_text, either_text, fault_text, fault_words, line_text, mark_text, said, told_text};
 
 use crate::{Answer, Mark};
 use pd_content::{push_header, push_number, push_packet};
 use pd_header::header_count;
-use pd_packet::PacketFault;
+use pd_packet::{Packet, PacketFault};
 use pd_symbols::Channel;
 use std::alloc::AllocError;
 
@@ -68,6 +68,26 @@ fn push_counts(text: &mut Vec<u8>, header: u16, there: usize) -> Result<(), Allo
     push_told(text, header)
 }
 
+/// Writes a packet that was read as bytes.
+#[tactic(auto, unfolding(crate::specs::Lines::bytes_text))]
+fn push_bytes(text: &mut Vec<u8>, packet: &Packet) -> Result<(), AllocError>
+    ensures { OnOk result (text.new.items ≡ text.old.items ++ bytes_text packet.now) }
+{
+    push_packet(text, packet)?;
+    text.extend_from_slice(b" (as bytes, low first)")
+}
+
+/// Writes a packet of words, and that of the bytes.
+#[tactic(auto, unfolding(crate::specs::Lines::either_text))]
+fn push_either(text: &mut Vec<u8>, packet: &Packet, bytes: &Packet) -> Result<(), AllocError>
+    ensures { OnOk result (text.new.items ≡ text.old.items ++ either_text packet.now bytes.now) }
+{
+    push_packet(text, packet)?;
+    text.extend_from_slice(b"; or as bytes, low first: ")?;
+    push_packet(text, bytes)?;
+    Ok(())
+}
+
 /// Writes what a line says.
 #[tactic(auto, unfolding(crate::specs::Lines::said))]
 fn push_said(text: &mut Vec<u8>, answer: &Answer) -> Result<(), AllocError>
@@ -79,6 +99,8 @@ fn push_said(text: &mut Vec<u8>, answer: &Answer) -> Result<(), AllocError>
             push_packet(text, packet)?;
             text.extend_from_slice(mark_text(*mark).as_bytes())
         }
+        Answer::Bytes(packet) => push_bytes(text, packet),
+        Answer::Either(packet, bytes) => push_either(text, packet, bytes),
         Answer::Fault { fault, at, mark } => {
             push_fault(text, *fault, *at)?;
             text.extend_from_slice(mark_text(*mark).as_bytes())

@@ -1,9 +1,10 @@
 //! A line of a log to what it says.
 
 ghost use Rattle.std.specs.Prelude.{◌≡◌, IfOk};
-ghost use Rattle.pd_log.specs.Answers.{Says, Tells, words_answer};
+ghost use Rattle.pd_log.specs.Answers.{Says, Tells, TellsEither, with_bytes, words_answer};
 
 use crate::answer::Answer;
+use crate::bytes::given_bytes;
 use crate::given::given_codes;
 use crate::mark::Mark;
 use crate::places::place_of;
@@ -28,6 +29,27 @@ fn answer_of(codes: &[u8], mark: Mark) -> Answer
             at: place_of(fault, codes),
             mark,
         },
+    }
+}
+
+/// What codes come to that are this packet as bytes, if they are one.
+fn codes_answer(codes: &[u8], mark: Mark, bytes: Option<Packet>) -> Answer
+    ensures { TellsEither codes.now mark bytes result }
+{
+    match (answer_of(codes, mark), bytes) {
+        (Answer::Fault { .. }, Some(packet)) => Answer::Bytes(packet),
+        (answer, _) => answer,
+    }
+}
+
+/// What is told of a line without codes that is this packet as bytes, if it is one.
+fn with_bytes(answer: Answer, bytes: Option<Packet>) -> Answer
+    ensures { result ≡ with_bytes answer bytes }
+{
+    match (answer, bytes) {
+        (answer, None) => answer,
+        (Answer::Packet(packet, _), Some(other)) => Answer::Either(packet, other),
+        (_, Some(packet)) => Answer::Bytes(packet),
     }
 }
 
@@ -56,11 +78,13 @@ pub fn read(alloc: Global, line: &[u8]) -> Result<Answer, AllocError>
     if tells_nothing(line) {
         return Ok(Answer::Nothing);
     }
+    let bytes = given_bytes(alloc, line)?;
     if let Some(given) = given_codes(alloc, line)? {
-        return Ok(answer_of(given.codes.as_slice(), given.mark));
+        return Ok(codes_answer(given.codes.as_slice(), given.mark, bytes));
     }
-    match given_words(alloc, line)? {
-        Some(words) => Ok(words_answer(words.header, words.objects.as_slice())),
-        None => Ok(Answer::Unknown),
-    }
+    let answer = match given_words(alloc, line)? {
+        Some(words) => words_answer(words.header, words.objects.as_slice()),
+        None => Answer::Unknown,
+    };
+    Ok(with_bytes(answer, bytes))
 }

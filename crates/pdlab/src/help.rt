@@ -318,8 +318,10 @@ A line may hold
   a transcript   a line of pdbench's show transcript, with lost or damaged
   words          a header and objects: 11A1 0001912C; PD RX, header: 0x161 [1];
                  RECV 11a1/1 0001912C
-Codes that spell no packet are told with the first fault and the place of the
-code. A line that begins with # or =, an empty one, and what pdbench answers to an
+  bytes          low byte first: A1 11 2C 91 01 00, a1112c910100, or behind their
+                 count, as a port's registers have them
+Codes that spell no packet, and are none as bytes, are told with the first fault and
+the place of the code. A line that begins with # or =, an empty one, and what pdbench answers to an
 edit, as ok, tell nothing. Any other line is told to be of unknown form, as those of
 pdlab show, which tell what packets say themselves.
 

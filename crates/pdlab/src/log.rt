@@ -36,7 +36,11 @@ pub fn decode<R: Files + Input + Print + Alloc<A = Global>, E: Print>(
 fn is_read(answer: &Answer) -> bool {
     matches!(
         answer,
-        Answer::Nothing | Answer::Packet(_, _) | Answer::HardReset(_)
+        Answer::Nothing
+            | Answer::Packet(_, _)
+            | Answer::Bytes(_)
+            | Answer::Either(_, _)
+            | Answer::HardReset(_)
     )
 }
 
