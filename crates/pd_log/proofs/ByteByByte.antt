@@ -2,7 +2,7 @@
 use Rattle.std.proofs.Common.{◌≡◌, ◌-◌, ◌≤◌, ℕ, List, [], ◌∷◌, ◌++◌, refl, append_assoc, Some, None, length, get_or, take, drop, arith}
 use Rattle.std.specs.Prelude.{Option, option_and_then}
 use Rattle.std.proofs.lemmas.List.{take_all}
-use Rattle.pd_log.specs.Bytes.{bytes_in, object_low_first, objects_of, pairs_of}
+use Rattle.pd_log.specs.Bytes.{bytes_in, pairs_of}
 use Rattle.pd_log.specs.Codes.{pair_of, without_0x}
 use Rattle.pd_log.specs.Parts.{Parts, next}
 use Rattle.pd_log.specs.Words.{with_objects}
@@ -24,10 +24,6 @@ pub no_pair : (read digits : List ℕ) → 2 ≤ length digits → None ≡ pair
 no_pair read [] long is = absurd (omega arith)
 no_pair read (high ∷ []) long is = absurd (omega arith)
 no_pair read (high ∷ low ∷ digits) long is = rw (← is)
-
-pub next_object : (read : List ℕ) (a b c d : ℕ) (bytes : List ℕ)
-    → with_objects (read ++ object_low_first a b c d ∷ []) (objects_of bytes) ≡ with_objects read (objects_of (a ∷ b ∷ c ∷ d ∷ bytes))
-next_object read a b c d bytes = joined read (object_low_first a b c d) (objects_of bytes)
 
 -- what stands behind bytes that are read
 behind : (read bytes : List ℕ) (more : Option (List ℕ))

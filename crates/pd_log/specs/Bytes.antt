@@ -1,6 +1,7 @@
 -- The packet of a line of bytes, low byte first, as a port's registers and a bus's dumps have it: two bytes of header and four of each
 -- object.
-use Rattle.std.specs.Prelude.{ℕ, suc, ◌+◌, ◌*◌, ◌==◌, ◌&&◌, nat_le, not, Bool, List, [], ◌∷◌, ◌++◌, length, Option, Some, None, if◌then◌else◌}
+use Rattle.std.specs.Prelude.{ℕ, suc, ◌+◌, ◌*◌, ◌==◌, ◌&&◌, nat_le, not, Bool, List, [], ◌∷◌, ◌++◌, length, Option, Some, None}
+use Rattle.std.specs.Prelude.{if◌then◌else◌}
 use Rattle.pd_symbols.specs.declared.channel.Channel.{Channel}
 use Rattle.pd_symbols.specs.declared.channel.Channel.TheVariants.{Sop, SopPrime}
 use Rattle.pd_header.specs.Header.{count_of}
@@ -47,7 +48,8 @@ is_cut header objects = nat_le 32768 header && length objects == 0
 -- a header tells of as many objects as there are
 abbrev pub fitting : Channel → ℕ → List ℕ → Option Contents
 fitting set header objects =
-    if not (is_cut header objects) && count_of header == length objects then Some (record { channel = set; header = header; objects = objects })
+    if not (is_cut header objects) && count_of header == length objects
+    then Some (record { channel = set; header = header; objects = objects })
     else None
 
 -- a header and its objects

@@ -1,8 +1,8 @@
 //! The packet that a line of bytes gives, low byte first.
 
 ghost use Rattle.std.specs.Prelude.{◌≡◌, ◌<◌, ◌^◌, IfOk, None, Some, if◌then◌else◌, option_map};
-ghost use Rattle.pd_log.specs.Bytes.{bytes_in, counted_of, fitting, framed_of, given_bytes, low_first, message_of, object_low_first, objects_of};
-ghost use Rattle.pd_log.specs.Bytes.{packet_of, pairs_of, set_of};
+ghost use Rattle.pd_log.specs.Bytes.{bytes_in, counted_of, fitting, framed_of, given_bytes, low_first, message_of};
+ghost use Rattle.pd_log.specs.Bytes.{object_low_first, objects_of, packet_of, pairs_of, set_of};
 ghost use Rattle.pd_log.specs.Parts.{parts};
 ghost use Rattle.pd_log.specs.Words.{with_objects};
 

@@ -1,8 +1,8 @@
 //! What a line of a log says, as a JSON object.
 
 ghost use Rattle.std.specs.Prelude.{◌≡◌, ◌++◌, OnOk};
-ghost use Rattle.pd_log.specs.Objects.{bytes_members, counts_members, either_members, fault_members, json_text, mark_member, mark_name, members};
-ghost use Rattle.pd_log.specs.Objects.{reason_member, reset_members, told_member};
+ghost use Rattle.pd_log.specs.Objects.{bytes_members, counts_members, either_members, fault_members, json_text, mark_member};
+ghost use Rattle.pd_log.specs.Objects.{mark_name, members, reason_member, reset_members, told_member};
 
 use crate::line::fault_words;
 use crate::{Answer, Mark};
