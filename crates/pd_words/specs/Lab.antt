@@ -78,7 +78,7 @@ abbrev pub page : Shape
 page = command (codes "page") (must (codes "SCENARIO") ∷ may (codes "EDITS") ∷ keep_going ∷ out ∷ value (codes "page") ∷ [])
 
 abbrev pub explain : Shape
-explain = command (codes "explain") (must (codes "SCENARIO") ∷ may (codes "EDITS") ∷ flag (codes "json") ∷ [])
+explain = command (codes "explain") (must (codes "SCENARIO") ∷ may (codes "EDITS") ∷ flag (codes "json") ∷ flag (codes "strict") ∷ [])
 
 abbrev pub decode : Shape
 decode = command (codes "decode") (may (codes "FILE") ∷ flag (codes "json") ∷ [])

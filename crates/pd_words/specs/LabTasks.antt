@@ -3,13 +3,17 @@ use Rattle.std.specs.Prelude.{ℕ, ◌-◌, ◌^◌, ◌&&◌, Bool, false, not,
 use Rattle.std.specs.Prelude.{Option, None, Some, option_and_then, option_map, unwrap_or, count_by, nat_lt, if◌then◌else◌}
 use Rattle.std.specs.Char.{digit_value}
 use Rattle.std.specs.List.{list_all}
-use Rattle.std.specs.Option.{option_map_or}
+use Rattle.std.specs.Option.{option_map_or, option_or}
 use Rattle.std.specs.Str.Parse.{digits_value, without_leading_plus}
 use Rattle.clap.specs.Words.{Row, Text, all_of, first_of, fault_of, subcommand_of}
 use Rattle.clap.specs.Kinds.{Kinds}
+use Rattle.pd_units.specs.Quantities.{number_in}
+use Rattle.pd_units.specs.declared.unit.Unit.{Unit}
+use Rattle.pd_units.specs.declared.unit.Unit.TheVariants.{Microseconds, Milliwatts}
 use Rattle.pd_words.specs.Lab.{lab}
 use Rattle.pd_words.specs.Names.{named}
 use Rattle.pd_words.specs.declared.lab_task.DrawOptions.{DrawOptions}
+use Rattle.pd_words.specs.declared.lab_task.ExplainOptions.{ExplainOptions}
 use Rattle.pd_words.specs.declared.lab_task.Form.{Form}
 use Rattle.pd_words.specs.declared.lab_task.Form.TheVariants.{Words, Json, Csv}
 use Rattle.pd_words.specs.declared.lab_task.LabTask.{LabTask}
@@ -38,7 +42,7 @@ pub data Asked : Type 0 where
   test : (scripts : List Text) → (json : Bool) → Asked
   draw : Files → DrawOptions → Asked
   page : Files → (page : Option Text) → Asked
-  explain : Files → (json : Bool) → Asked
+  explain : Files → ExplainOptions → Asked
   decode : (file : Text) → (json : Bool) → Asked
 
 -- ---- a word or an option, by what was found
@@ -55,6 +59,10 @@ is_number word = let digits = without_leading_plus word in
 abbrev pub number : Text → Option ℕ
 number word = if is_number word then Some (digits_value 10 (without_leading_plus word)) else None
 
+-- a word as a number of a unit: bare, or with a unit of the same kind behind it
+abbrev pub quantity : Unit → Text → Option ℕ
+quantity own word = option_or (number word) (number_in own word)
+
 -- what a word gives that may be left out
 abbrev pub given_by : {T : Type 0} → (Text → Option T) → Option Text → Option (Option T)
 given_by reads None = Some None
@@ -62,6 +70,9 @@ given_by reads (Some word) = option_map (λ value. Some value) (reads word)
 
 abbrev pub number_of : Text → List Row → Option (Option ℕ)
 number_of name rows = given_by number (first_of name rows)
+
+abbrev pub quantity_of : Unit → Text → List Row → Option (Option ℕ)
+quantity_of own name rows = given_by (quantity own) (first_of name rows)
 
 -- standard input is named more than once among the files
 abbrev pub is_twice : List Text → Bool
@@ -88,7 +99,7 @@ abbrev pub window_by : List Row → Option Window
 window_by rows =
     option_and_then (λ port. option_and_then (λ from. option_and_then (λ to.
     window_with port (unwrap_or from 0) (unwrap_or to (2 ^ 64 - 1)))
-    (number_of (codes "to") rows)) (number_of (codes "from") rows)) (number_of (codes "port") rows)
+    (quantity_of Microseconds (codes "to") rows)) (quantity_of Microseconds (codes "from") rows)) (number_of (codes "port") rows)
 
 -- not both as JSON and as values
 abbrev pub form_by : List Row → Option Form
@@ -134,7 +145,7 @@ why_with rows words = option_and_then (λ files. option_and_then (λ port. optio
   port = port;
   at = at;
   json = is_on (codes "json") rows;
-})) (given_by number words.at)) (number words.port)) (scene_with words.edits rows)
+})) (given_by (quantity Microseconds) words.at)) (number words.port)) (scene_with words.edits rows)
 
 abbrev pub why_by : List Row → Option Asked
 why_by rows = option_and_then (λ first. why_with rows (why_words first (first_of (codes "SECOND") rows) (first_of (codes "THIRD") rows)))
@@ -149,7 +160,7 @@ sweep_by rows = option_and_then (λ files. option_and_then (λ window. option_an
       behind = behind;
       reserve = reserve;
       form = form;
-    })) (form_by rows)) (behind_by rows)) (given_by named (first_of (codes "kind") rows))) (number_of (codes "reserve") rows))
+    })) (form_by rows)) (behind_by rows)) (given_by named (first_of (codes "kind") rows))) (quantity_of Milliwatts (codes "reserve") rows))
     (window_by rows)) (scene_by rows)
 
 abbrev pub test_by : List Row → Option Asked
@@ -172,7 +183,10 @@ abbrev pub page_by : List Row → Option Asked
 page_by rows = option_map (λ files. page files (first_of (codes "page") rows)) (scene_by rows)
 
 abbrev pub explain_by : List Row → Option Asked
-explain_by rows = option_map (λ files. explain files (is_on (codes "json") rows)) (scene_by rows)
+explain_by rows = option_map (λ files. explain files (record {
+  json = is_on (codes "json") rows;
+  strict = is_on (codes "strict") rows;
+})) (scene_by rows)
 
 -- standard input where no file is named
 abbrev pub decode_by : List Row → Option Asked
@@ -216,5 +230,5 @@ asked (task.Sweep scene options) = sweep (files scene) options
 asked (task.Test scripts json) = test (map (λ x. x.now) scripts.items) json
 asked (task.Draw scene options) = draw (files scene) options
 asked (task.Page scene name) = page (files scene) (option_map (λ x. x.now) name)
-asked (task.Explain scene json) = explain (files scene) json
+asked (task.Explain scene options) = explain (files scene) options
 asked (task.Decode file json) = decode file.now json

@@ -1,6 +1,7 @@
 pub mod Found
 pub mod Lab
 pub mod LabTasks
+pub mod Meant
 pub mod Names
 pub mod Program
 pub mod Tasks

@@ -10,7 +10,7 @@ use std::alloc::{AllocError, Global};
 
 /// What may stand behind a command's name.
 #[derive(Clone, Copy)]
-enum Slot<'a> {
+pub enum Slot<'a> {
     /// A word that has to be there.
     Must(&'a str),
     /// A word that may be there.
@@ -68,41 +68,111 @@ fn with_command<'a>(
     program.subcommand(command(alloc, name, slots)?)
 }
 
+const SCENARIO: Slot = Must("SCENARIO");
+
+const EDITS: Slot = May("EDITS");
+
+const KEEP_GOING: Slot = Flag("keep-going");
+
+const OUT: Slot = Letter('o', "FILE");
+
+const PORT: Slot = Value("port");
+
+const FROM: Slot = Value("from");
+
+const TO: Slot = Value("to");
+
+const JSON: Slot = Flag("json");
+
+const CSV: Slot = Flag("csv");
+
+const LIVE: [Slot; 1] = [SCENARIO];
+
+const SHOW: [Slot; 11] = [
+    SCENARIO,
+    EDITS,
+    KEEP_GOING,
+    OUT,
+    PORT,
+    FROM,
+    TO,
+    Flag("no-goodcrc"),
+    Flag("codes"),
+    JSON,
+    CSV,
+];
+
+const WHY: [Slot; 6] = [
+    SCENARIO,
+    Must("PORT"),
+    May("SECOND"),
+    May("THIRD"),
+    KEEP_GOING,
+    JSON,
+];
+
+const SWEEP: [Slot; 12] = [
+    SCENARIO,
+    EDITS,
+    KEEP_GOING,
+    PORT,
+    FROM,
+    TO,
+    Value("kind"),
+    Flag("damage"),
+    Value("in-a-row"),
+    Value("reserve"),
+    JSON,
+    CSV,
+];
+
+const TEST: [Slot; 2] = [Several("SCRIPT"), JSON];
+
+const DRAW: [Slot; 8] = [
+    SCENARIO,
+    EDITS,
+    KEEP_GOING,
+    OUT,
+    PORT,
+    FROM,
+    TO,
+    Value("width"),
+];
+
+const PAGE: [Slot; 5] = [SCENARIO, EDITS, KEEP_GOING, OUT, Value("page")];
+
+const EXPLAIN: [Slot; 4] = [SCENARIO, EDITS, JSON, Flag("strict")];
+
+const DECODE: [Slot; 2] = [May("FILE"), JSON];
+
+/// What may stand behind the name of a command of `pdlab`.
+pub fn slots_of(command: &str) -> &'static [Slot<'static>] {
+    match command {
+        "live" => &LIVE,
+        "show" => &SHOW,
+        "why" => &WHY,
+        "sweep" => &SWEEP,
+        "test" => &TEST,
+        "draw" => &DRAW,
+        "page" => &PAGE,
+        "explain" => &EXPLAIN,
+        "decode" => &DECODE,
+        _ => &[],
+    }
+}
+
 /// The commands of `pdlab`.
 pub fn lab<'a>(alloc: Global) -> Result<Command<'a>, AllocError>
     ensures { IfOk result (λ c. app_of c ≡ lab) }
 {
-    let (scenario, edits, json, csv) = (Must("SCENARIO"), May("EDITS"), Flag("json"), Flag("csv"));
-    let (port, from, to) = (Value("port"), Value("from"), Value("to"));
-    let (keep_going, out) = (Flag("keep-going"), Letter('o', "FILE"));
     let program = Command::new(alloc, "pdlab");
-    let program = with_command(alloc, program, "live", &[scenario])?;
-    let (bare, codes) = (Flag("no-goodcrc"), Flag("codes"));
-    let show = [
-        scenario, edits, keep_going, out, port, from, to, bare, codes, json, csv,
-    ];
-    let program = with_command(alloc, program, "show", &show)?;
-    let why = [
-        scenario,
-        Must("PORT"),
-        May("SECOND"),
-        May("THIRD"),
-        keep_going,
-        json,
-    ];
-    let program = with_command(alloc, program, "why", &why)?;
-    let (kind, damage) = (Value("kind"), Flag("damage"));
-    let (in_a_row, reserve) = (Value("in-a-row"), Value("reserve"));
-    let sweep = [
-        scenario, edits, keep_going, port, from, to, kind, damage, in_a_row, reserve, json, csv,
-    ];
-    let program = with_command(alloc, program, "sweep", &sweep)?;
-    let program = with_command(alloc, program, "test", &[Several("SCRIPT"), json])?;
-    let width = Value("width");
-    let draw = [scenario, edits, keep_going, out, port, from, to, width];
-    let program = with_command(alloc, program, "draw", &draw)?;
-    let page = [scenario, edits, keep_going, out, Value("page")];
-    let program = with_command(alloc, program, "page", &page)?;
-    let program = with_command(alloc, program, "explain", &[scenario, edits, json])?;
-    with_command(alloc, program, "decode", &[May("FILE"), json])
+    let program = with_command(alloc, program, "live", &LIVE)?;
+    let program = with_command(alloc, program, "show", &SHOW)?;
+    let program = with_command(alloc, program, "why", &WHY)?;
+    let program = with_command(alloc, program, "sweep", &SWEEP)?;
+    let program = with_command(alloc, program, "test", &TEST)?;
+    let program = with_command(alloc, program, "draw", &DRAW)?;
+    let program = with_command(alloc, program, "page", &PAGE)?;
+    let program = with_command(alloc, program, "explain", &EXPLAIN)?;
+    with_command(alloc, program, "decode", &DECODE)
 }

@@ -66,6 +66,13 @@ pub struct DrawOptions {
     pub width: u32,
 }
 
+/// How it is told why a scenario or lines are refused: as JSON objects, or in words; and whether warnings count as refusals.
+#[derive(Clone, Copy)]
+pub struct ExplainOptions {
+    pub json: bool,
+    pub strict: bool,
+}
+
 /// What a command line asks for, by the name of its command. The last value of some tells whether JSON objects are wanted.
 #[derive(Drop)]
 pub enum LabTask<'a> {
@@ -84,7 +91,7 @@ pub enum LabTask<'a> {
     /// The page with a scenario in it, which is made of the file of this name.
     Page(Scene<'a>, Option<&'a str>),
     /// Why a scenario or lines of its edit script are refused.
-    Explain(Scene<'a>, bool),
+    Explain(Scene<'a>, ExplainOptions),
     /// What the lines of a log say.
     Decode(&'a str, bool),
 }

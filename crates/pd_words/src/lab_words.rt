@@ -6,19 +6,22 @@ ghost use Rattle.std.specs.String.{string_bytes};
 ghost use Rattle.clap.specs.Words.{all_of, first_of, found_of, kind_of, rows_of, subcommand_rows_of};
 ghost use Rattle.pd_words.specs.LabTasks.{asked, asked_by, behind_by, decode_by, draw_by, explain_by, files, form_by, given_by};
 ghost use Rattle.pd_words.specs.LabTasks.{is_on, is_twice, lab_asked, live_by, number_of, scene_by, show_by, sweep_by, test_by};
-ghost use Rattle.pd_words.specs.LabTasks.{is_number, number, page_by, scene_with, why_by, why_with, why_words, width_by, window_by};
+ghost use Rattle.pd_words.specs.LabTasks.{is_number, number, page_by, quantity, quantity_of, scene_with, why_by, why_with};
+ghost use Rattle.pd_words.specs.LabTasks.{why_words, width_by, window_by};
 ghost use Rattle.pd_words.specs.Names.{named};
 
 use crate::lab::lab;
 use crate::lab_task::{
-    DrawOptions, Form, LabFault, LabTask, Scene, ShowOptions, SweepOptions, Wanted, WhyOptions,
-    Window,
+    DrawOptions, ExplainOptions, Form, LabFault, LabTask, Scene, ShowOptions, SweepOptions, Wanted,
+    WhyOptions, Window,
 };
+use crate::meant::{meant_command, meant_option, topic_of};
 use crate::names::named;
 use crate::task::first;
 use clap::error::ErrorKind;
 use clap::{ArgMatches, Error};
 use pd_header::Kind;
+use pd_units::{Unit, number_in};
 use std::alloc::Global;
 
 /// The values of an argument, of all its uses.
@@ -51,6 +54,22 @@ fn number<'a>(word: &'a str, wanted: Wanted) -> Result<u64, LabFault<'a>>
     }
 }
 
+/// The number of a unit that a word is: bare, or with a unit of the same kind behind it.
+///
+/// # Errors
+/// The word is none.
+fn quantity<'a>(unit: Unit, word: &'a str, wanted: Wanted) -> Result<u64, LabFault<'a>>
+    ensures { result_ok result ≡ quantity unit word.now }
+{
+    match number(word, wanted) {
+        Ok(number) => Ok(number),
+        Err(fault) => match number_in(unit, word.as_bytes()) {
+            Some(number) => Ok(number),
+            None => Err(fault),
+        },
+    }
+}
+
 /// The number that a word is, where there is one.
 ///
 /// # Errors
@@ -61,6 +80,26 @@ fn given_number<'a>(word: Option<&'a str>, wanted: Wanted) -> Result<Option<u64>
     match word {
         None => Ok(None),
         Some(word) => match number(word, wanted) {
+            Ok(number) => Ok(Some(number)),
+            Err(fault) => Err(fault),
+        },
+    }
+}
+
+/// The number of a unit that a word is, where there is one.
+///
+/// # Errors
+/// As of `quantity`.
+fn given_quantity<'a>(
+    unit: Unit,
+    word: Option<&'a str>,
+    wanted: Wanted,
+) -> Result<Option<u64>, LabFault<'a>>
+    ensures { result_ok result ≡ given_by (quantity unit) (option_map (λ x. x.now) word.entry) }
+{
+    match word {
+        None => Ok(None),
+        Some(word) => match quantity(unit, word, wanted) {
             Ok(number) => Ok(Some(number)),
             Err(fault) => Err(fault),
         },
@@ -81,9 +120,24 @@ fn number_of<'a>(
     given_number(first(matches, id), wanted)
 }
 
+/// A number of a unit that may be left out.
+///
+/// # Errors
+/// As of `quantity`.
+fn quantity_of<'a>(
+    matches: &ArgMatches<'a>,
+    id: &str,
+    unit: Unit,
+    wanted: Wanted,
+) -> Result<Option<u64>, LabFault<'a>>
+    ensures { result_ok result ≡ quantity_of unit id.now (rows_of (found_of matches.now)) }
+{
+    given_quantity(unit, first(matches, id), wanted)
+}
+
 const PORTS: &str = "the number of a port, 1 to 8";
 
-const TIMES: &str = "a time in microseconds, 0 to 18446744073709551615";
+const TIMES: &str = "a time, as 3s, 54.9ms or 5000000 (microseconds)";
 
 /// The options behind which a number stands.
 const PORT: Wanted = Wanted {
@@ -113,7 +167,7 @@ const IN_A_ROW: Wanted = Wanted {
 
 const RESERVE: Wanted = Wanted {
     name: "--reserve",
-    range: "a power in milliwatts, 0 to 18446744073709551615",
+    range: "a power, as 5W, 500mW or 5000 (milliwatts)",
 };
 
 /// The words that are numbers.
@@ -189,8 +243,8 @@ fn window_of<'a>(matches: &ArgMatches<'a>) -> Result<Window, LabFault<'a>>
     ensures { result_ok result ≡ window_by (rows_of (found_of matches.now)) }
 {
     let port = port_of(matches)?;
-    let from = number_of(matches, "from", FROM)?.unwrap_or(0);
-    let to = number_of(matches, "to", TO)?.unwrap_or(u64::MAX);
+    let from = quantity_of(matches, "from", Unit::Microseconds, FROM)?.unwrap_or(0);
+    let to = quantity_of(matches, "to", Unit::Microseconds, TO)?.unwrap_or(u64::MAX);
     let window = Window { port, from, to };
     if to < from {
         return Err(LabFault::Window(window));
@@ -300,7 +354,7 @@ fn why_with<'a>(
     let scene = scene_with(matches, edits)?;
     let options = WhyOptions {
         port: number(port, PORT_WORD)? as usize,
-        at: given_number(at, AT)?,
+        at: given_quantity(Unit::Microseconds, at, AT)?,
         json: is_on(matches, "json"),
     };
     Ok(LabTask::Why(scene, options))
@@ -326,7 +380,7 @@ fn sweep_of<'a>(matches: &ArgMatches<'a>) -> Result<LabTask<'a>, LabFault<'a>>
     ensures { option_map asked (result_ok result) ≡ sweep_by (rows_of (found_of matches.now)) }
 {
     let (scene, window) = (scene_of(matches)?, window_of(matches)?);
-    let reserve = number_of(matches, "reserve", RESERVE)?;
+    let reserve = quantity_of(matches, "reserve", Unit::Milliwatts, RESERVE)?;
     let options = SweepOptions {
         window,
         reserve,
@@ -395,7 +449,12 @@ fn test_of<'a>(alloc: Global, matches: &ArgMatches<'a>) -> Result<LabTask<'a>, L
 fn explain_of<'a>(matches: &ArgMatches<'a>) -> Result<LabTask<'a>, LabFault<'a>>
     ensures { option_map asked (result_ok result) ≡ explain_by (rows_of (found_of matches.now)) }
 {
-    Ok(LabTask::Explain(scene_of(matches)?, is_on(matches, "json")))
+    let scene = scene_of(matches)?;
+    let options = ExplainOptions {
+        json: is_on(matches, "json"),
+        strict: is_on(matches, "strict"),
+    };
+    Ok(LabTask::Explain(scene, options))
 }
 
 /// `decode [FILE]`
@@ -441,21 +500,34 @@ fn task_named<'a>(alloc: Global, matches: &ArgMatches<'a>) -> Result<LabTask<'a>
     }
 }
 
-/// The word of which a command line asks how it is used: its first, and behind `help` the second.
-fn topic_of<'a>(words: &'a [String]) -> &'a str {
-    let first = words.get(1).map_or("", |word| word.as_str());
-    if first == "help" {
-        words.get(2).map_or("", |word| word.as_str())
-    } else {
-        first
-    }
-}
-
 /// The sentence that says which word is wrong, without the usage that stands below it.
 fn sentence_of(alloc: Global, error: &Error) -> Option<String> {
     let text = format!(in alloc; "{error}").ok()?;
     let (sentence, _) = text.as_str().split_once("\n\n")?;
     String::from_str(alloc, sentence).ok()
+}
+
+/// What was likelier meant by words that the library for command lines refuses: a command, or an option of the command that is named.
+fn hint_of(alloc: Global, kind: ErrorKind, words: &[String]) -> Option<String> {
+    let topic = topic_of(words);
+    let meant = meant_command(topic)?;
+    if kind != ErrorKind::InvalidSubcommand {
+        let option = meant_option(meant, words)?;
+        return format!(in alloc; "; hint: did you mean `--{option}`?").ok();
+    }
+    if meant == topic {
+        return None;
+    }
+    format!(in alloc; "; hint: did you mean `{meant}`?").ok()
+}
+
+/// The sentence, with what was likelier meant behind it where that is known.
+fn told(alloc: Global, error: &Error, words: &[String]) -> Option<String> {
+    let sentence = sentence_of(alloc, error)?;
+    match hint_of(alloc, error.kind(), words) {
+        None => Some(sentence),
+        Some(hint) => format!(in alloc; "{sentence}{hint}").ok(),
+    }
 }
 
 /// Whether a word begins as a number below 0.
@@ -498,7 +570,7 @@ fn fault_of<'a>(alloc: Global, error: &Error, words: &'a [String]) -> LabFault<'
         ErrorKind::DisplayHelp => LabFault::Help(topic_of(words)),
         kind => match below_zero(words) {
             Some(fault) if kind == ErrorKind::UnknownArgument => fault,
-            _ => LabFault::Words(sentence_of(alloc, error)),
+            _ => LabFault::Words(told(alloc, error, words)),
         },
     }
 }

@@ -4,13 +4,15 @@
 mod lab;
 mod lab_task;
 mod lab_words;
+mod meant;
 mod names;
 mod program;
 mod task;
 
 pub use lab_task::{
-    DrawOptions, Form, LabFault, LabTask, Scene, ShowOptions, SweepOptions, Wanted, WhyOptions,
-    Window,
+    DrawOptions, ExplainOptions, Form, LabFault, LabTask, Scene, ShowOptions, SweepOptions, Wanted,
+    WhyOptions, Window,
 };
 pub use lab_words::read_lab_task;
+pub use meant::{meant_command, topic_of};
 pub use task::{Task, WordsFault, read_task};

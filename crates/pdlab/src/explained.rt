@@ -1,4 +1,4 @@
-//! `pdlab explain [--json] SCENARIO [EDITS]`.
+//! `pdlab explain [--json] [--strict] SCENARIO [EDITS]`.
 
 use crate::Ending;
 use crate::fault::{output, tell, tell_unread, tell_unwritten};
@@ -8,6 +8,7 @@ use pd_device::BenchFault;
 use pd_explain_text::{Form, SceneFault, Telling, explain_text};
 use pd_places::explain_places;
 use pd_port::Meter;
+use pd_words::{ExplainOptions, Scene};
 use std::alloc::Global;
 use std::rt::Files;
 
@@ -27,32 +28,43 @@ fn tell_places<R: Print + Alloc<A = Global>, E: Print>(
     }
 }
 
+/// How it ends where lines are refused or none is, and so many lines were told: where it is strict, a warning counts as a refusal.
+fn ending(strict: bool, refused: bool, told: u64) -> Ending {
+    if refused || (strict && told > 0) {
+        Ending::Refused
+    } else {
+        Ending::Done
+    }
+}
+
 /// Tells why lines of an edit script are refused, for the scenario of a file, and what that is warned of.
 pub fn explained<R: Files + Input + Print + Alloc<A = Global>, E: Print>(
     rt: &R,
     errors: &E,
-    scenario: &str,
-    edits: Option<&str>,
-    json: bool,
+    scene: Scene<'_>,
+    options: ExplainOptions,
 ) -> Ending {
-    let Ok(text) = read_input(rt, scenario) else {
-        return tell_unread(errors, scenario);
+    let Ok(text) = read_input(rt, scene.scenario) else {
+        return tell_unread(errors, scene.scenario);
     };
-    let name = edits.unwrap_or("-");
-    let Ok(script) = read_script(rt, edits) else {
+    let name = scene.edits.unwrap_or("-");
+    let Ok(script) = read_script(rt, scene.edits) else {
         return tell_unread(errors, name);
     };
     let (text, script) = (text.as_slice(), script.as_slice());
     let telling = Telling {
-        file: scenario.as_bytes(),
+        file: scene.scenario.as_bytes(),
         edits: name.as_bytes(),
-        form: if json { Form::Json } else { Form::Words },
+        form: if options.json {
+            Form::Json
+        } else {
+            Form::Words
+        },
         warns: true,
     };
     let (mut out, mut meter) = (output(rt), Meter::new());
     match explain_text(rt.alloc(), text, &telling, script, &mut meter, &mut out) {
-        Ok(false) => Ending::Done,
-        Ok(true) => Ending::Refused,
+        Ok(refused) => ending(options.strict, refused, out.writer.lines),
         Err(SceneFault::Job(fault)) => tell_unwritten(errors, &out, fault),
         Err(_) => tell_places(rt, errors, &telling, text),
     }

@@ -2,11 +2,11 @@
 
 use crate::Ending;
 use crate::answers::Counted;
-use crate::help::{USAGE, help_of};
+use crate::help::{help_of, usage_of};
 use pd_desk::tell_reason;
 use pd_device::{BenchFault, Output};
 use pd_scenario_text::{ScenarioFault, port_count};
-use pd_words::LabFault;
+use pd_words::{LabFault, meant_command, topic_of};
 use std::alloc::Global;
 use std::io;
 use std::io::Printer;
@@ -64,8 +64,14 @@ pub fn tell_no_port<R: Alloc<A = Global>, E: Print>(
     Ending::Refused
 }
 
-/// Tells why the words of the command line ask for nothing, or what they ask of how the program is used.
-pub fn tell_words<R: Print, E: Print>(rt: &R, errors: &E, fault: &LabFault<'_>) -> Ending {
+/// Tells why the words of the command line ask for nothing, and how the command is used that they mean; or what they ask of how the
+/// program is used.
+pub fn tell_words<R: Print, E: Print>(
+    rt: &R,
+    errors: &E,
+    words: &[String],
+    fault: &LabFault<'_>,
+) -> Ending {
     let told = match fault {
         LabFault::Help(topic) => return tell_help(rt, errors, topic),
         LabFault::Memory => return tell(errors, BenchFault::Memory),
@@ -76,7 +82,7 @@ pub fn tell_words<R: Print, E: Print>(rt: &R, errors: &E, fault: &LabFault<'_>) 
         }
         LabFault::Window(window) => {
             println!(errors;
-                "`--to` is {}, before `--from`, which is {}",
+                "`--to` is {} us, before `--from`, which is {} us",
                 window.to, window.from
             )
         }
@@ -92,7 +98,8 @@ pub fn tell_words<R: Print, E: Print>(rt: &R, errors: &E, fault: &LabFault<'_>) 
         }
     };
     let _ = told;
-    let _ = errors.println(USAGE);
+    let command = meant_command(topic_of(words)).unwrap_or("");
+    let _ = errors.println(usage_of(command));
     Ending::Usage
 }
 

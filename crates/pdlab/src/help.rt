@@ -1,10 +1,23 @@
 //! How the program and its commands are used.
 
-/// What stands where the words are others.
-pub const USAGE: &str =
-    "usage: pdlab live SCENARIO | show SCENARIO [EDITS] [OPTIONS] | why [OPTIONS] SCENARIO [EDITS] PORT [AT] | \
-     sweep SCENARIO [EDITS] [OPTIONS] | test [--json] SCRIPT.. | draw SCENARIO [EDITS] [OPTIONS] | \
-     page SCENARIO [EDITS] [OPTIONS] | explain [--json] SCENARIO [EDITS] | decode [--json] [FILE] | --help";
+/// How a command is used, or the program where the word is no command: what stands below what is wrong.
+pub fn usage_of(word: &str) -> &'static str {
+    match word {
+        "live" => "usage: pdlab live SCENARIO",
+        "show" => "usage: pdlab show SCENARIO [EDITS] [OPTIONS]",
+        "why" => "usage: pdlab why [OPTIONS] SCENARIO [EDITS] PORT [AT]",
+        "sweep" => "usage: pdlab sweep SCENARIO [EDITS] [OPTIONS]",
+        "test" => "usage: pdlab test [--json] SCRIPT..",
+        "draw" => "usage: pdlab draw SCENARIO [EDITS] [OPTIONS]",
+        "page" => "usage: pdlab page SCENARIO [EDITS] [OPTIONS]",
+        "explain" => "usage: pdlab explain [--json] [--strict] SCENARIO [EDITS]",
+        "decode" => "usage: pdlab decode [--json] [FILE]",
+        _ => {
+            "usage: pdlab COMMAND ..; there are live, show, why, sweep, test, draw, page, explain and decode; \
+             pdlab --help tells of them"
+        }
+    }
+}
 
 /// What `--help` prints.
 pub const HELP: &str = "pdlab: the engineer's desk
@@ -23,7 +36,7 @@ usage: pdlab COMMAND ..
                             a picture of a run, as SVG for a browser
   page SCENARIO [EDITS] [OPTIONS]
                             the page of the bench, with a scenario in it
-  explain [--json] SCENARIO [EDITS]
+  explain [--json] [--strict] SCENARIO [EDITS]
                             why a scenario, or lines of an edit script, are refused,
                             and what is surely not meant
   decode [--json] [FILE]    what the lines of a log say
@@ -83,7 +96,7 @@ line begins with its time and the time since the line before, in microseconds. W
 line of EDITS is refused, nothing is shown but why, on standard error.
 
   --port P       of this port alone; ports are numbered from 1
-  --from T       from this time on, in microseconds
+  --from T       from this time on: 3s, 54.9ms, or microseconds
   --to T         up to this time
   --no-goodcrc   without the GoodCRC messages
   --codes        packets with the codes on the line
@@ -118,8 +131,8 @@ a line of EDITS is refused, nothing is told but why, on standard error. Of two w
 behind SCENARIO the first is PORT where it is a number, and else EDITS.
 
   PORT           the port; ports are numbered from 1
-  AT             tells of each offer up to this time, in microseconds, in place of
-                 the last
+  AT             tells of each offer up to this time, as 61s, or in microseconds, in
+                 place of the last
   --json         a JSON object for each line, with units in its keys (_us, _mv, _ma,
                  _mw, _uw), for other programs
   --keep-going   passes over refused lines of EDITS: they change nothing, and the status
@@ -151,13 +164,15 @@ worst of each column. Where a line of EDITS is refused, nothing is told but why,
 standard error. A terminal is shown there how far it is.
 
   --port P       packets of this port alone; ports are numbered from 1
-  --from T       packets from this time on, in microseconds
+  --from T       packets from this time on: 3s, 54.9ms, or microseconds
   --to T         packets up to this time
   --kind NAME    packets of this message alone, as Request or GoodCRC
   --damage       damages the packet in place of losing it
   --in-a-row K   loses the packet and those that start behind it on its port, K in
                  all, 1 to 8
-  --reserve MW   each of these runs is to leave so many milliwatts of the budget
+  --reserve POWER
+                 each of these runs is to leave so much of the budget: 5W, 500mW, or
+                 milliwatts
   --json         a JSON object for each packet and one for the summary, with units
                  in its keys (_us, _mv, _ma, _mw, _uw)
   --csv          comma-separated values for each packet, behind a line with their
@@ -168,7 +183,7 @@ standard error. A terminal is shown there how far it is.
 example: pdlab sweep --kind Request examples/charger_65w.toml
   pdlab sweep --csv examples/derating.toml > derating.csv
 
-status: 0 the packets were tried, 1 a run left less than MW, no packet was tried, the
+status: 0 the packets were tried, 1 a run left less than POWER, no packet was tried, the
         scenario or a line of EDITS is refused, or there is no such port,
         2 the words are others, 3 a file can't be read, or a fault
 ";
@@ -187,7 +202,7 @@ browser tells more of each where the pointer is on it. Where a line of EDITS is
 refused, nothing is drawn, and standard error says why.
 
   --port P       the lane of this port alone; ports are numbered from 1
-  --from T       from this time on, in microseconds
+  --from T       from this time on: 3s, 54.9ms, or microseconds
   --to T         up to this time
   --width PX     the width of the picture, 1000 to 10000 pixels; 1200 if left out
   -o FILE        writes the file FILE in place of standard output
@@ -266,7 +281,7 @@ status: 0 all passed, 1 one failed, a line or a scenario is refused, or a script
 pub const EXPLAIN_HELP: &str =
     "pdlab explain: why a scenario, or lines of an edit script, are refused
 
-usage: pdlab explain [--json] SCENARIO [EDITS]
+usage: pdlab explain [--json] [--strict] SCENARIO [EDITS]
 
 Goes through the edit script EDITS against the charger of the file SCENARIO (each of
 at most 1 MiB; one of them may be -, standard input), and tells of each line that
@@ -280,25 +295,27 @@ Else warns of what is surely not meant in the scenario, as EDITS leaves it: even
 after the end, events that do nothing and why, disturbances that meet no packet,
 cables and sinks that no event attaches, and ports that get too little power beside
 the floors of the others. A warning begins with the line of EDITS that made what
-it is of, or changed it last, else with SCENARIO. The status stays as it is.
+it is of, or changed it last, else with SCENARIO. The status stays as it is, but
+for --strict.
 
 Where something else is likelier meant than the number says, a hint ends the line.
 
-  --json   a JSON object for each line: file, line, refusal or warning, table,
-           number, key, sentence and hint
+  --json     a JSON object for each line: file, line, refusal or warning, table,
+             number, key, sentence and hint
+  --strict   a warning gives status 1, as a refusal does
 
 Numbers are those of pdbench: times in microseconds, voltages in mV, currents in
 mA, powers in mW.
 
 example: pdlab explain mine.toml
-  mine.toml: refused 5: event 3: `at` is 130000000, not 0 to 120000000
+  mine.toml: refused 5: event 3: `at` is 130000000, not 0 to 120000000 us
   mine.toml: refused 10: event 1: `sink` is `fone`, the name of no sink; there are `phone`
 example: pdlab explain mine.toml mine.edits
   mine.edits:4: refused 24: no cable is named `thic`; there are thick, c5; hint: did you mean `thick`?
   mine.edits:9: warning: event 12 at 3000000 is after the end, 2000000: it never happens
 
-status: 0 no line is refused, 1 a line or the scenario is refused,
-        2 the words are others, 3 a file can't be read, or a fault
+status: 0 no line is refused, 1 a line or the scenario is refused, or with --strict
+        something is warned of, 2 the words are others, 3 a file can't be read, or a fault
 ";
 
 /// What `decode --help` prints.

@@ -88,9 +88,7 @@ where
         LabTask::Test(scripts, json) => test(rt, errors, scripts.as_slice(), json),
         LabTask::Draw(scene, options) => draw(rt, errors, scene, &options),
         LabTask::Page(scene, file) => page(rt, errors, scene, file),
-        LabTask::Explain(scene, json) => {
-            Ok(explained(rt, errors, scene.scenario, scene.edits, json))
-        }
+        LabTask::Explain(scene, options) => Ok(explained(rt, errors, scene, options)),
         LabTask::Decode(file, json) => Ok(decode(rt, errors, file, json)),
     }
 }
@@ -108,7 +106,7 @@ where
         Ok(task) => match done(rt, errors, task) {
             Ok(ending) | Err(ending) => ending,
         },
-        Err(fault) => tell_words(rt, errors, &fault),
+        Err(fault) => tell_words(rt, errors, words, &fault),
     }
 }
 
@@ -123,14 +121,14 @@ where
     let arguments = match env::args(rt) {
         Ok(arguments) => arguments,
         Err(error) if error.kind() == io::ErrorKind::OutOfMemory => {
-            return tell_words(rt, errors, &LabFault::Memory);
+            return tell_words(rt, errors, &[], &LabFault::Memory);
         }
-        Err(_) => return tell_words(rt, errors, &LabFault::Words(None)),
+        Err(_) => return tell_words(rt, errors, &[], &LabFault::Words(None)),
     };
     let words: Result<Vec<String>, AllocError> = arguments.collect(rt.alloc());
     match words {
         Ok(words) => obey(rt, errors, words.as_slice()),
-        Err(_) => tell_words(rt, errors, &LabFault::Memory),
+        Err(_) => tell_words(rt, errors, &[], &LabFault::Memory),
     }
 }
 

@@ -146,7 +146,9 @@ pub fn reaches<R: Alloc<A = Global>, E: Print>(
         return Ok(());
     }
     let file = opened.file;
-    let _ = println!(errors; "{file}: nothing of the run is from {from} on: it ends at {end}");
+    let _ = println!(errors;
+        "{file}: nothing of the run is from {from} us on: it ends at {end} us"
+    );
     Err(Ending::Refused)
 }
 
