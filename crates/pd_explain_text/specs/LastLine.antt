@@ -1,10 +1,11 @@
 -- Which line of an edit script what is warned of was made by.
-use Rattle.std.specs.Prelude.{ℕ, Bool, false, ◌==◌, List, find, reverse, Option, None, Some, option_map, bytes_eq}
+use Rattle.std.specs.Prelude.{ℕ, Bool, false, ◌||◌, ◌==◌, List, find, reverse, Option, None, Some, option_map, bytes_eq}
 use Rattle.pd_edit_lines.specs.declared.edit.Edit.{Edit}
 use Rattle.pd_edit_lines.specs.declared.edit.Edit.TheVariants.{Insert, Move, Change, Cable, Sink}
 use Rattle.pd_scene.specs.declared.made.MadeEdit.{MadeEdit}
 use Rattle.pd_warn.specs.declared.warning.Warning.{Warning}
-use Rattle.pd_warn.specs.declared.warning.Warning.TheVariants.{AfterEnd, UnusedCable, UnusedSink, SmallShare, Ignored, Unmet}
+use Rattle.pd_warn.specs.declared.warning.Warning.TheVariants.{AfterEnd, UnusedCable, UnusedSink, SmallShare, Uncounted, Ignored}
+use Rattle.pd_warn.specs.declared.warning.Warning.TheVariants.{Unmet}
 
 -- an edit puts in, moves or changes the event of this id
 abbrev pub sets_event : ℕ → Edit → Bool
@@ -28,6 +29,7 @@ sets (AfterEnd id at end) edit = sets_event id edit
 sets (UnusedCable name) edit = sets_cable name edit
 sets (UnusedSink name) edit = sets_sink name edit
 sets (SmallShare port share) edit = false
+sets (Uncounted id at port name demand floor) edit = sets_event id edit || sets_sink name edit
 sets (Ignored id at port why) edit = sets_event id edit
 sets (Unmet id at port until) edit = sets_event id edit
 

@@ -64,6 +64,14 @@ fn sets(warning: &Warning, edit: &Edit) -> bool
         Warning::UnusedCable { name } => sets_cable(name, edit),
         Warning::UnusedSink { name } => sets_sink(name, edit),
         Warning::SmallShare { port: _, share: _ } => false,
+        Warning::Uncounted {
+            id,
+            at: _,
+            port: _,
+            name,
+            demand_mw: _,
+            floor_mw: _,
+        } => sets_event(*id, edit) || sets_sink(name, edit),
         Warning::Ignored {
             id,
             at: _,

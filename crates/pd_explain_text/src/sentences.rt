@@ -5,8 +5,9 @@ ghost use Rattle.pd_text.specs.Pieces.{piece_of};
 ghost use Rattle.pd_text.specs.Texts.{text_of_all};
 ghost use Rattle.pd_text.specs.declared.piece.Form.TheVariants.{Words};
 ghost use Rattle.pd_explain_text.specs.Sentences.{ignored_pieces, late_pieces, sentence, share_pieces, unmet_pieces};
-ghost use Rattle.pd_explain_text.specs.Sentences.{until_piece, unused_pieces, why_words};
+ghost use Rattle.pd_explain_text.specs.Sentences.{uncounted_pieces, until_piece, unused_pieces, why_words};
 
+use pd_scenario::Name;
 use pd_text::Piece::{LineNumber, LineWords};
 use pd_text::Unit::{Microwatts, Plain};
 use pd_text::{Form, Piece, push_pieces};
@@ -73,6 +74,38 @@ fn push_share(text: &mut Vec<u8>, port: usize, share: u64) -> Result<(), AllocEr
             LineNumber(b"port ", Plain, port as u64),
             LineNumber(b" gets at most ", Microwatts, share),
             LineWords(b" beside the floors of the others, and each of its supplies wants more"),
+        ],
+    )
+}
+
+/// Writes that nothing counts what a sink draws that an event of this id attaches at a time to a port; both powers are in mW.
+fn push_uncounted(
+    text: &mut Vec<u8>,
+    event: (u32, u32, u32),
+    name: &Name,
+    demand: u32,
+    floor: u32,
+) -> Result<(), AllocError>
+    ensures { OnOk result (text.new.items
+        ≡ text.old.items ++ text_of_all Words (uncounted_pieces event.0 event.1 event.2 name.now demand floor)) }
+{
+    let (id, at, port) = event;
+    push_pieces(
+        text,
+        Form::Words,
+        &[
+            LineNumber(b"event ", Plain, id as u64),
+            LineNumber(b" at ", Plain, at as u64),
+            LineNumber(b" on port ", Plain, port as u64),
+            LineWords(b" attaches `"),
+            LineWords(name.as_str().as_bytes()),
+            LineNumber(
+                b"` without Power Delivery: its ",
+                Microwatts,
+                demand as u64 * 1_000,
+            ),
+            LineNumber(b" are above the floor, ", Microwatts, floor as u64 * 1_000),
+            LineWords(b", and nothing counts what it draws"),
         ],
     )
 }
@@ -144,6 +177,14 @@ pub(crate) fn push_sentence(text: &mut Vec<u8>, warning: &Warning) -> Result<(),
             )
         }
         Warning::SmallShare { port, share } => push_share(text, *port, *share),
+        Warning::Uncounted {
+            id,
+            at,
+            port,
+            name,
+            demand_mw,
+            floor_mw,
+        } => push_uncounted(text, (*id, *at, *port), name, *demand_mw, *floor_mw),
         Warning::Ignored { id, at, port, why } => push_ignored(text, *id, *at, *port, *why),
         Warning::Unmet {
             id,

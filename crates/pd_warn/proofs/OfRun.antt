@@ -24,7 +24,7 @@ use Rattle.pd_watch.specs.declared.watch.Disturber.{Disturber}
 use Rattle.pd_watch.specs.Watch.{WatchData, after_step, after_steps, all_at_rest, is_ignored, watch_at}
 use Rattle.pd_watch.proofs.Watched.{ports_are_watched}
 use Rattle.pd_warn.specs.declared.warning.Warning.{Warning}
-use Rattle.pd_warn.specs.declared.warning.Warning.TheVariants.{AfterEnd, Ignored, SmallShare, Unmet, UnusedCable, UnusedSink}
+use Rattle.pd_warn.specs.declared.warning.Warning.TheVariants.{AfterEnd, Ignored, SmallShare, Uncounted, Unmet, UnusedCable, UnusedSink}
 use Rattle.pd_warn.specs.Stated.{stated}
 use Rattle.pd_warn.specs.Truth.{IgnoredEventsDoNothing, IsFor, IsIgnored, Tells}
 use Rattle.pd_warn.specs.Warnings.{AreWarnings, left_part, run_part, step_part, steps_part}
@@ -143,6 +143,7 @@ stated_so : (c : ScenarioData) (w : Warning) → Holds c w → IsSo c w
 stated_so c (AfterEnd id at end) h = h
 stated_so c (UnusedCable name) h = h
 stated_so c (UnusedSink name) h = h
+stated_so c (Uncounted id at port name demand floor) h = h
 stated_so c (SmallShare port share) h = h
 stated_so c (Ignored id at port why) h = tt
 stated_so c (Unmet id at port until) h = tt
@@ -166,6 +167,7 @@ none_stated : (c : ScenarioData) (plan : Plan) (moves : List Move) (w : Warning)
 none_stated c plan moves (AfterEnd id at end) h = tt
 none_stated c plan moves (UnusedCable name) h = tt
 none_stated c plan moves (UnusedSink name) h = tt
+none_stated c plan moves (Uncounted id at port name demand floor) h = tt
 none_stated c plan moves (SmallShare port share) h = tt
 none_stated c plan moves (Ignored id at port why) h = absurd h
 none_stated c plan moves (Unmet id at port until) h = absurd h

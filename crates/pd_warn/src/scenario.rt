@@ -6,6 +6,7 @@ ghost use Rattle.pd_warn.specs.Warnings.{AreWarnings};
 
 use crate::Warning;
 use crate::names::{push_cables, push_late_events, push_sinks};
+use crate::plain::push_uncounted;
 use crate::run::push_run;
 use crate::shares::{greatest_budget, push_shares};
 use pd_port::Meter;
@@ -25,12 +26,14 @@ fn push_stated<const N: usize>(
     push_cables(out, scenario.events(), scenario.cables())?;
     push_sinks(out, scenario.events(), scenario.sinks())?;
     let greatest = greatest_budget(scenario.budget_mw(), scenario.end_us(), scenario.events());
-    push_shares(out, greatest, scenario.ports())
+    push_shares(out, greatest, scenario.ports())?;
+    push_uncounted(out, scenario, scenario.events())
 }
 
 /// What a scenario has that is accepted and surely not meant. First what it says: events after the end in the order of their
-/// making, cables and then sinks that no event attaches, and ports with too little of the budget. Then what comes of its run,
-/// in the order of time: events that are ignored, and disturbances that meet no packet.
+/// making, cables and then sinks that no event attaches, ports with too little of the budget, and sinks without Power Delivery that
+/// want more than the floor of their port. Then what comes of its run, in the order of time: events that are ignored, and disturbances
+/// that meet no packet.
 ///
 /// # Errors
 /// There is no memory.

@@ -40,6 +40,16 @@ pub enum Warning {
         port: usize,
         share: u64,
     },
+    /// The event of this id attaches a sink without Power Delivery, whose demand is above the floor of its port: nothing counts what
+    /// it draws. Both are in mW.
+    Uncounted {
+        id: u32,
+        at: u32,
+        port: u32,
+        name: Name,
+        demand_mw: u32,
+        floor_mw: u32,
+    },
     /// The event of this id does nothing.
     Ignored {
         id: u32,
