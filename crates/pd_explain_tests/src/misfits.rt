@@ -8,7 +8,7 @@ use std::test::Fail;
 /// A file, how it is refused, and the lines.
 type Spoiled = (&'static [u8], ScenarioFault, &'static [u8]);
 
-const FILES: [Spoiled; 12] = [
+const FILES: [Spoiled; 14] = [
     (
         b"version = 2\nend = 5\nbudget = 500\ncolour = 1\n[[port]]\nfloor = 500\nsupplies = []\nname = \"a\"\n",
         ScenarioFault::UnknownKey,
@@ -26,7 +26,7 @@ hint: it is a key of [[cable]] [[sink]]
         b"version = 2\nend = \"long\"\nbudget = 1.5\n[port]\nfloor = 1\n[[event]]\nid = true\nkind = 5\n",
         ScenarioFault::WrongType,
         b"a.toml: refused 3: `end` is `long`, not a whole number
-a.toml: refused 3: `budget` is a fraction, not a whole number
+a.toml: refused 3: `budget` is a fraction, not a whole number; hint: 1 W is 1000
 a.toml: refused 3: `port` is a table, not a list of tables, each under its name in double brackets; hint: write `[[port]]`
 a.toml: refused 3: event 1: `id` is true, not a whole number
 a.toml: refused 3: event 1: `kind` is 5, not a text
@@ -60,11 +60,11 @@ a.toml: refused 4: event 2 (budget): `at` is missing
         b"version = 3\nend = -5\nbudget = 499\n[[port]]\nfloor = 100001\nidentity_tries = 21\nsupplies = [[5000, 3000], [9001, 3000]]\n",
         ScenarioFault::Range,
         b"a.toml: refused 5: `version` is 3, not 1 or 2
-a.toml: refused 5: `end` is -5, not 0 to 120000000
-a.toml: refused 5: `budget` is 499, not 500 to 1000000
-a.toml: refused 5: port 1: `floor` is 100001, not 500 to 100000
-a.toml: refused 5: port 1: `supplies` is a list whose supply 2 is [9001, 3000], not pairs of a voltage of 5000 to 20000 in steps of 50 \
-and a current of 10 to 5000 in steps of 10
+a.toml: refused 5: `end` is -5, not 0 to 120000000 us
+a.toml: refused 5: `budget` is 499, not 500 to 1000000 mW; hint: 499 W is 499000
+a.toml: refused 5: port 1: `floor` is 100001, not 500 to 100000 mW
+a.toml: refused 5: port 1: `supplies` is a list whose supply 2 is [9001, 3000], not pairs of a voltage of 5000 to 20000 mV in steps of \
+50 and a current of 10 to 5000 mA in steps of 10
 a.toml: refused 5: port 1: `identity_tries` is 21, not 0 to 20
 ",
     ),
@@ -73,9 +73,9 @@ a.toml: refused 5: port 1: `identity_tries` is 21, not 0 to 20
 revision = 4\n",
         ScenarioFault::Range,
         b"a.toml: refused 5: cable 1: `plug` is `wide`, not one of none, ack, nak, busy, silent
-a.toml: refused 5: cable 1: `rating` is 4000, not 3000 or 5000
-a.toml: refused 5: sink 1: `max` is 5001, not 5000 to 20000 in steps of 50
-a.toml: refused 5: sink 1: `demand` is 49, not 50 to 100000
+a.toml: refused 5: cable 1: `rating` is 4000, not 3000 or 5000 mA
+a.toml: refused 5: sink 1: `max` is 5001, not 5000 to 20000 mV in steps of 50
+a.toml: refused 5: sink 1: `demand` is 49, not 50 to 100000 mW; hint: 49 W is 49000
 a.toml: refused 5: sink 1: `mode` is `fast`, not one of pd, plain, greedy
 a.toml: refused 5: sink 1: `revision` is 4, not 2 or 3
 ",
@@ -86,7 +86,7 @@ kind = \"budget\"\n",
         ScenarioFault::Range,
         b"a.toml: refused 5: event 2 (id 0, port 3): `port` is 3, not 1 to 2
 a.toml: refused 5: event 2 (id 0, port 3): `id` is 0, not 1 to 1000000
-a.toml: refused 5: event 2 (id 0, port 3): `at` is 120000001, not 0 to 120000000
+a.toml: refused 5: event 2 (id 0, port 3): `at` is 120000001, not 0 to 120000000 us
 a.toml: refused 5: event 2 (id 0, port 3): `kind` is `budget`, not one of attach, detach, demand, lose, damage, get_source, get_sink, \
 and under version 2 budget; hint: a change of the budget needs `version = 2`
 ",
@@ -107,6 +107,32 @@ supplies = []\n",
         b"a.toml: refused 8: port 1: `supplies` is a list whose supply 2 is [5000, 2000], not 1 to 7 pairs, the first of 5000 mV, \
 each voltage above the one before
 a.toml: refused 8: port 3: `supplies` is a list, not 1 to 7 pairs, the first of 5000 mV, each voltage above the one before
+",
+    ),
+    (
+        b"version = 2\nend = \"90s\"\nbudget = \"140W\"\n[[cable]]\nrating = \"5A\"\n[[sink]]\nmax = \"20W\"\n\
+[[event]]\nid = \"1s\"\nat = 0.5\n",
+        ScenarioFault::WrongType,
+        b"a.toml: refused 3: `end` is `90s`, not a whole number; hint: 90 s is 90000000
+a.toml: refused 3: `budget` is `140W`, not a whole number; hint: 140 W is 140000
+a.toml: refused 3: cable 1: `rating` is `5A`, not a whole number; hint: 5 A is 5000
+a.toml: refused 3: sink 1: `max` is `20W`, not a whole number
+a.toml: refused 3: event 1: `id` is `1s`, not a whole number
+a.toml: refused 3: event 1: `at` is a fraction, not a whole number; hint: 1 s is 1000000
+",
+    ),
+    (
+        b"version = 2\nbudget = 140\n[[port]]\nsupplies = [[5, 3]]\n[[port]]\nsupplies = [[5000, 3000], [9, 2000]]\n\
+[[port]]\nsupplies = [[-5, 7]]\n[[cable]]\nrating = 5\n",
+        ScenarioFault::Range,
+        b"a.toml: refused 5: `budget` is 140, not 500 to 1000000 mW; hint: 140 W is 140000
+a.toml: refused 5: port 1: `supplies` is a list whose supply 1 is [5, 3], not pairs of a voltage of 5000 to 20000 mV in steps of \
+50 and a current of 10 to 5000 mA in steps of 10; hint: 5 V is 5000, 3 A is 3000
+a.toml: refused 5: port 2: `supplies` is a list whose supply 2 is [9, 2000], not pairs of a voltage of 5000 to 20000 mV in steps of \
+50 and a current of 10 to 5000 mA in steps of 10; hint: 9 V is 9000
+a.toml: refused 5: port 3: `supplies` is a list whose supply 1 is [-5, 7], not pairs of a voltage of 5000 to 20000 mV in steps of \
+50 and a current of 10 to 5000 mA in steps of 10
+a.toml: refused 5: cable 1: `rating` is 5, not 3000 or 5000 mA; hint: 5 A is 5000
 ",
     ),
     (b"version = 3\n", ScenarioFault::Floors, b""),
@@ -189,6 +215,39 @@ fn no_toml(rt: HostRuntime) -> Result<(), Fail> {
         wanted.extend_from_slice(error.message().as_bytes())?;
         wanted.push(b'\n')?;
         assert_eq!(rt; said.as_slice(), wanted.as_slice());
+    }
+    Ok(())
+}
+
+/// Keys that stand twice: the line in which the same name stands first before it.
+#[test]
+fn keys_twice(rt: HostRuntime) -> Result<(), Fail> {
+    let texts: [(&[u8], &[u8]); 4] = [
+        (
+            b"version = 2\n[[port]]\n  floor = 1\n# floor = 2\nsupplies = [[5000, 3000]] # floor = 2\n floor=3\n",
+            b"a.toml:6: refused 1: duplicate key; hint: `floor` stands in line 3 already\n",
+        ),
+        (
+            b"[[port]]\nfloor = 1\n[ port ]\n",
+            b"a.toml:3: refused 1: duplicate key; hint: `port` stands in line 1 already\n",
+        ),
+        (
+            b"end = 1\n[[event]]\nend = 1\nid = 1\n[[event]]\nend = 2\nend\t= 3\n",
+            b"a.toml:7: refused 1: duplicate key; hint: `end` stands in line 6 already\n",
+        ),
+        (
+            b"port = [{ floor = 1, floor = 2 }]\n",
+            b"a.toml:1: refused 1: duplicate key\n",
+        ),
+    ];
+    for (text, line) in texts.iter() {
+        let error = match toml::table_from_slice(rt.alloc(), text) {
+            Ok(_) => return Err(Fail::from("TOML")),
+            Err(error) => error,
+        };
+        let file = Front::of_file(rt.alloc(), Form::Words, b"a.toml")?;
+        let said = explain_error(rt.alloc(), &file, text, &error)?;
+        assert_eq!(rt; said.as_slice(), *line);
     }
     Ok(())
 }

@@ -40,13 +40,13 @@ mw = 4999
 const MANY_SAID: &[u8] =
     b"a.toml: refused 2: `colour` is no key of this table; there are version end budget port cable sink event
 a.toml: refused 5: cable 2: `plug` is `wide`, not one of none, ack, nak, busy, silent
-a.toml: refused 5: event 2 (id 1, budget): `at` is -1, not 0 to 120000000
+a.toml: refused 5: event 2 (id 1, budget): `at` is -1, not 0 to 120000000 us
 a.toml: refused 7: cable 2: `name` is `thin`, as of cable 1
 a.toml: refused 7: event 2: `id` is 1, as of event 1
 a.toml: refused 8: port 1: `supplies` is a list whose supply 1 is [9000, 3000], not 1 to 7 pairs, the first of 5000 mV, \
 each voltage above the one before
-a.toml: refused 9: `budget` is 3000, below 5000, what the floors add to
-a.toml: refused 9: event 2 (id 1, budget): `mw` is 4999, below 5000, what the floors add to
+a.toml: refused 9: `budget` is 3000, below 5000 mW, what the floors add to
+a.toml: refused 9: event 2 (id 1, budget): `mw` is 4999, below 5000 mW, what the floors add to
 a.toml: refused 10: event 1 (id 1, port 1, attach): `cable` is `thick`, the name of no cable; there are `thin` `thin`
 a.toml: refused 10: event 1 (id 1, port 1, attach): `sink` is `phone`, the name of no sink; there are none
 ";

@@ -2,4 +2,5 @@ mod Keys
 mod Listed
 mod Pairs
 mod Joined
+mod Outs
 mod Whole

@@ -1,7 +1,7 @@
 -- Hints: what is likelier meant at a place where a rule is broken, docs/FORMATS.md, "Hints".
-use Rattle.std.specs.Prelude.{ℕ, Bool, ◌||◌, List, [], ◌∷◌, ◌++◌, take, find, codes, bytes_eq, Option, Some, None, option_map}
-use Rattle.std.specs.Prelude.{if◌then◌else◌}
-use Rattle.toml.specs.Data.{Data, string, table}
+use Rattle.std.specs.Prelude.{ℕ, ℤ, pos, negsuc, Bool, ◌||◌, List, [], ◌∷◌, ◌++◌, take, find, codes, bytes_eq, Option, Some, None}
+use Rattle.std.specs.Prelude.{option_map, if◌then◌else◌}
+use Rattle.toml.specs.Data.{Data, array, float, integer, string, table}
 use Rattle.pd_hints.specs.Slips.{is_slip, meant_text, nearest}
 use Rattle.pd_scenario_tables.specs.declared.schema.Version.{Version}
 use Rattle.pd_scenario_tables.specs.declared.schema.Version.TheVariants.{One, Two}
@@ -10,12 +10,18 @@ use Rattle.pd_scenario_tables.specs.declared.schema.TableKind.{TableKind}
 use Rattle.pd_scenario_tables.specs.declared.schema.TableKind.TheVariants.{Top, Port, Cable, Sink, Event}
 use Rattle.pd_scenario_tables.specs.declared.schema.Key.{Key}
 use Rattle.pd_scenario_tables.specs.declared.schema.Form.{Form}
-use Rattle.pd_scenario_tables.specs.declared.schema.Form.TheVariants.{PlugWord, ModeWord, EventWord, Tables}
+use Rattle.pd_scenario_tables.specs.declared.schema.Form.TheVariants.{Number, RatingNumber, PlugWord, ModeWord, EventWord, Supplies}
+use Rattle.pd_scenario_tables.specs.declared.schema.Form.TheVariants.{Tables}
 use Rattle.pd_scenario_tables.specs.declared.schema.Rule.{Rule}
 use Rattle.pd_scenario_tables.specs.declared.fault.ScenarioFault.{ScenarioFault}
 use Rattle.pd_scenario_tables.specs.declared.fault.ScenarioFault.TheVariants as fault
 use Rattle.pd_scenario_tables.specs.Schema.{text_of, rules_of}
 use Rattle.pd_scenario_tables.specs.Tables.{has_key}
+use Rattle.pd_scenario_tables.specs.Values.{elements}
+use Rattle.pd_misfits.specs.Supplies.{number_hint, supplies_hint}
+use Rattle.pd_units.specs.Readings.{one_in, rating_reading, unit_of, word_in}
+use Rattle.pd_units.specs.declared.unit.Unit.{Unit}
+use Rattle.pd_units.specs.declared.unit.Unit.TheVariants.{Milliamperes}
 
 -- ---- a value
 
@@ -51,9 +57,46 @@ word_hint version form word = slip_hint version form word
 unfoldable pub bracket_hint : Key → List ℕ
 bracket_hint k = codes "write `[[" ++ (text_of k ++ codes "]]`")
 
+-- the unit of the numbers of a form
+abbrev pub form_unit : Form → Option Unit
+form_unit (Number quantity) = unit_of quantity
+form_unit RatingNumber = Some Milliamperes
+form_unit form = None
+
+-- a value of another type: one table, or in place of a number with a unit a text, which may have it, or a fraction, of a greater one
+abbrev pub table_hint : Key → Form → List ℕ
+table_hint k Tables = bracket_hint k
+table_hint k form = []
+
+abbrev pub type_hint : Key → Form → Data → List ℕ
+type_hint k form (table ms) = table_hint k form
+type_hint k form (string word) = word_in (form_unit form) word
+type_hint k form (float x) = one_in (form_unit form)
+type_hint k form d = []
+
+-- a number out of its range, or a word that is none of its form
+abbrev pub rating_hint : ℤ → List ℕ
+rating_hint (pos n) = rating_reading n
+rating_hint (negsuc n) = []
+
+abbrev pub whole_hint : Form → ℤ → List ℕ
+whole_hint (Number quantity) z = number_hint quantity z
+whole_hint RatingNumber z = rating_hint z
+whole_hint form z = []
+
+abbrev pub list_hint : Form → List Data → List ℕ
+list_hint Supplies ds = supplies_hint ds
+list_hint form ds = []
+
+abbrev pub range_hint : Version → Form → Data → List ℕ
+range_hint version form (integer z) = whole_hint form z
+range_hint version form (array ds) = list_hint form (elements ds)
+range_hint version form (string word) = word_hint version form word
+range_hint version form d = []
+
 abbrev pub value_hint : ScenarioFault → Version → Key → Form → Data → List ℕ
-value_hint fault.WrongType version k Tables (table ms) = bracket_hint k
-value_hint fault.Range version k form (string word) = word_hint version form word
+value_hint fault.WrongType version k form d = type_hint k form d
+value_hint fault.Range version k form d = range_hint version form d
 value_hint refusal version k form d = []
 
 -- ---- a key that its table doesn't know

@@ -2,6 +2,8 @@
 use Rattle.std.specs.Prelude.{ℕ, List, [], ◌++◌, codes, decimal}
 use Rattle.toml.specs.Data.{Data, array}
 use Rattle.pd_scenario.specs.Limits.{Range, between, stepped, range_of}
+use Rattle.pd_scenario.specs.declared.limits.Quantity.{Quantity}
+use Rattle.pd_units.specs.Readings.{unit_text}
 use Rattle.pd_scenario_tables.specs.declared.schema.Key.{Key}
 use Rattle.pd_scenario_tables.specs.declared.schema.Form.{Form}
 use Rattle.pd_scenario_tables.specs.declared.schema.Form.TheVariants.{Number, VersionNumber, PortNumber, RatingNumber, RevisionNumber, Name}
@@ -39,23 +41,29 @@ type_text Tables = codes "a list of tables, each under its name in double bracke
 unfoldable pub from_to : ℕ → ℕ → List ℕ
 from_to low high = decimal low ++ (codes " to " ++ decimal high)
 
-unfoldable pub in_steps : ℕ → ℕ → ℕ → List ℕ
-in_steps low high step = from_to low high ++ (codes " in steps of " ++ decimal step)
+abbrev pub limits_text : Range → List ℕ
+limits_text (between low high) = from_to low high
+limits_text (stepped low high step) = from_to low high
 
-abbrev pub within_text : Range → List ℕ
-within_text (between low high) = from_to low high
-within_text (stepped low high step) = in_steps low high step
+abbrev pub steps_text : Range → List ℕ
+steps_text (between low high) = []
+steps_text (stepped low high step) = codes " in steps of " ++ decimal step
+
+-- the numbers of a quantity, with its unit
+unfoldable pub within_text : Quantity → List ℕ
+within_text quantity = limits_text (range_of quantity) ++ (unit_text quantity ++ steps_text (range_of quantity))
 
 abbrev pub range_text : ℕ → Form → List ℕ
-range_text ports (Number quantity) = within_text (range_of quantity)
+range_text ports (Number quantity) = within_text quantity
 range_text ports VersionNumber = codes "1 or 2"
 range_text ports PortNumber = from_to 1 ports
-range_text ports RatingNumber = codes "3000 or 5000"
+range_text ports RatingNumber = codes "3000 or 5000 mA"
 range_text ports RevisionNumber = codes "2 or 3"
 range_text ports PlugWord = codes "one of none, ack, nak, busy, silent"
 range_text ports ModeWord = codes "one of pd, plain, greedy"
 range_text ports EventWord = codes "one of attach, detach, demand, lose, damage, get_source, get_sink, and under version 2 budget"
-range_text ports Supplies = codes "pairs of a voltage of 5000 to 20000 in steps of 50 and a current of 10 to 5000 in steps of 10"
+range_text ports Supplies =
+    codes "pairs of a voltage of 5000 to 20000 mV in steps of 50 and a current of 10 to 5000 mA in steps of 10"
 range_text ports Name = []
 range_text ports Truth = []
 range_text ports Tables = []

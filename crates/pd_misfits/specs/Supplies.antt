@@ -1,10 +1,12 @@
 -- Which supply of a list is told: the first at which it isn't what the rule of a refusal wants.
-use Rattle.std.specs.Prelude.{ℕ, ◌+◌, ℤ, Bool, true, false, ◌&&◌, ◌==◌, not, nat_le, nat_lt, List, [], ◌∷◌, ◌++◌, length}
-use Rattle.std.specs.Prelude.{codes, decimal, Option, Some, None, if◌then◌else◌}
+use Rattle.std.specs.Prelude.{ℕ, ◌+◌, ℤ, pos, negsuc, Bool, true, false, ◌&&◌, ◌==◌, not, nat_le, nat_lt, List, [], ◌∷◌, ◌++◌, length}
+use Rattle.std.specs.Prelude.{codes, decimal, find, Option, Some, None, if◌then◌else◌}
 use Rattle.std.specs.List.{flat_map}
 use Rattle.toml.specs.Data.{Data, array, integer, no_items, item}
 use Rattle.pd_scenario.specs.Limits.{most_supplies, first_mv}
+use Rattle.pd_scenario.specs.declared.limits.Quantity.{Quantity}
 use Rattle.pd_scenario.specs.declared.limits.Quantity.TheVariants.{Voltage, Current}
+use Rattle.pd_units.specs.Readings.{number_reading}
 use Rattle.pd_scenario_tables.specs.declared.fault.ScenarioFault.{ScenarioFault}
 use Rattle.pd_scenario_tables.specs.declared.fault.ScenarioFault.TheVariants as fault
 use Rattle.pd_scenario_tables.specs.Values.{elements, is_within, natural}
@@ -73,3 +75,36 @@ misfit_text refusal number before (d ∷ ds) =
 
 unfoldable pub supplies_text : ScenarioFault → List Data → List ℕ
 supplies_text refusal ds = codes "a list" ++ misfit_text refusal 1 0 ds
+
+-- ---- in which other unit it may have been meant
+
+-- a number that isn't within a quantity, where a thousand times as much is
+abbrev pub number_hint : Quantity → ℤ → List ℕ
+number_hint quantity (pos n) = number_reading quantity n
+number_hint quantity (negsuc n) = []
+
+-- the same, where it isn't within it
+abbrev pub other_hint : Quantity → ℤ → List ℕ
+other_hint quantity z = if is_within quantity z then [] else number_hint quantity z
+
+-- between two hints, where both are there
+abbrev pub comma : List ℕ → List ℕ → List ℕ
+comma first second = if nat_lt 0 (length first) && nat_lt 0 (length second) then codes ", " else []
+
+unfoldable pub both_hints : List ℕ → List ℕ → List ℕ
+both_hints first second = first ++ (comma first second ++ second)
+
+abbrev pub pair_hint : Option (ℤ × ℤ) → List ℕ
+pair_hint None = []
+pair_hint (Some p) = both_hints (other_hint Voltage p.0) (other_hint Current p.1)
+
+abbrev pub supply_hint : Option Data → List ℕ
+supply_hint None = []
+supply_hint (Some d) = pair_hint (pair d)
+
+-- of the first that isn't within its ranges
+abbrev pub is_out : Data → Bool
+is_out d = not (fits fault.Range 0 0 (pair d))
+
+abbrev pub supplies_hint : List Data → List ℕ
+supplies_hint ds = supply_hint (find is_out ds)

@@ -5,13 +5,16 @@ ghost use Rattle.toml.specs.View.{view};
 ghost use Rattle.pd_misfits.specs.Hints.{bracket_hint, has_home, home_hint, home_part, home_words, homes, key_hint, knows};
 ghost use Rattle.pd_misfits.specs.Hints.{later_homes, near_key, near_rule, other_hint, own_rules, slip_hint};
 ghost use Rattle.pd_misfits.specs.Hints.{value_hint, word_hint};
+ghost use Rattle.pd_misfits.specs.Hints.{form_unit, list_hint, range_hint, rating_hint, table_hint, type_hint, whole_hint};
 ghost use Rattle.pd_misfits.specs.Hints.{words_of};
 
+use crate::supplies::{push_supplies_hint, push_whole_hint};
 use pd_hints::{is_slip, nearest, push_meant};
 use pd_scenario_tables::{
     EventName, Form, Key, Rule, ScenarioFault, TableKind, Version, has_key, rules_of,
 };
-use std::alloc::AllocError;
+use pd_units::{Unit, push_one, push_rating_reading, push_word_reading, unit_of};
+use std::alloc::{AllocError, Global};
 use toml::Value;
 
 const PLUGS: [&str; 5] = ["none", "ack", "nak", "busy", "silent"];
@@ -91,8 +94,96 @@ fn push_bracket_hint(text: &mut Vec<u8>, key: Key) -> Result<(), AllocError>
     text.extend_from_slice(b"]]`")
 }
 
+/// The unit of the numbers of a form.
+fn form_unit(form: Form) -> Option<Unit>
+    ensures { result ≡ form_unit form }
+{
+    match form {
+        Form::Number(quantity) => unit_of(quantity),
+        Form::RatingNumber => Some(Unit::Milliamperes),
+        _ => None,
+    }
+}
+
+/// Writes what is likelier meant by one table.
+fn push_table_hint(text: &mut Vec<u8>, key: Key, form: Form) -> Result<(), AllocError>
+    ensures { OnOk result (text.new.items ≡ text.old.items ++ table_hint key form) }
+{
+    match form {
+        Form::Tables => push_bracket_hint(text, key),
+        _ => Ok(()),
+    }
+}
+
+/// Writes what is likelier meant by a value of another type.
+fn push_type_hint(text: &mut Vec<u8>, key: Key, form: Form, value: &Value) -> Result<(), AllocError>
+    ensures { OnOk result (text.new.items ≡ text.old.items ++ type_hint key form (view value.now)) }
+{
+    match value {
+        Value::Table(_) => push_table_hint(text, key, form),
+        Value::String(word) => push_word_reading(text, form_unit(form), word.as_bytes()),
+        Value::Float(_) => push_one(text, form_unit(form)),
+        _ => Ok(()),
+    }
+}
+
+/// Writes what is likelier meant by the rating of a cable.
+fn push_rating_hint(text: &mut Vec<u8>, rating: i64) -> Result<(), AllocError>
+    ensures { OnOk result (text.new.items ≡ text.old.items ++ rating_hint rating) }
+{
+    if rating < 0 {
+        return Ok(());
+    }
+    push_rating_reading(text, rating as u64)
+}
+
+/// Writes what is likelier meant by a number out of its range.
+fn push_integer_hint(text: &mut Vec<u8>, form: Form, number: i64) -> Result<(), AllocError>
+    ensures { OnOk result (text.new.items ≡ text.old.items ++ whole_hint form number) }
+{
+    match form {
+        Form::Number(quantity) => push_whole_hint(text, quantity, number),
+        Form::RatingNumber => push_rating_hint(text, number),
+        _ => Ok(()),
+    }
+}
+
+/// Writes what is likelier meant by the numbers of a list.
+fn push_list_hint(
+    alloc: Global,
+    text: &mut Vec<u8>,
+    form: Form,
+    items: &[Value],
+) -> Result<(), AllocError>
+    ensures { OnOk result (text.new.items ≡ text.old.items ++ list_hint form (map (λ v. view v) items.now)) }
+{
+    match form {
+        Form::Supplies => push_supplies_hint(alloc, text, items),
+        _ => Ok(()),
+    }
+}
+
+/// Writes what is likelier meant by a value out of its range.
+fn push_range_hint(
+    alloc: Global,
+    text: &mut Vec<u8>,
+    version: Version,
+    form: Form,
+    value: &Value,
+) -> Result<(), AllocError>
+    ensures { OnOk result (text.new.items ≡ text.old.items ++ range_hint version form (view value.now)) }
+{
+    match value {
+        Value::Integer(number) => push_integer_hint(text, form, *number),
+        Value::Array(items) => push_list_hint(alloc, text, form, items),
+        Value::String(word) => push_word_hint(text, version, form, word.as_bytes()),
+        _ => Ok(()),
+    }
+}
+
 /// Writes what is likelier meant by a value to which a refusal applies.
 pub fn push_value_hint(
+    alloc: Global,
     text: &mut Vec<u8>,
     fault: ScenarioFault,
     version: Version,
@@ -102,11 +193,9 @@ pub fn push_value_hint(
 ) -> Result<(), AllocError>
     ensures { OnOk result (text.new.items ≡ text.old.items ++ value_hint fault version key form (view value.now)) }
 {
-    match (fault, form, value) {
-        (ScenarioFault::WrongType, Form::Tables, Value::Table(_)) => push_bracket_hint(text, key),
-        (ScenarioFault::Range, _, Value::String(word)) => {
-            push_word_hint(text, version, form, word.as_bytes())
-        }
+    match fault {
+        ScenarioFault::WrongType => push_type_hint(text, key, form, value),
+        ScenarioFault::Range => push_range_hint(alloc, text, version, form, value),
         _ => Ok(()),
     }
 }

@@ -1,6 +1,7 @@
 //! Where tables of a scenario file break the rule of a refusal, and what would be right there.
 #![tactic(auto)]
 
+mod earlier;
 mod event;
 mod file;
 mod hints;

@@ -1,16 +1,18 @@
 //! Which supply of a list is told: the first at which it isn't what the rule of a refusal wants.
 
-ghost use Rattle.std.specs.Prelude.{◌≡◌, ◌++◌, OnOk, map};
+ghost use Rattle.std.specs.Prelude.{◌≡◌, ◌++◌, IfOk, OnOk, find, map, option_map};
 ghost use Rattle.std.specs.List.{flat_map};
 ghost use Rattle.toml.specs.View.{view};
 ghost use Rattle.pd_scenario_tables.specs.Values.{is_within, natural};
 ghost use Rattle.pd_misfits.specs.Supplies.{behind_comma, both, fits, is_next, joined, list_text, long_text, misfit_text, pair};
 ghost use Rattle.pd_misfits.specs.Supplies.{pair_fits, place_text, short_text, supplies_text, supply_text, voltage};
+ghost use Rattle.pd_misfits.specs.Supplies.{both_hints, is_out, number_hint, other_hint, pair_hint, supplies_hint};
 
 use crate::values::{push_number, push_value};
 use pd_scenario::Quantity;
 use pd_scenario_tables::ScenarioFault;
-use std::alloc::AllocError;
+use pd_units::push_number_reading;
+use std::alloc::{AllocError, Global};
 use toml::Value;
 
 /// So many supplies a port may have.
@@ -202,4 +204,83 @@ pub fn push_supplies(
 {
     text.extend_from_slice(b"a list")?;
     push_misfit(text, fault, items)
+}
+
+/// Writes in which other unit a number may have been meant that isn't within a quantity.
+pub(crate) fn push_whole_hint(
+    text: &mut Vec<u8>,
+    quantity: Quantity,
+    number: i64,
+) -> Result<(), AllocError>
+    ensures { OnOk result (text.new.items ≡ text.old.items ++ number_hint quantity number) }
+{
+    if number < 0 {
+        return Ok(());
+    }
+    push_number_reading(text, quantity, number as u64)
+}
+
+/// The same, where it isn't within it; else nothing.
+fn other_hint(alloc: Global, quantity: Quantity, number: i64) -> Result<Vec<u8>, AllocError>
+    ensures { IfOk result (λ v. v.items ≡ other_hint quantity number) }
+{
+    let mut text = Vec::new(alloc);
+    if !is_within(quantity, number) {
+        push_whole_hint(&mut text, quantity, number)?;
+    }
+    Ok(text)
+}
+
+/// Writes two hints, with a comma between them where both are there.
+#[tactic(auto, unfolding(crate::specs::Supplies::both_hints))]
+fn push_both(text: &mut Vec<u8>, first: &[u8], second: &[u8]) -> Result<(), AllocError>
+    ensures { OnOk result (text.new.items ≡ text.old.items ++ both_hints first.now second.now) }
+{
+    text.extend_from_slice(first)?;
+    let comma = if !first.is_empty() && !second.is_empty() {
+        ", "
+    } else {
+        ""
+    };
+    text.extend_from_slice(comma.as_bytes())?;
+    text.extend_from_slice(second)
+}
+
+/// Writes in which other units the numbers of a supply may have been meant.
+fn push_pair_hint(
+    alloc: Global,
+    text: &mut Vec<u8>,
+    pair: Option<(i64, i64)>,
+) -> Result<(), AllocError>
+    ensures { OnOk result (text.new.items ≡ text.old.items ++ pair_hint pair) }
+{
+    let Some((mv, ma)) = pair else {
+        return Ok(());
+    };
+    let voltage = other_hint(alloc, Quantity::Voltage, mv)?;
+    let current = other_hint(alloc, Quantity::Current, ma)?;
+    push_both(text, voltage.as_slice(), current.as_slice())
+}
+
+/// The first supply that isn't within its ranges.
+fn first_out(items: &[Value]) -> Option<&Value>
+    ensures { option_map (λ x. x.now) result ≡ find (λ v. is_out (view v)) items.now }
+{
+    items
+        .iter()
+        .find(|item| !fits(ScenarioFault::Range, 0, 0, pair_of(item)))
+}
+
+/// Writes in which other units the numbers of the first supply may have been meant that isn't within its ranges.
+pub(crate) fn push_supplies_hint(
+    alloc: Global,
+    text: &mut Vec<u8>,
+    items: &[Value],
+) -> Result<(), AllocError>
+    ensures { OnOk result (text.new.items ≡ text.old.items ++ supplies_hint (map (λ v. view v) items.now)) }
+{
+    match first_out(items) {
+        Some(item) => push_pair_hint(alloc, text, pair_of(item)),
+        None => Ok(()),
+    }
 }

@@ -80,6 +80,7 @@ fn push_value_line(
     push_value_sentence(&mut sentence, refused, rule, value)?;
     let mut hint = Vec::new(alloc);
     push_value_hint(
+        alloc,
         &mut hint,
         refused.fault,
         refused.version,

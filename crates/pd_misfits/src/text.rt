@@ -2,15 +2,16 @@
 
 ghost use Rattle.std.specs.Prelude.{◌≡◌, ◌≤◌, ◌++◌, OnOk, IfOk, length};
 ghost use Rattle.pd_misfits.specs.Lines.{line};
-ghost use Rattle.pd_misfits.specs.Texts.{line_at, syntax_front, TellsError};
+ghost use Rattle.pd_misfits.specs.Texts.{IsEarlier, line_at, syntax_front, TellsError};
 ghost use Rattle.toml.specs.Errors.{IsMemory, IsWithin};
 
+use crate::earlier::earlier_hint;
 use pd_text::{Front, Piece, Unit};
 use std::alloc::{AllocError, Global};
 use toml::de::Error;
 
 /// The number of the line in which a place of a text is, from 1.
-fn line_at(text: &[u8], at: usize) -> u64
+pub(crate) fn line_at(text: &[u8], at: usize) -> u64
     requires { at ≤ length text.now }
     ensures { result ≡ line_at text.now at }
 {
@@ -56,6 +57,18 @@ pub fn push_line(
     front.say(text, key, sentence, hint)
 }
 
+/// Where the text has a key twice, in which line it stands before the error, as far as that is found; else nothing.
+fn hint_of(alloc: Global, text: &[u8], error: &Error, start: usize) -> Result<Vec<u8>, AllocError>
+    requires { start ≤ length text.now }
+    ensures { IfOk result (λ v. IsEarlier text.now start v.items) }
+{
+    if error.message() == "duplicate key" {
+        earlier_hint(alloc, text, start)
+    } else {
+        Ok(Vec::new(alloc))
+    }
+}
+
 /// What is wrong in a text that is no TOML, by the error of the library that read it: the line in which that begins, and its words.
 ///
 /// # Errors
@@ -73,7 +86,9 @@ pub fn explain_error(
         return Err(AllocError);
     };
     let front = syntax_front(alloc, file, line_at(text, span.start))?;
+    let hint = hint_of(alloc, text, error, span.start)?;
     let mut said = Vec::new(alloc);
-    push_line(&mut said, &front, b"", error.message().as_bytes(), b"")?;
+    let message = error.message().as_bytes();
+    push_line(&mut said, &front, b"", message, hint.as_slice())?;
     Ok(said)
 }

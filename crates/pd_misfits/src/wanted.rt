@@ -2,11 +2,12 @@
 
 ghost use Rattle.std.specs.Prelude.{◌≡◌, ◌++◌, OnOk};
 ghost use Rattle.pd_scenario.specs.Limits.{range_of};
-ghost use Rattle.pd_misfits.specs.Sentences.{type_text, from_to, in_steps, within_text, range_text, wanted_text};
+ghost use Rattle.pd_misfits.specs.Sentences.{type_text, from_to, limits_text, range_text, steps_text, wanted_text, within_text};
 
 use crate::values::{push_behind, push_number};
 use pd_scenario::Quantity;
 use pd_scenario_tables::{Form, ScenarioFault};
+use pd_units::push_unit;
 use std::alloc::AllocError;
 
 /// The types of values.
@@ -34,25 +35,17 @@ fn push_from_to(text: &mut Vec<u8>, low: u64, high: u64) -> Result<(), AllocErro
     push_behind(text, " to ", high)
 }
 
-#[tactic(auto, unfolding(crate::specs::Sentences::in_steps))]
-fn push_in_steps(text: &mut Vec<u8>, low: u64, high: u64, step: u64) -> Result<(), AllocError>
-    ensures { OnOk result (text.new.items ≡ text.old.items ++ in_steps low high step) }
-{
-    push_from_to(text, low, high)?;
-    push_behind(text, " in steps of ", step)
-}
-
-/// Writes the numbers of a quantity.
-fn push_quantity(text: &mut Vec<u8>, quantity: Quantity) -> Result<(), AllocError>
-    ensures { OnOk result (text.new.items ≡ text.old.items ++ within_text (range_of quantity)) }
+/// Writes the least and the greatest number of a quantity.
+fn push_limits(text: &mut Vec<u8>, quantity: Quantity) -> Result<(), AllocError>
+    ensures { OnOk result (text.new.items ≡ text.old.items ++ limits_text (range_of quantity)) }
 {
     match quantity {
         Quantity::EventId => push_from_to(text, 1, 1_000_000),
         Quantity::Time => push_from_to(text, 0, 120_000_000),
         Quantity::Budget => push_from_to(text, 500, 1_000_000),
         Quantity::Floor => push_from_to(text, 500, 100_000),
-        Quantity::Voltage => push_in_steps(text, 5_000, 20_000, 50),
-        Quantity::Current => push_in_steps(text, 10, 5_000, 10),
+        Quantity::Voltage => push_from_to(text, 5_000, 20_000),
+        Quantity::Current => push_from_to(text, 10, 5_000),
         Quantity::Demand => push_from_to(text, 50, 100_000),
         Quantity::IdentityTries => push_from_to(text, 0, 20),
         Quantity::DamagePlace => push_from_to(text, 0, 68),
@@ -60,15 +53,36 @@ fn push_quantity(text: &mut Vec<u8>, quantity: Quantity) -> Result<(), AllocErro
     }
 }
 
+/// Writes the steps of a quantity, where it has any.
+fn push_steps(text: &mut Vec<u8>, quantity: Quantity) -> Result<(), AllocError>
+    ensures { OnOk result (text.new.items ≡ text.old.items ++ steps_text (range_of quantity)) }
+{
+    match quantity {
+        Quantity::Voltage => push_behind(text, " in steps of ", 50),
+        Quantity::Current => push_behind(text, " in steps of ", 10),
+        _ => Ok(()),
+    }
+}
+
+/// Writes the numbers of a quantity, with its unit.
+#[tactic(auto, unfolding(crate::specs::Sentences::within_text))]
+fn push_within(text: &mut Vec<u8>, quantity: Quantity) -> Result<(), AllocError>
+    ensures { OnOk result (text.new.items ≡ text.old.items ++ within_text quantity) }
+{
+    push_limits(text, quantity)?;
+    push_unit(text, quantity)?;
+    push_steps(text, quantity)
+}
+
 /// Writes the numbers or words of a form, in a file of so many ports.
 fn push_range(text: &mut Vec<u8>, ports: u64, form: Form) -> Result<(), AllocError>
     ensures { OnOk result (text.new.items ≡ text.old.items ++ range_text ports form) }
 {
     match form {
-        Form::Number(quantity) => push_quantity(text, quantity),
+        Form::Number(quantity) => push_within(text, quantity),
         Form::PortNumber => push_from_to(text, 1, ports),
         Form::VersionNumber => text.extend_from_slice(b"1 or 2"),
-        Form::RatingNumber => text.extend_from_slice(b"3000 or 5000"),
+        Form::RatingNumber => text.extend_from_slice(b"3000 or 5000 mA"),
         Form::RevisionNumber => text.extend_from_slice(b"2 or 3"),
         Form::PlugWord => text.extend_from_slice(b"one of none, ack, nak, busy, silent"),
         Form::ModeWord => text.extend_from_slice(b"one of pd, plain, greedy"),
@@ -76,7 +90,7 @@ fn push_range(text: &mut Vec<u8>, ports: u64, form: Form) -> Result<(), AllocErr
             b"one of attach, detach, demand, lose, damage, get_source, get_sink, and under version 2 budget",
         ),
         Form::Supplies => text.extend_from_slice(
-            b"pairs of a voltage of 5000 to 20000 in steps of 50 and a current of 10 to 5000 in steps of 10",
+            b"pairs of a voltage of 5000 to 20000 mV in steps of 50 and a current of 10 to 5000 mA in steps of 10",
         ),
         Form::Name | Form::Truth | Form::Tables => Ok(()),
     }

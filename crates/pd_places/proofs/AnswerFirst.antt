@@ -231,9 +231,10 @@ no_table text (inr (ports, counts, none)) t is = none t is
 
 syntax_begins : (file : FrontData) (text told : List ℕ) → TellsSyntax file text told → TellsFirst file Toml told
 unfolding line line_with
-syntax_begins file text told (none, e, some, within, (message, says)) =
+syntax_begins file text told (none, e, some, within, is) =
     let number = line_at text (span_start e) in
-    let front = syntax_front file number in (number, (text_of_all front.form (said [] message []) ++ line_end front.form, says))
+    let front = syntax_front file number in
+    (number, (text_of_all front.form (said [] is.message is.hint) ++ line_end front.form, is.said_is))
 
 syntax_first : (file : FrontData) (text told : List ℕ) → IsAnswered Toml text → TellsPlaces file text told → TellsFirst file Toml told
 syntax_first file text told answered (inl (t, is, short)) = absurd (no_table text answered t is)

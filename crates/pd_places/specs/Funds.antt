@@ -21,7 +21,7 @@ floors_of ts = sum_by (number_at port_rules key.Floor) ts
 
 unfoldable pub low_sentence : Key → ℕ → ℕ → List ℕ
 low_sentence k mw floors =
-    quoted (text_of k) ++ (codes " is " ++ (decimal mw ++ (codes ", below " ++ (decimal floors ++ codes ", what the floors add to"))))
+    quoted (text_of k) ++ (codes " is " ++ (decimal mw ++ (codes ", below " ++ (decimal floors ++ codes " mW, what the floors add to"))))
 
 -- a budget that is too low; one that is 0, or doesn't stand there, is told for another refusal
 abbrev pub low_part : FrontData → Key → ℕ → ℕ → List ℕ

@@ -23,7 +23,7 @@ fn push_low_sentence(text: &mut Vec<u8>, key: Key, mw: u64, floors: u64) -> Resu
     push_number(text, mw)?;
     text.extend_from_slice(b", below ")?;
     push_number(text, floors)?;
-    text.extend_from_slice(b", what the floors add to")
+    text.extend_from_slice(b" mW, what the floors add to")
 }
 
 /// Writes a line for a budget that is too low.

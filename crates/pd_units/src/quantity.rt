@@ -79,7 +79,7 @@ fn point_in(numeral: &[u8]) -> Option<usize>
 }
 
 /// How many bytes stand before the first of a unit's name.
-fn name_in(word: &[u8]) -> Option<usize>
+pub(crate) fn name_in(word: &[u8]) -> Option<usize>
     ensures value { result ≡ position_from is_of_name 0 word.now }
     ensures within { IfSome result (λ place. place < length word.now) }
 {

@@ -1,6 +1,11 @@
 //! Words that were worked out by hand.
 
-use crate::{Unit, number_in};
+use crate::{
+    Unit, number_in, push_number_reading, push_one, push_rating_reading, push_unit,
+    push_word_reading, unit_at, unit_of,
+};
+use pd_edit_lines::Slot;
+use pd_scenario::Quantity;
 use std::test::*;
 
 #[test]
@@ -47,4 +52,47 @@ fn words_that_are_no_numbers(rt: HostRuntime) {
     for (word, unit) in rows {
         assert_eq!(rt; number_in(unit, word), None);
     }
+}
+
+#[test]
+fn numbers_in_thousands(rt: HostRuntime) -> Result<(), Fail> {
+    let rows: [(Quantity, u64, &[u8]); 6] = [
+        (Quantity::Budget, 140, b"140 W is 140000"),
+        (Quantity::Floor, 101, b""),
+        (Quantity::Voltage, 5, b"5 V is 5000"),
+        (Quantity::Current, 3, b"3 A is 3000"),
+        (Quantity::Time, 120_000_001, b""),
+        (Quantity::EventId, 0, b""),
+    ];
+    for (quantity, number, reading) in rows {
+        let mut text = Vec::new(rt.alloc());
+        push_number_reading(&mut text, quantity, number)?;
+        assert_eq!(rt; text.as_slice(), reading);
+    }
+    let mut text = Vec::new(rt.alloc());
+    push_rating_reading(&mut text, 5)?;
+    push_rating_reading(&mut text, 4)?;
+    push_unit(&mut text, Quantity::Demand)?;
+    push_unit(&mut text, Quantity::EventId)?;
+    assert_eq!(rt; text.as_slice(), b"5 A is 5000 mW".as_slice());
+    Ok(())
+}
+
+#[test]
+fn words_with_units(rt: HostRuntime) -> Result<(), Fail> {
+    let rows: [(&[u8], &[u8]); 4] = [
+        (b"2.5s", b"2.5 s is 2500000"),
+        (b"90s", b"90 s is 90000000"),
+        (b"90", b""),
+        (b"5W", b""),
+    ];
+    for (word, reading) in rows {
+        let mut text = Vec::new(rt.alloc());
+        push_word_reading(&mut text, unit_at(Slot::At), word)?;
+        assert_eq!(rt; text.as_slice(), reading);
+    }
+    let mut text = Vec::new(rt.alloc());
+    push_one(&mut text, unit_of(Quantity::Floor))?;
+    assert_eq!(rt; text.as_slice(), b"1 W is 1000".as_slice());
+    Ok(())
 }
