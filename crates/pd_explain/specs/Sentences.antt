@@ -8,6 +8,7 @@ use Rattle.pd_scenario.specs.declared.named.NamedSink.{NamedSink}
 use Rattle.pd_scenario.specs.declared.event.ScenarioEvent.{ScenarioEvent}
 use Rattle.pd_scenario.specs.Limits.{Range, between, stepped, range_of}
 use Rattle.pd_scenario.specs.Scenarios.{ScenarioData}
+use Rattle.pd_units.specs.Readings.{number_reading, rating_reading, unit_text}
 use Rattle.pd_explain.specs.declared.place.NumberWord.{NumberWord}
 use Rattle.pd_explain.specs.declared.place.NumberWord.TheVariants as word
 use Rattle.pd_explain.specs.declared.place.Counted.{Counted}
@@ -91,11 +92,15 @@ unfoldable pub step_text : Quantity → List ℕ
 step_text quantity = codes ", no multiple of " ++ decimal (step_in (range_of quantity))
 
 -- how a number is out of the range of its quantity
-unfoldable pub out_text : Quantity → ℕ → List ℕ
-out_text quantity value =
+unfoldable pub bound_text : Quantity → ℕ → List ℕ
+bound_text quantity value =
     if nat_lt value (least_in (range_of quantity)) then codes ", below " ++ decimal (least_in (range_of quantity))
     else if nat_lt (greatest_in (range_of quantity)) value then codes ", above " ++ decimal (greatest_in (range_of quantity))
     else step_text quantity
+
+-- with its unit
+unfoldable pub out_text : Quantity → ℕ → List ℕ
+out_text quantity value = bound_text quantity value ++ unit_text quantity
 
 -- ---- all
 
@@ -139,13 +144,14 @@ unfoldable pub number_text : NumberWord → Quantity → ℕ → List ℕ
 number_text word quantity value = word_text word ++ (is_text value ++ out_text quantity value)
 
 unfoldable pub before_text : ℕ → List ℕ
-before_text before = codes ", not above " ++ (decimal before ++ codes " before it")
+before_text before = codes ", not above " ++ (decimal before ++ codes " mV before it")
 
 unfoldable pub next_supply_text : ℕ → ℕ → ℕ → List ℕ
 next_supply_text supply mv before = word_text (word.Mv supply) ++ (is_text mv ++ before_text before)
 
 unfoldable pub floors_text : ℕ → ℕ → List ℕ
-floors_text floors budget = codes "the floors add to " ++ (decimal floors ++ (codes ", above the least budget, " ++ decimal budget))
+floors_text floors budget =
+    codes "the floors add to " ++ (decimal floors ++ (codes " mW, above the least budget, " ++ (decimal budget ++ codes " mW")))
 
 unfoldable pub new_id_text : ℕ → List ℕ
 new_id_text id = codes "event " ++ (decimal id ++ codes " is there already")
@@ -154,13 +160,13 @@ unfoldable pub changed_text : ℕ → List ℕ
 changed_text id = codes "event " ++ (decimal id ++ codes " is a change of the budget, on no port")
 
 unfoldable pub rating_text : ℕ → List ℕ
-rating_text rating = codes "`RATING` is " ++ (decimal rating ++ codes ", neither 3000 nor 5000")
+rating_text rating = codes "`RATING` is " ++ (decimal rating ++ codes ", neither 3000 nor 5000 mA")
 
 unfoldable pub count_text : ℕ → List ℕ
 count_text count = codes "there are " ++ (decimal count ++ codes " supplies, not 1 to 7")
 
 unfoldable pub first_supply_text : ℕ → List ℕ
-first_supply_text mv = codes "`MV` of supply 1 is " ++ (decimal mv ++ codes ", not 5000")
+first_supply_text mv = codes "`MV` of supply 1 is " ++ (decimal mv ++ codes ", not 5000 mV")
 
 unfoldable pub room_text : Counted → ℕ → List ℕ
 room_text counted count = codes "there are " ++ (decimal count ++ (counted_word counted ++ codes " already"))
@@ -173,10 +179,13 @@ word_at (place.FirstSupply mv) = codes "MV"
 word_at (place.NextSupply supply mv before) = codes "MV"
 word_at _ = []
 
--- the first of the names of which a name that isn't there is a slip, where it is one
+-- the first of the names of which a name that isn't there is a slip, where it is one; and in which other unit a number that isn't
+-- allowed may have been meant
 abbrev pub hint : ScenarioData → Place → List ℕ
 hint c (place.Cable name) = meant_text (nearest name (cable_names c))
 hint c (place.Sink name) = meant_text (nearest name (sink_names c))
+hint c (place.Number word quantity value) = number_reading quantity value
+hint c (place.Rating rating) = rating_reading rating
 hint c _ = []
 
 abbrev pub sentence : ℕ → ScenarioData → Place → List ℕ

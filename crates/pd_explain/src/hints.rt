@@ -1,17 +1,18 @@
-//! Hints: which word or name may have been meant.
+//! Hints: which word, name or number may have been meant.
 
 ghost use Rattle.std.specs.Prelude.{◌≡◌, ◌++◌, OnOk, find, map, option_map};
 ghost use Rattle.pd_hints.specs.Slips.{is_slip, meant_text, nearest};
 ghost use Rattle.pd_scenario.specs.declared.named.NamedCable.{NamedCable as NamedCableData};
 ghost use Rattle.pd_scenario.specs.declared.named.NamedSink.{NamedSink as NamedSinkData};
 ghost use Rattle.pd_edit_lines.specs.Words.{words};
-ghost use Rattle.pd_explain.specs.Hints.{near_keyword, near_slot, near_word, stop_hint};
+ghost use Rattle.pd_explain.specs.Hints.{first_reading, near_keyword, near_slot, near_word, stop_hint};
 ghost use Rattle.pd_explain.specs.Sentences.{hint};
 
 use crate::Place;
 use pd_edit_lines::{Row, Slot, Stop, next};
 use pd_hints::{is_slip, nearest, push_meant};
 use pd_scenario::{Name, NamedCable, NamedSink, Scenario};
+use pd_units::{push_number_reading, push_rating_reading, push_word_reading, unit_at};
 use std::alloc::AllocError;
 
 const PLUGS: [&str; 5] = ["none", "ack", "nak", "busy", "silent"];
@@ -62,7 +63,7 @@ fn push_near_sink(text: &mut Vec<u8>, name: &Name, sinks: &[NamedSink]) -> Resul
     push_meant(text, near_sink_name(name, sinks))
 }
 
-/// Writes which name may have been meant at a place where one isn't there.
+/// Writes which name may have been meant at a place where one isn't there, and in which other unit a number that isn't allowed.
 pub(crate) fn push_hint<const N: usize>(
     text: &mut Vec<u8>,
     scenario: &Scenario<N>,
@@ -73,6 +74,12 @@ pub(crate) fn push_hint<const N: usize>(
     match place {
         Place::Cable { name } => push_near_cable(text, name, scenario.cables()),
         Place::Sink { name } => push_near_sink(text, name, scenario.sinks()),
+        Place::Number {
+            quantity,
+            value,
+            ..
+        } => push_number_reading(text, *quantity, *value),
+        Place::Rating { rating } => push_rating_reading(text, *rating),
         _ => Ok(()),
     }
 }
@@ -111,12 +118,23 @@ fn near_word(word: &[u8], rows: &[Row]) -> Option<&'static str>
     None
 }
 
-/// Writes which word may have been meant where a line stops.
+/// Writes what number a word is, where it has a unit behind it and the first of what may follow is a number of that kind.
+fn push_first_reading(text: &mut Vec<u8>, word: &[u8], rows: &[Row]) -> Result<(), AllocError>
+    ensures { OnOk result (text.new.items ≡ text.old.items ++ first_reading word.now rows.now) }
+{
+    match rows {
+        [row, ..] => push_word_reading(text, unit_at(row.slot), word),
+        [] => Ok(()),
+    }
+}
+
+/// Writes which word, or which number, may have been meant where a line stops.
 pub(crate) fn push_stop_hint(text: &mut Vec<u8>, stop: &Stop<'_>) -> Result<(), AllocError>
     ensures { OnOk result (text.new.items ≡ text.old.items ++ stop_hint stop.now.front (words stop.now.rest.now)) }
 {
-    match next(stop.rest) {
-        Some((word, _)) => push_meant(text, near_word(word, stop.rows())),
-        None => Ok(()),
-    }
+    let Some((word, _)) = next(stop.rest) else {
+        return Ok(());
+    };
+    push_meant(text, near_word(word, stop.rows()))?;
+    push_first_reading(text, word, stop.rows())
 }

@@ -2,10 +2,11 @@
 
 ghost use Rattle.std.specs.Prelude.{◌≡◌, ◌++◌, OnOk};
 ghost use Rattle.pd_scenario.specs.Limits.{range_of};
-ghost use Rattle.pd_explain.specs.Sentences.{least_in, greatest_in, step_in, step_text, out_text};
+ghost use Rattle.pd_explain.specs.Sentences.{bound_text, least_in, greatest_in, step_in, step_text, out_text};
 
 use crate::texts::push_behind;
 use pd_scenario::Quantity;
+use pd_units::push_unit;
 use std::alloc::AllocError;
 
 /// The least number of a quantity.
@@ -64,9 +65,9 @@ fn push_step(text: &mut Vec<u8>, quantity: Quantity) -> Result<(), AllocError>
 }
 
 /// Writes how a number is out of the range of its quantity.
-#[tactic(auto, unfolding(crate::specs::Sentences::out_text))]
-pub(crate) fn push_out(text: &mut Vec<u8>, quantity: Quantity, value: u64) -> Result<(), AllocError>
-    ensures { OnOk result (text.new.items ≡ text.old.items ++ out_text quantity value) }
+#[tactic(auto, unfolding(crate::specs::Sentences::bound_text))]
+fn push_bound(text: &mut Vec<u8>, quantity: Quantity, value: u64) -> Result<(), AllocError>
+    ensures { OnOk result (text.new.items ≡ text.old.items ++ bound_text quantity value) }
 {
     let (least, greatest) = (least(quantity), greatest(quantity));
     if value < least {
@@ -76,4 +77,13 @@ pub(crate) fn push_out(text: &mut Vec<u8>, quantity: Quantity, value: u64) -> Re
     } else {
         push_step(text, quantity)
     }
+}
+
+/// The same, with its unit.
+#[tactic(auto, unfolding(crate::specs::Sentences::out_text))]
+pub(crate) fn push_out(text: &mut Vec<u8>, quantity: Quantity, value: u64) -> Result<(), AllocError>
+    ensures { OnOk result (text.new.items ≡ text.old.items ++ out_text quantity value) }
+{
+    push_bound(text, quantity, value)?;
+    push_unit(text, quantity)
 }

@@ -101,7 +101,7 @@ fn push_changed(text: &mut Vec<u8>, id: u64) -> Result<(), AllocError>
 fn push_rating(text: &mut Vec<u8>, rating: u64) -> Result<(), AllocError>
     ensures { OnOk result (text.new.items ≡ text.old.items ++ rating_text rating) }
 {
-    push_between(text, "`RATING` is ", rating, ", neither 3000 nor 5000")
+    push_between(text, "`RATING` is ", rating, ", neither 3000 nor 5000 mA")
 }
 
 #[tactic(auto, unfolding(crate::specs::Sentences::count_text))]
@@ -115,7 +115,7 @@ fn push_count(text: &mut Vec<u8>, count: usize) -> Result<(), AllocError>
 fn push_first_supply(text: &mut Vec<u8>, mv: u64) -> Result<(), AllocError>
     ensures { OnOk result (text.new.items ≡ text.old.items ++ first_supply_text mv) }
 {
-    push_between(text, "`MV` of supply 1 is ", mv, ", not 5000")
+    push_between(text, "`MV` of supply 1 is ", mv, ", not 5000 mV")
 }
 
 #[tactic(auto, unfolding(crate::specs::Sentences::no_event_text))]
@@ -226,7 +226,7 @@ fn push_value(
 fn push_before(text: &mut Vec<u8>, before: u64) -> Result<(), AllocError>
     ensures { OnOk result (text.new.items ≡ text.old.items ++ before_text before) }
 {
-    push_between(text, ", not above ", before, " before it")
+    push_between(text, ", not above ", before, " mV before it")
 }
 
 #[tactic(auto, unfolding(crate::specs::Sentences::next_supply_text))]
@@ -245,9 +245,10 @@ fn push_next_supply(
 
 /// Writes the least budget.
 fn push_least(text: &mut Vec<u8>, budget_mw: u64) -> Result<(), AllocError>
-    ensures { OnOk result (text.new.items ≡ text.old.items ++ (codes ", above the least budget, " ++ decimal budget_mw)) }
+    ensures { OnOk result (text.new.items
+        ≡ text.old.items ++ (codes " mW, above the least budget, " ++ (decimal budget_mw ++ codes " mW"))) }
 {
-    push_behind(text, ", above the least budget, ", budget_mw)
+    push_between(text, " mW, above the least budget, ", budget_mw, " mW")
 }
 
 #[tactic(auto, unfolding(crate::specs::Sentences::floors_text))]

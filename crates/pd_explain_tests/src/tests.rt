@@ -51,7 +51,7 @@ mw = 20000
 ";
 
 /// Lines, each with what is said of it: a line for each place, parted by bars.
-const LINES: [(&[u8], &[u8]); 54] = [
+const LINES: [(&[u8], &[u8]); 59] = [
     (
         b"mvoe 1 5",
         b"refused 20: word 1: expected insert, remove, move, change, cable, sink, caps, floor, budget, end, show, found `mvoe`; \
@@ -197,11 +197,12 @@ hint: did you mean `lose`?",
     (b"sink phone drop", b"refused 25: event 1 at 0 names it"),
     (
         b"move 1 120000001",
-        b"refused 26: `AT` is 120000001, above 120000000",
+        b"refused 26: `AT` is 120000001, above 120000000 us",
     ),
     (
         b"insert 0 120000001 1 demand 49",
-        b"refused 26: `ID` is 0, below 1|refused 26: `AT` is 120000001, above 120000000|refused 26: `MW` is 49, below 50",
+        b"refused 26: `ID` is 0, below 1|refused 26: `AT` is 120000001, above 120000000 us|\
+refused 26: `MW` is 49, below 50 mW; hint: 49 W is 49000",
     ),
     (
         b"change 1 damage 69 0",
@@ -209,40 +210,61 @@ hint: did you mean `lose`?",
     ),
     (
         b"cable c5 ack 4000",
-        b"refused 26: `RATING` is 4000, neither 3000 nor 5000",
+        b"refused 26: `RATING` is 4000, neither 3000 nor 5000 mA",
     ),
     (
         b"sink a 5025 20 pd",
-        b"refused 26: `MAX` is 5025, no multiple of 50|refused 26: `DEMAND` is 20, below 50",
+        b"refused 26: `MAX` is 5025, no multiple of 50 mV|refused 26: `DEMAND` is 20, below 50 mW; hint: 20 W is 20000",
     ),
     (
         b"caps 1 5000 3000 9001 5010",
-        b"refused 26: `MV` of supply 2 is 9001, no multiple of 50|refused 26: `MA` of supply 2 is 5010, above 5000",
+        b"refused 26: `MV` of supply 2 is 9001, no multiple of 50 mV|refused 26: `MA` of supply 2 is 5010, above 5000 mA",
     ),
     (
         b"caps 1 9000 3000",
-        b"refused 27: `MV` of supply 1 is 9000, not 5000",
+        b"refused 27: `MV` of supply 1 is 9000, not 5000 mV",
     ),
     (
         b"caps 1 5000 3000 9000 3000 9000 2000",
-        b"refused 27: `MV` of supply 3 is 9000, not above 9000 before it",
+        b"refused 27: `MV` of supply 3 is 9000, not above 9000 mV before it",
     ),
     (
         b"floor 1 17501",
-        b"refused 28: the floors add to 20001, above the least budget, 20000",
+        b"refused 28: the floors add to 20001 mW, above the least budget, 20000 mW",
     ),
     (
         b"budget 4999",
-        b"refused 28: the floors add to 5000, above the least budget, 4999",
+        b"refused 28: the floors add to 5000 mW, above the least budget, 4999 mW",
     ),
     (
         b"insert 4 0 budget 4000",
-        b"refused 28: the floors add to 5000, above the least budget, 4000",
+        b"refused 28: the floors add to 5000 mW, above the least budget, 4000 mW",
     ),
-    (b"floor 1 499", b"refused 26: `MW` is 499, below 500"),
+    (b"floor 1 499", b"refused 26: `MW` is 499, below 500 mW"),
+    (
+        b"floor 1 60",
+        b"refused 26: `MW` is 60, below 500 mW; hint: 60 W is 60000",
+    ),
+    (
+        b"caps 1 5 3",
+        b"refused 26: `MV` of supply 1 is 5, below 5000 mV; hint: 5 V is 5000|\
+refused 26: `MA` of supply 1 is 3, below 10 mA; hint: 3 A is 3000|refused 27: `MV` of supply 1 is 5, not 5000 mV",
+    ),
+    (
+        b"cable c5 ack 5",
+        b"refused 26: `RATING` is 5, neither 3000 nor 5000 mA; hint: 5 A is 5000",
+    ),
+    (
+        b"end 2.5s",
+        b"refused 20: word 2: expected AT in 1 to 10 digits, found `2.5s`; hint: 2.5 s is 2500000",
+    ),
+    (
+        b"floor 1 60V",
+        b"refused 20: word 3: expected MW in 1 to 10 digits, found `60V`",
+    ),
     (
         b"caps 9 9000 3000",
-        b"refused 23: no port is 9; the last is 2|refused 27: `MV` of supply 1 is 9000, not 5000",
+        b"refused 23: no port is 9; the last is 2|refused 27: `MV` of supply 1 is 9000, not 5000 mV",
     ),
     (
         b"insert 0 0 3 attach x phone",
@@ -250,7 +272,8 @@ hint: did you mean `lose`?",
     ),
     (
         b"budget 499",
-        b"refused 26: `MW` is 499, below 500|refused 28: the floors add to 5000, above the least budget, 499",
+        b"refused 26: `MW` is 499, below 500 mW; hint: 499 W is 499000|\
+refused 28: the floors add to 5000 mW, above the least budget, 499 mW",
     ),
 ];
 
