@@ -1,5 +1,6 @@
 -- Over lines of sessions alone, the desk is a session.
-use Rattle.std.proofs.Common.{◌≡◌, ℕ, false, List, [], ◌∷◌, ◌++◌, fold, map, All, refl, sym, ap, ◌∙◌, append_assoc, Option, Ok, Err}
+use Rattle.std.proofs.Common.{◌≡◌, ◌≤◌, ℕ, false, length, inl, inr, List, [], ◌∷◌, ◌++◌}
+use Rattle.std.proofs.Common.{fold, map, All, refl, sym, ap, ◌∙◌, append_assoc, Option, Ok, Err}
 use Rattle.std.specs.Str.Lines.{lines, strip_carriage_return}
 use Rattle.std.proofs.lemmas.List.{append-nil}
 use Rattle.std.proofs.lemmas.List.Elements.{All-nil, All-cons, All-head, All-tail}
@@ -13,10 +14,12 @@ use Rattle.pd_bench.specs.Session.{Replies, Session, BeginsSession, SessionStopp
 use Rattle.pd_bench.specs.Stream.{so_far}
 use Rattle.pd_bench.specs.Traces.{ended}
 use Rattle.pd_bench.proofs.SessionLemmas.{some_answers, Replies-from_answers}
-use Rattle.pd_desk.specs.Commands.{is_colon}
+use Rattle.std.specs.Io.KnownBytes.{IsAtEnd}
+use Rattle.pd_desk.specs.Commands.{is_colon, is_quit}
 use Rattle.pd_desk.specs.Desk.{DeskReply, DeskReplies, Becomes, WithShelf, at_first}
 use Rattle.pd_desk.specs.Shelf.{Shelved}
-use Rattle.pd_desk.specs.Ends.{Beside, DeskText, DeskStopped}
+use Rattle.pd_desk.specs.Ends.{Beside, DeskText, DeskStopped, EndsAt}
+use Rattle.pd_desk.specs.declared.left.Left.{Left}
 use Rattle.pd_desk.specs.Laws.{NoneIsOwn, DeskIsSession}
 use Rattle.pd_desk.proofs.Joins.{lines-open}
 
@@ -24,7 +27,7 @@ no_costs : Costs
 no_costs = λ old plan n. Unit {0}
 
 becomes : (n : ℕ) (d : WithShelf) (line reply told : List ℕ) (d' : WithShelf) → is_colon line ≡ false → DeskReply n d line reply told d' →
-    (outcome : Outcome) × Becomes n d.desk (line_of line) outcome reply d'.desk
+    (outcome : Outcome) × Becomes n d.desk line (line_of line) outcome reply d'.desk
 becomes n d line reply told d' other is = let own = rw other at is in (own.0.0, own.0.1)
 
 -- such lines, and then others of the session
@@ -55,9 +58,9 @@ as_replies n d (line ∷ more) text tolds d' ls' text' outcomes' others
       ap (λ (u : Tally). fold counted u after.0) (sym one.1.1) ∙ after.2,
     )
 
-as_session : (n : ℕ) (s : ScenarioData) (shelf : Shelved) (bytes text : List ℕ) (tolds : List (List ℕ)) (shelf' : Shelved) (tally : Tally) →
-    NoneIsOwn bytes → DeskText n s shelf bytes text tolds shelf' tally → Session n s bytes text tally
-as_session n s shelf bytes text tolds shelf' tally others desk =
+as_session : (n : ℕ) (s : ScenarioData) (shelf : Shelved) (bytes text : List ℕ) (tolds : List (List ℕ)) (shelf' : Shelved) (end : Left) →
+    NoneIsOwn bytes → DeskText n s shelf bytes text tolds shelf' end → Session n s bytes text end.tally
+as_session n s shelf bytes text tolds shelf' end others desk =
     let all = as_replies n (at_first s shelf) (lines bytes) desk.replies tolds desk.after [] [] [] others desk.are_replies (refl, refl) in
     record {
       replies = desk.replies;
@@ -118,15 +121,28 @@ session_stopped n left left' taken taken' w w' shelf shelf' s count stopped othe
   begins = begins_session stopped others;
 }
 
+-- no line ends the session, so all was read
+All-last : (front : List (List ℕ)) (last : List ℕ) → All (λ line. is_colon line ≡ false) (front ++ last ∷ []) → is_colon last ≡ false
+All-last [] last h = All-head (λ line. is_colon line ≡ false) last [] h
+All-last (x ∷ xs) last h = All-last xs last (All-tail (λ line. is_colon line ≡ false) x (xs ++ last ∷ []) h)
+
+at_end : (left' : Option (List ℕ)) (bytes : List ℕ) → NoneIsOwn bytes → EndsAt left' bytes → IsAtEnd left' × (length bytes ≤ 16777216)
+at_end left' bytes others (inl ends) = ends
+at_end left' bytes others (inr (quits, few)) =
+    let other = All-last quits.front quits.last (rw quits.are at others) in
+    let never : is_quit quits.last ≡ false = rw other refl in
+    let both = sym never ∙ quits.quits in
+    absurd (cc)
+
 pub desk_is_session : DeskIsSession
-desk_is_session n (Ok tally) left left' taken taken' w w' shelf shelf' s ends others = record {
+desk_is_session n (Ok end) left left' taken taken' w w' shelf shelf' s ends others = record {
   bytes = ends.bytes;
   consumes = ends.consumes;
-  at_end = ends.at_end;
-  few = ends.few;
+  at_end = (at_end left' ends.bytes others ends.ends).0;
+  few = (at_end left' ends.bytes others ends.ends).1;
   out = ends.out;
   appends = ends.appends;
-  session = as_session n s shelf ends.bytes ends.out ends.tolds shelf' tally others ends.text;
+  session = as_session n s shelf ends.bytes ends.out ends.tolds shelf' end others ends.text;
 }
 desk_is_session n (Err ReadFailed) left left' taken taken' w w' shelf shelf' s (count, few, stopped) others =
     (count, few, session_stopped n left left' taken taken' w w' shelf shelf' s count stopped others)
@@ -138,8 +154,8 @@ desk_is_session n (Err WriteFailed) left left' taken taken' w w' shelf shelf' s 
   appends = ends.appends;
   begins = record {
     text = ends.whole;
-    tally = ends.tally;
-    session = as_session n s shelf ends.bytes ends.whole (ends.tolds ++ ends.later) shelf' ends.tally others ends.text;
+    tally = ends.end.tally;
+    session = as_session n s shelf ends.bytes ends.whole (ends.tolds ++ ends.later) shelf' ends.end others ends.text;
     begins = ends.begins;
   };
 }

@@ -11,11 +11,18 @@ use Rattle.pd_edit_lines.specs.Words.{words}
 use Rattle.pd_edit_lines.specs.declared.line.Line.{Line}
 use Rattle.pd_edit_lines.specs.declared.line.Line.TheVariants as lines_read
 use Rattle.pd_edit_lines.specs.declared.fault.EditFault.{EditFault}
-use Rattle.pd_desk.specs.Commands.{is_colon, colon_of, second}
+use Rattle.std.specs.Prelude.{◌≢◌, ◌||◌, if◌then◌else◌}
+use Rattle.pd_edit_lines.specs.Grammar.{are_spaces, is_comment}
+use Rattle.pd_edit_lines.specs.declared.fault.EditFault.TheVariants.{Syntax}
+use Rattle.pd_bench.specs.declared.tally.Outcome.{Outcome}
+use Rattle.pd_bench.specs.declared.tally.Outcome.TheVariants.{Skipped, Accepted, Refused, Shown}
+use Rattle.pd_bench.specs.Session.{Reply}
+use Rattle.pd_desk.specs.declared.colon.Colon.{Colon}
+use Rattle.pd_desk.specs.Commands.{is_colon, is_quit, colon_of, quits, second}
 use Rattle.pd_desk.specs.LineReasons.{no_line_text, reasons_of, reasons_text}
 use Rattle.pd_bench.specs.Pending.{StandsFor}
 use Rattle.pd_bench.proofs.PendingLemmas.{reading-kept, reading-kept_cut, strip-push}
-use Rattle.pd_desk.specs.Desk.{DeskReply, OwnReply, ReplyBy, WithShelf}
+use Rattle.pd_desk.specs.Desk.{DeskReply, TakesNote, OwnReply, ReplyBy, Standing, WithShelf}
 
 -- two lines of more than 256 bytes, which say the same
 record BothLong (a b : List ℕ) : Type 0 where
@@ -100,12 +107,42 @@ own_none n d file others reply told d' (inr h) = inr h
 colon_of-long : (line : List ℕ) → 256 < length line → colon_of line ≡ None
 colon_of-long line long = rw (lt-ltb 256 (length line) long) refl
 
+-- no edit is made by such a line
+not_made : (line : List ℕ) → 256 < length line → (line_of line ≡ Ok lines_read.Skip) ⊎ (line_of line ≡ Err Syntax)
+not_made line long = by_skip (is_comment line || are_spaces line) refl
+  where
+    by_skip : (t : Bool) → (is_comment line || are_spaces line) ≡ t → (line_of line ≡ Ok lines_read.Skip) ⊎ (line_of line ≡ Err Syntax)
+    by_skip true e = inl (rw e refl)
+    by_skip false e = inr (rw (e, lt-ltb 256 (length line) long) refl)
+
+not_accepted : (n : ℕ) (s : ScenarioData) (r : Result Line EditFault) (reply : List ℕ) (s' : ScenarioData) (outcome : Outcome) →
+    (r ≡ Ok lines_read.Skip) ⊎ (r ≡ Err Syntax) → Reply n s r reply s' outcome → outcome ≢ Accepted
+not_accepted n s r reply s' outcome (inl is) h =
+    let skipped = rw is at h in λ e. let both = sym skipped.2 ∙ e in absurd (cc)
+not_accepted n s r reply s' outcome (inr is) h =
+    let refused = rw is at h in λ e. let both = sym refused.2 ∙ e in absurd (cc)
+
+-- so it doesn't matter what would be noted
+TakesNote-other : (outcome : Outcome) (d : Standing) (a b : List ℕ) (d' : Standing) → outcome ≢ Accepted → TakesNote outcome d b d' →
+    TakesNote outcome d a d'
+TakesNote-other Accepted d a b d' other h = absurd (other refl)
+TakesNote-other Skipped d a b d' other h = h
+TakesNote-other Refused d a b d' other h = h
+TakesNote-other Shown d a b d' other h = h
+
 by_colon : (t : Bool) (n : ℕ) (d : WithShelf) (a b reply told : List ℕ) (d' : WithShelf) → BothLong a b →
     ReplyBy t n d b reply told d' → ReplyBy t n d a reply told d'
 by_colon true n d a b reply told d' h own =
     let none = rw (colon_of-long b h.second_long) at own in
     rw (colon_of-long a h.first_long) (own_none n d (second (words b)) (second (words a)) reply told d' none)
-by_colon false n d a b reply told d' h own = rw (h.reading, reasons_text-long n d.desk.scenario a b h) own
+by_colon false n d a b reply told d' h (told_reply, shelf) =
+    let outcome = told_reply.0 in
+    let becomes = told_reply.1 in
+    let other = not_accepted n d.desk.scenario (line_of b) reply d'.desk.scenario outcome (not_made b h.second_long) becomes.0 in
+    rw (h.reading, reasons_text-long n d.desk.scenario a b h) (
+      (outcome, (becomes.0, becomes.1, TakesNote-other outcome d.desk a b d'.desk other becomes.2), told_reply.2),
+      shelf,
+    )
 
 DeskReply-same : (n : ℕ) (d : WithShelf) (a b reply told : List ℕ) (d' : WithShelf) → (a ≡ b) ⊎ BothLong a b →
     DeskReply n d b reply told d' → DeskReply n d a reply told d'
@@ -122,3 +159,18 @@ pub DeskReply-cut : (n : ℕ) (d : WithShelf) (line kept reply told : List ℕ) 
     DeskReply n d (strip_carriage_return kept) reply told d' → DeskReply n d (strip_carriage_return line) reply told d'
 DeskReply-cut n d line kept reply told d' stands h =
     DeskReply-same n d (strip_carriage_return line) (strip_carriage_return kept) reply told d' (same_cut line kept stands) h
+
+-- 4. The line that ends the session
+
+never_quits : (t : Bool) (own : Option Colon) → own ≡ None → (if t then quits own else false) ≡ false
+never_quits true own e = ap quits e
+never_quits false own e = refl
+
+is_quit-same : (a b : List ℕ) → (a ≡ b) ⊎ BothLong a b → is_quit a ≡ is_quit b
+is_quit-same a b (inl e) = ap is_quit e
+is_quit-same a b (inr e) =
+    never_quits (is_colon a) (colon_of a) (colon_of-long a e.first_long)
+    ∙ sym (never_quits (is_colon b) (colon_of b) (colon_of-long b e.second_long))
+
+pub is_quit-cut : (line kept : List ℕ) → StandsFor line kept → is_quit (strip_carriage_return line) ≡ is_quit (strip_carriage_return kept)
+is_quit-cut line kept stands = is_quit-same (strip_carriage_return line) (strip_carriage_return kept) (same_cut line kept stands)

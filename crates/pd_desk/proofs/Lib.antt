@@ -6,3 +6,7 @@ mod TakeLine
 mod Told
 mod FoundLines
 mod OwnLines
+mod Back
+mod Leads
+mod ScriptText
+mod SameText

@@ -1,9 +1,14 @@
 -- The desk's own lines: docs/FORMATS.md, "pdlab live".
-use Rattle.std.specs.Prelude.{ℕ, Bool, true, false, ◌==◌, nat_lt, List, [], ◌∷◌, length, codes, Option, Some, None, option_map, bytes_eq}
+use Rattle.std.specs.Prelude.{ℕ, ◌-◌, Bool, true, false, ◌==◌, nat_lt, List, [], ◌∷◌, length, codes}
+use Rattle.std.specs.Prelude.{Option, Some, None, option_map, bytes_eq}
 use Rattle.std.specs.Prelude.{if◌then◌else◌}
 use Rattle.pd_edit_lines.specs.Words.{words, number, ◌>>=◌}
+use Rattle.pd_units.specs.Quantities.{number_in}
+use Rattle.pd_units.specs.declared.unit.Unit.TheVariants.{Microseconds}
 use Rattle.pd_desk.specs.declared.colon.Colon.{Colon}
 use Rattle.pd_desk.specs.declared.colon.Colon.TheVariants as colon
+use Rattle.pd_desk.specs.declared.colon.Saved.{Saved}
+use Rattle.pd_desk.specs.declared.colon.Saved.TheVariants as saved
 
 -- a line that begins with a colon is the desk's own
 abbrev pub is_colon : List ℕ → Bool
@@ -15,27 +20,53 @@ abbrev pub alone : Colon → List (List ℕ) → Option Colon
 alone it [] = Some it
 alone it (word ∷ words) = None
 
--- :save FILE, a name without spaces
-abbrev pub save_of : List (List ℕ) → Option Colon
-save_of (file ∷ []) = Some colon.Save
-save_of _ = None
+-- :save FILE, and the others that write a file; a name without spaces
+abbrev pub save_of : Saved → Bool → List (List ℕ) → Option Colon
+save_of what is_over (file ∷ []) = Some (colon.Save what is_over)
+save_of what is_over _ = None
 
--- :why PORT [AT]
+-- so many, from 1: the last and those before it
+abbrev pub undo_by : ℕ → Option Colon
+undo_by count = if count == 0 then None else Some (colon.Undo (count - 1))
+
+-- :undo [N]
+abbrev pub undo_of : List (List ℕ) → Option Colon
+undo_of [] = Some (colon.Undo 0)
+undo_of (count ∷ []) = number count >>= undo_by
+undo_of _ = None
+
+-- :diff [all]
+abbrev pub diff_of : List (List ℕ) → Option Colon
+diff_of [] = Some colon.Diff
+diff_of (word ∷ []) = if bytes_eq word (codes "all") then Some colon.DiffAll else None
+diff_of _ = None
+
+-- :why PORT [AT], a time with a unit or in microseconds
 abbrev pub why_of : List (List ℕ) → Option Colon
 why_of (port ∷ []) = option_map (λ p. colon.Why p None) (number port)
-why_of (port ∷ at ∷ []) = number port >>= (λ p. option_map (λ t. colon.Why p (Some t)) (number at))
+why_of (port ∷ at ∷ []) = number port >>= (λ p. option_map (λ t. colon.Why p (Some t)) (number_in Microseconds at))
 why_of _ = None
+
+-- the commands that write a file; with ! in the place of one that is there
+unfoldable pub asked_save : List ℕ → List (List ℕ) → Option Colon
+asked_save word more =
+    if bytes_eq word (codes ":save") then save_of saved.Scenario false more
+    else if bytes_eq word (codes ":save!") then save_of saved.Scenario true more
+    else if bytes_eq word (codes ":save-edits") then save_of saved.Edits false more
+    else if bytes_eq word (codes ":save-edits!") then save_of saved.Edits true more
+    else None
 
 -- what the word behind the colon asks for
 unfoldable pub asked : List ℕ → List (List ℕ) → Option Colon
 asked word more =
     if bytes_eq word (codes ":help") then alone colon.Help more
     else if bytes_eq word (codes ":list") then alone colon.Listing more
-    else if bytes_eq word (codes ":undo") then alone colon.Undo more
-    else if bytes_eq word (codes ":diff") then alone colon.Diff more
-    else if bytes_eq word (codes ":save") then save_of more
+    else if bytes_eq word (codes ":undo") then undo_of more
+    else if bytes_eq word (codes ":redo") then alone colon.Redo more
+    else if bytes_eq word (codes ":diff") then diff_of more
     else if bytes_eq word (codes ":why") then why_of more
-    else None
+    else if bytes_eq word (codes ":quit") then alone colon.Quit more
+    else asked_save word more
 
 abbrev pub asked_by : List (List ℕ) → Option Colon
 asked_by [] = None
@@ -45,7 +76,31 @@ asked_by (word ∷ more) = asked word more
 abbrev pub colon_of : List ℕ → Option Colon
 colon_of line = if nat_lt 256 (length line) then None else asked_by (words line)
 
+abbrev pub quits : Option Colon → Bool
+quits (Some colon.Quit) = true
+quits _ = false
+
+-- :quit, which ends the session
+abbrev pub is_quit : List ℕ → Bool
+is_quit line = if is_colon line then quits (colon_of line) else false
+
 -- the second word
 abbrev pub second : List (List ℕ) → Option (List ℕ)
 second (word ∷ file ∷ more) = Some file
 second _ = None
+
+-- Of a word that begins no line of an edit script, the command that is meant: one of these without its colon, or what other
+-- programs say for it.
+unfoldable pub meant : List ℕ → Option (List ℕ)
+meant word =
+    if bytes_eq word (codes "quit") then Some (codes ":quit")
+    else if bytes_eq word (codes "exit") then Some (codes ":quit")
+    else if bytes_eq word (codes "help") then Some (codes ":help")
+    else if bytes_eq word (codes "?") then Some (codes ":help")
+    else if bytes_eq word (codes "list") then Some (codes ":list")
+    else if bytes_eq word (codes "undo") then Some (codes ":undo")
+    else if bytes_eq word (codes "redo") then Some (codes ":redo")
+    else if bytes_eq word (codes "diff") then Some (codes ":diff")
+    else if bytes_eq word (codes "why") then Some (codes ":why")
+    else if bytes_eq word (codes "save") then Some (codes ":save FILE")
+    else None

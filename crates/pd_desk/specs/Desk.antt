@@ -1,6 +1,6 @@
 -- What the desk writes for the lines that it reads: a session's answers, and those to its own lines.
-use Rattle.std.specs.Prelude.{◌≡◌, ◌≢◌, ◌⊎◌, ◌<◌, ℕ, Bool, true, false, nat_lt, List, [], ◌∷◌, ◌++◌, length, drop, codes}
-use Rattle.std.specs.Prelude.{Option, Some, None, Result, Ok, if◌then◌else◌}
+use Rattle.std.specs.Prelude.{◌≡◌, ◌≢◌, ◌⊎◌, ◌<◌, ◌==◌, ℕ, zero, suc, Bool, true, false, List, [], ◌∷◌, ◌++◌, length, codes}
+use Rattle.std.specs.Prelude.{Option, Some, None, Result, Ok}
 use Rattle.pd_scenario.specs.Scenarios.{ScenarioData}
 use Rattle.pd_scenario.specs.Plans.{plan_of}
 use Rattle.pd_scenario_text.specs.Reading.{Reads}
@@ -19,27 +19,32 @@ use Rattle.pd_bench.specs.declared.tally.Outcome.TheVariants.{Skipped, Accepted,
 use Rattle.pd_bench.specs.Session.{Reply, counted, no_lines, refused_text}
 use Rattle.pd_desk.specs.declared.colon.Colon.{Colon}
 use Rattle.pd_desk.specs.declared.colon.Colon.TheVariants as colon
+use Rattle.pd_desk.specs.declared.colon.Saved.{Saved}
+use Rattle.pd_desk.specs.declared.colon.Saved.TheVariants as saved
 use Rattle.pd_desk.specs.Commands.{is_colon, colon_of, second}
 use Rattle.pd_desk.specs.Diff.{diff_text}
 use Rattle.pd_desk.specs.Reports.{TellsDiff}
 use Rattle.pd_desk.specs.LineReasons.{reasons_text}
 use Rattle.pd_hints.specs.Reasons.{reason_of}
 use Rattle.pd_desk.specs.Help.{help_text}
+use Rattle.pd_desk.specs.History.{NotesData, StepData, no_notes, noted, notes_data, script_text}
 use Rattle.pd_desk.specs.Reasons.{as_line}
 use Rattle.pd_desk.specs.OwnFaults.{own_sentence}
-use Rattle.pd_desk.specs.Shelf.{IsNotPut, IsPut, Shelved}
+use Rattle.pd_desk.specs.Shelf.{IsNotPut, IsPut, IsFree, IsTaken, Shelved}
 use Rattle.pd_desk.specs.declared.own.OwnFault.{OwnFault}
-use Rattle.pd_desk.specs.declared.own.OwnFault.TheVariants.{Unknown, NoEdit, NoSuchPort, Differs, NotSaved, Memory}
+use Rattle.pd_desk.specs.declared.own.OwnFault.TheVariants.{Unknown, NoEdit, FewEdits, NoRedo, NoSuchPort}
+use Rattle.pd_desk.specs.declared.own.OwnFault.TheVariants.{Differs, Stands, NotSaved, Memory}
 
--- what the desk has come to: the scenario that stands, those that stood before the last accepted edits, the latest last, and
--- the counts
+-- What the desk has come to: the scenario that stood first, the one that stands, and what is noted of the edits between; the
+-- number of the edit that led to it, and of the one after which it was saved last; and the counts. An edit's number is how many
+-- were accepted up to it, and none has led to the first.
 pub record Standing : Type 0 where
+  pub first : ScenarioData
   pub scenario : ScenarioData
-  pub earlier : List ScenarioData
+  pub number : ℕ
+  pub saved : ℕ
+  pub notes : NotesData
   pub tally : Tally
-
-abbrev pub standing : ScenarioData → List ScenarioData → Tally → Standing
-standing s earlier tally = record { scenario = s; earlier = earlier; tally = tally }
 
 -- the same, with what is known of the shelf then
 pub record WithShelf : Type 0 where
@@ -50,25 +55,34 @@ abbrev pub with_shelf : Standing → Shelved → WithShelf
 with_shelf d shelf = record { desk = d; shelf = shelf }
 
 abbrev pub at_first : ScenarioData → Shelved → WithShelf
-at_first s shelf = with_shelf (standing s [] no_lines) shelf
+at_first s shelf =
+    with_shelf (record { first = s; scenario = s; number = 0; saved = 0; notes = no_notes; tally = no_lines }) shelf
+
+-- what stands was saved so
+abbrev pub is_saved : Standing → Bool
+is_saved d = d.number == d.saved
 
 -- ---- a line of a session
 
--- one more, and at most a hundred
-abbrev pub with_last : List ScenarioData → ScenarioData → List ScenarioData
-with_last earlier s = (if nat_lt (length earlier) 100 then earlier else drop 1 earlier) ++ s ∷ []
+-- nothing is noted
+abbrev pub KeepsNotes : Standing → Standing → Type 0
+KeepsNotes d d' = (d'.first ≡ d.first) × (d'.number ≡ d.number) × (d'.saved ≡ d.saved) × (d'.notes ≡ d.notes)
 
--- An accepted edit is remembered, so that it can be taken back, and no other line is.
-abbrev pub Remembers : Outcome → ScenarioData → List ScenarioData → List ScenarioData → Type 0
-Remembers Accepted s earlier earlier' = earlier' ≡ with_last earlier s
-Remembers Skipped s earlier earlier' = earlier' ≡ earlier
-Remembers Refused s earlier earlier' = earlier' ≡ earlier
-Remembers Shown s earlier earlier' = earlier' ≡ earlier
+abbrev pub step_of : Standing → List ℕ → StepData
+step_of d line = record { scenario = d.scenario; number = d.number; line = line }
+
+-- An accepted edit is noted, and what was taken back can't be made again. No other line is noted.
+abbrev pub TakesNote : Outcome → Standing → List ℕ → Standing → Type 0
+TakesNote Accepted d line d' =
+    (d'.first ≡ d.first) × (d'.number ≡ d'.tally.edits) × (d'.saved ≡ d.saved) × (d'.notes ≡ noted d.notes (step_of d line) [])
+TakesNote Skipped d line d' = KeepsNotes d d'
+TakesNote Refused d line d' = KeepsNotes d d'
+TakesNote Shown d line d' = KeepsNotes d d'
 
 -- the session's reply to what a line says, and what becomes of the line
-abbrev pub Becomes : ℕ → Standing → Result Line EditFault → Outcome → List ℕ → Standing → Type 0
-Becomes n d r outcome reply d' = Reply n d.scenario r reply d'.scenario outcome × (d'.tally ≡ counted d.tally outcome)
-    × Remembers outcome d.scenario d.earlier d'.earlier
+abbrev pub Becomes : ℕ → Standing → List ℕ → Result Line EditFault → Outcome → List ℕ → Standing → Type 0
+Becomes n d line r outcome reply d' =
+    Reply n d.scenario r reply d'.scenario outcome × (d'.tally ≡ counted d.tally outcome) × TakesNote outcome d line d'
 
 -- the fault of a refused line, none of any other
 abbrev pub IsFaultOf : Option EditFault → Outcome → List ℕ → Type 0
@@ -89,31 +103,66 @@ LineTells Accepted reasons reply told = told ≡ []
 LineTells Shown reasons reply told = told ≡ []
 
 abbrev pub ToldReply : ℕ → Standing → List ℕ → List ℕ → List ℕ → Standing → Type 0
-ToldReply n d line reply told d' = (outcome : Outcome) × Becomes n d (line_of line) outcome reply d'
+ToldReply n d line reply told d' = (outcome : Outcome) × Becomes n d line (line_of line) outcome reply d'
     × LineTells outcome (reasons_text n d.scenario line) reply told
 
 -- ---- a line of the desk's own
 
--- The last scenario of the earlier ones stands again; the text says which lines of the scenario that changes.
-pub record Undoes (d : Standing) (text : List ℕ) (d' : Standing) : Type 0 where
-  pub back : ScenarioData
-  pub front : List ScenarioData
-  pub earlier_are : d.earlier ≡ front ++ back ∷ []
-  pub after_is : d' ≡ standing back front d.tally
+-- The last edit is taken back: the scenario before it stands.
+pub record StepsBack (d d' : Standing) : Type 0 where
+  pub front : List StepData
+  pub back : StepData
+  pub earlier_are : d.notes.earlier ≡ front ++ back ∷ []
+  pub after_is : d'
+      ≡ record {
+        first = d.first;
+        scenario = back.scenario;
+        number = back.number;
+        saved = d.saved;
+        notes = notes_data d.notes.older front (d.notes.later ++ step_of d back.line ∷ []);
+        tally = d.tally;
+      }
+
+-- so many are, one after the other
+abbrev pub Back : ℕ → Standing → Standing → Type 0
+Back zero d d' = d' ≡ d
+Back (suc count) d d' = (mid : Standing) × Back count d mid × StepsBack mid d'
+
+-- The edit that was taken back last is made again: the scenario after it stands.
+pub record StepsForward (d d' : Standing) : Type 0 where
+  pub front : List StepData
+  pub next : StepData
+  pub later_are : d.notes.later ≡ front ++ next ∷ []
+  pub after_is : d'
+      ≡ record {
+        first = d.first;
+        scenario = next.scenario;
+        number = next.number;
+        saved = d.saved;
+        notes = noted d.notes (step_of d next.line) front;
+        tally = d.tally;
+      }
+
+-- behind a head, which lines of the scenario are others
+pub record TellsLines (head : List ℕ) (before now : ScenarioData) (text : List ℕ) : Type 0 where
   pub listed : List ℕ
-  pub listed_back : List ℕ
-  pub lists : Lists d.scenario listed
-  pub lists_back : Lists back listed_back
-  pub text_is : text ≡ codes "= undo\n" ++ diff_text listed listed_back
+  pub listed_now : List ℕ
+  pub lists : Lists before listed
+  pub lists_now : Lists now listed_now
+  pub text_is : text ≡ head ++ diff_text listed listed_now
 
 -- what the last accepted edit that can be taken back changed
 pub record TellsChanges (d : Standing) (text : List ℕ) : Type 0 where
-  pub before : ScenarioData
-  pub front : List ScenarioData
-  pub earlier_are : d.earlier ≡ front ++ before ∷ []
+  pub front : List StepData
+  pub last : StepData
+  pub earlier_are : d.notes.earlier ≡ front ++ last ∷ []
   pub diff : List ℕ
-  pub tells : TellsDiff before d.scenario diff
+  pub tells : TellsDiff last.scenario d.scenario diff
   pub text_is : text ≡ codes "= diff\n" ++ diff
+
+-- what all edits changed
+abbrev pub TellsAll : Standing → List ℕ → Type 0
+TellsAll d text = (diff : List ℕ) × TellsDiff d.first d.scenario diff × (text ≡ codes "= diff\n" ++ diff)
 
 abbrev pub saved_text : List ℕ → List ℕ
 saved_text file = codes "saved " ++ (file ++ codes "\n")
@@ -122,35 +171,79 @@ saved_text file = codes "saved " ++ (file ++ codes "\n")
 abbrev pub IsSame : WithShelf → WithShelf → Type 0
 IsSame d d' = (d'.desk ≡ d.desk) × (d'.shelf ≡ d.shelf)
 
--- the text of the scenario that stands was put on the shelf, and reads back as that scenario
-abbrev pub Saves : ℕ → WithShelf → Option (List ℕ) → List ℕ → WithShelf → Type 0
-Saves n d None text d' = ⊥
-Saves n d (Some file) text d' =
-    Reads n (file_text d.desk.scenario) (Ok d.desk.scenario) × (text ≡ saved_text file)
-    × IsPut d.shelf d'.shelf file (file_text d.desk.scenario) × (d'.desk ≡ d.desk)
+-- what is written to the file
+abbrev pub saved_as : Saved → Standing → List ℕ
+saved_as saved.Scenario d = file_text d.scenario
+saved_as saved.Edits d = script_text d.notes
+
+-- the text of a scenario reads back as that scenario
+abbrev pub ReadsBack : ℕ → Saved → ScenarioData → Type 0
+ReadsBack n saved.Scenario s = Reads n (file_text s) (Ok s)
+ReadsBack n saved.Edits s = Unit {0}
+
+-- the standing is saved now
+abbrev pub as_saved : Standing → Standing
+as_saved d = record {
+  first = d.first;
+  scenario = d.scenario;
+  number = d.number;
+  saved = d.number;
+  notes = d.notes;
+  tally = d.tally;
+}
+
+-- the text was put on the shelf
+abbrev pub Saves : ℕ → WithShelf → Saved → Bool → Option (List ℕ) → List ℕ → WithShelf → Type 0
+Saves n d what is_over None text d' = ⊥
+Saves n d what is_over (Some file) text d' =
+    ReadsBack n what d.desk.scenario × (text ≡ saved_text file) × IsPut d.shelf d'.shelf file (saved_as what d.desk)
+    × (is_over ≡ false → IsFree d.shelf.kept file) × (d'.desk ≡ as_saved d.desk)
 
 -- what is told for such a line, where nothing fails
 abbrev pub Tells : ℕ → WithShelf → Option Colon → Option (List ℕ) → List ℕ → WithShelf → Type 0
 Tells n d None file text d' = ⊥
 Tells n d (Some colon.Help) file text d' = (text ≡ help_text) × IsSame d d'
 Tells n d (Some colon.Listing) file text d' = Lists d.desk.scenario text × IsSame d d'
-Tells n d (Some colon.Undo) file text d' = Undoes d.desk text d'.desk × (d'.shelf ≡ d.shelf)
+Tells n d (Some (colon.Undo before)) file text d' =
+    Back (suc before) d.desk d'.desk × TellsLines (codes "= undo\n") d.desk.scenario d'.desk.scenario text × (d'.shelf ≡ d.shelf)
+Tells n d (Some colon.Redo) file text d' =
+    StepsForward d.desk d'.desk × TellsLines (codes "= redo\n") d.desk.scenario d'.desk.scenario text × (d'.shelf ≡ d.shelf)
 Tells n d (Some colon.Diff) file text d' = TellsChanges d.desk text × IsSame d d'
-Tells n d (Some colon.Save) file text d' = Saves n d file text d'
+Tells n d (Some colon.DiffAll) file text d' = TellsAll d.desk text × IsSame d d'
+Tells n d (Some (colon.Save what is_over)) file text d' = Saves n d what is_over file text d'
 Tells n d (Some (colon.Why port to)) file text d' =
     TellsWhy Words (plan_of d.desk.scenario) (record { port = port; to = to }) [] text × IsSame d d'
+Tells n d (Some colon.Quit) file text d' = (text ≡ []) × IsSame d d'
 
--- why an edit isn't taken back, or none of its changes told
-abbrev pub FailsEdit : List ScenarioData → OwnFault → Type 0
-FailsEdit earlier fault = ((fault ≡ NoEdit) × (earlier ≡ [])) ⊎ (fault ≡ Memory)
+-- why none of an edit's changes are told
+abbrev pub FailsEdit : NotesData → OwnFault → Type 0
+FailsEdit notes fault = ((fault ≡ NoEdit) × (notes.earlier ≡ [])) ⊎ (fault ≡ Memory)
 
--- why the scenario isn't saved: the shelf didn't take its text; or there was no name, no text that reads back, or no memory, and
--- nothing was to be put there
-abbrev pub FailsSave : ℕ → ScenarioData → Option (List ℕ) → OwnFault → Shelved → Shelved → Type 0
-FailsSave n s file fault shelf shelf' =
+-- why edits aren't taken back: there are none, or fewer
+abbrev pub FailsUndo : NotesData → ℕ → OwnFault → Type 0
+FailsUndo notes count fault =
+    FailsEdit notes fault ⊎ ((fault ≡ FewEdits (length notes.earlier)) × (length notes.earlier < count))
+
+-- why no edit is made again
+abbrev pub FailsRedo : NotesData → OwnFault → Type 0
+FailsRedo notes fault = ((fault ≡ NoRedo) × (notes.later ≡ [])) ⊎ (fault ≡ Memory)
+
+-- why nothing is put on the shelf: there was no name, no text that reads back, or no memory
+abbrev pub FailsBefore : ℕ → ScenarioData → Saved → Option (List ℕ) → OwnFault → Type 0
+FailsBefore n s what file fault =
+    ((fault ≡ Unknown) × (file ≡ None))
+    ⊎ (((fault ≡ Differs) × (what ≡ saved.Scenario) × ReadsOtherwise n (file_text s) s) ⊎ (fault ≡ Memory))
+
+-- something stands there under that name, and isn't to be replaced
+abbrev pub StandsThere : Option (List (List ℕ × List ℕ)) → Bool → Option (List ℕ) → Type 0
+StandsThere kept is_over None = ⊥
+StandsThere kept is_over (Some file) = (is_over ≡ false) × IsTaken kept file
+
+-- why nothing is saved: the shelf didn't take the text, or it wasn't to be put there
+abbrev pub FailsSave : ℕ → ScenarioData → Saved → Bool → Option (List ℕ) → OwnFault → Shelved → Shelved → Type 0
+FailsSave n s what is_over file fault shelf shelf' =
     ((fault ≡ NotSaved) × IsNotPut shelf shelf')
-    ⊎ ((((fault ≡ Unknown) × (file ≡ None)) ⊎ (((fault ≡ Differs) × ReadsOtherwise n (file_text s) s) ⊎ (fault ≡ Memory)))
-    × (shelf' ≡ shelf))
+    ⊎ ((FailsBefore n s what file fault ⊎ ((fault ≡ Stands) × StandsThere shelf.kept is_over file)) × (shelf' ≡ shelf))
 
 -- why it isn't told what bounds a port
 abbrev pub FailsWhy : ℕ → ℕ → OwnFault → Type 0
@@ -161,10 +254,14 @@ abbrev pub Fails : ℕ → WithShelf → Option Colon → Option (List ℕ) → 
 Fails n d None file fault d' = (fault ≡ Unknown) × IsSame d d'
 Fails n d (Some colon.Help) file fault d' = (fault ≡ Memory) × IsSame d d'
 Fails n d (Some colon.Listing) file fault d' = (fault ≡ Memory) × IsSame d d'
-Fails n d (Some colon.Undo) file fault d' = FailsEdit d.desk.earlier fault × IsSame d d'
-Fails n d (Some colon.Diff) file fault d' = FailsEdit d.desk.earlier fault × IsSame d d'
-Fails n d (Some colon.Save) file fault d' = FailsSave n d.desk.scenario file fault d.shelf d'.shelf × (d'.desk ≡ d.desk)
+Fails n d (Some (colon.Undo before)) file fault d' = FailsUndo d.desk.notes (suc before) fault × IsSame d d'
+Fails n d (Some colon.Redo) file fault d' = FailsRedo d.desk.notes fault × IsSame d d'
+Fails n d (Some colon.Diff) file fault d' = FailsEdit d.desk.notes fault × IsSame d d'
+Fails n d (Some colon.DiffAll) file fault d' = (fault ≡ Memory) × IsSame d d'
+Fails n d (Some (colon.Save what is_over)) file fault d' =
+    FailsSave n d.desk.scenario what is_over file fault d.shelf d'.shelf × (d'.desk ≡ d.desk)
 Fails n d (Some (colon.Why port to)) file fault d' = FailsWhy n port fault × IsSame d d'
+Fails n d (Some colon.Quit) file fault d' = ⊥
 
 -- What such a line writes, and what is told beside it. Where it can't be done, nothing is written, and the fault is told.
 abbrev pub OwnReply : ℕ → WithShelf → Option Colon → Option (List ℕ) → List ℕ → List ℕ → WithShelf → Type 0

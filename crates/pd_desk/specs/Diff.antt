@@ -1,6 +1,5 @@
 -- What of a text isn't in another, line by line.
 use Rattle.std.specs.Prelude.{ℕ, Bool, true, false, List, [], ◌∷◌, ◌++◌, bytes_eq, if◌then◌else◌}
-use Rattle.std.specs.List.{flat_map}
 use Rattle.std.specs.Str.Lines.{lines}
 
 abbrev pub has_line : List (List ℕ) → List ℕ → Bool

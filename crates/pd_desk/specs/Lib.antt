@@ -2,11 +2,13 @@ pub mod Bytes
 pub mod Desk
 pub mod Ends
 pub mod Help
+pub mod History
 pub mod Laws
 pub mod Live
 pub mod OwnFaults
 pub mod Reasons
 pub mod Shelf
+pub mod Standings
 pub mod Taking
 pub mod Commands
 pub mod Diff

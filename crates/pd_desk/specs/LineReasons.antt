@@ -1,9 +1,10 @@
 -- Why a line of a session is refused, for a reader at the keyboard: docs/FORMATS.md, "Reasons", without the place of the line.
-use Rattle.std.specs.Prelude.{ℕ, nat_lt, List, [], length, codes, Result, Ok, Err, if◌then◌else◌}
+use Rattle.std.specs.Prelude.{ℕ, nat_lt, List, [], ◌∷◌, ◌++◌, length, codes, Option, Some, None, Result, Ok, Err, if◌then◌else◌}
 use Rattle.std.specs.List.{flat_map}
 use Rattle.pd_scenario.specs.Scenarios.{ScenarioData}
 use Rattle.pd_scenario.specs.Limits.{is_port}
 use Rattle.pd_edit_lines.specs.Grammar.{line_of}
+use Rattle.pd_edit_lines.specs.Words.{words}
 use Rattle.pd_edit_lines.specs.declared.fault.EditFault.{EditFault}
 use Rattle.pd_edit_lines.specs.declared.edit.Edit.{Edit}
 use Rattle.pd_edit_lines.specs.declared.line.Line.{Line}
@@ -17,6 +18,7 @@ use Rattle.pd_explain.specs.Places.{reasons}
 use Rattle.pd_explain.specs.Lines.{place_line, syntax_line}
 use Rattle.pd_text.specs.declared.piece.Form.TheVariants.{Words}
 use Rattle.pd_text.specs.Fronts.{FrontData, front_of_file}
+use Rattle.pd_desk.specs.Commands.{meant}
 
 -- nothing stands before a sentence: its line was written just before
 unfoldable pub bare : FrontData
@@ -32,10 +34,19 @@ abbrev pub show_reasons : ℕ → ScenarioData → Show → List ℕ
 show_reasons n c (Transcript port) = if is_port n port then [] else place_line bare n c (place.Port port)
 show_reasons n c _ = []
 
+-- a command of the desk's own that is meant, or else the word at which the line stops
+abbrev pub meant_or_stops : List ℕ → Option (List ℕ) → List ℕ
+meant_or_stops line (Some command) = codes "did you mean " ++ (command ++ codes "?\n")
+meant_or_stops line None = syntax_line bare line
+
+abbrev pub meant_first : List (List ℕ) → Option (List ℕ)
+meant_first [] = None
+meant_first (word ∷ more) = meant word
+
 -- of a longer line the end isn't kept
 unfoldable pub no_line_text : List ℕ → List ℕ
 no_line_text line =
-    if nat_lt 256 (length line) then codes "the line has more than 256 bytes\n" else syntax_line bare line
+    if nat_lt 256 (length line) then codes "the line has more than 256 bytes\n" else meant_or_stops line (meant_first (words line))
 
 abbrev pub reasons_of : ℕ → ScenarioData → List ℕ → Result Line EditFault → List ℕ
 reasons_of n c line (Ok line_read.Skip) = []

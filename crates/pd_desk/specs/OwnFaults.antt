@@ -1,12 +1,16 @@
 -- What is said where a line of the desk's own did nothing.
-use Rattle.std.specs.Prelude.{ℕ, List, codes}
+use Rattle.std.specs.Prelude.{ℕ, List, ◌++◌, codes, decimal}
 use Rattle.pd_desk.specs.declared.own.OwnFault.{OwnFault}
 use Rattle.pd_desk.specs.declared.own.OwnFault.TheVariants as own_faults
 
 abbrev pub own_sentence : OwnFault → List ℕ
-own_sentence own_faults.Unknown = codes "the desk's own lines are :help, :list, :undo, :diff, :save FILE and :why PORT [AT]\n"
+own_sentence own_faults.Unknown =
+    codes "the desk's own lines are :list, :undo, :redo, :diff, :why, :save, :save-edits and :quit; :help tells of them\n"
 own_sentence own_faults.NoEdit = codes "no accepted edit is left to take back\n"
+own_sentence (own_faults.FewEdits left) = codes "fewer edits can be taken back: " ++ decimal left ++ codes "\n"
+own_sentence own_faults.NoRedo = codes "no edit that was taken back is left to make again\n"
 own_sentence own_faults.NoSuchPort = codes "no port has this number\n"
 own_sentence own_faults.Differs = codes "not saved: the text would read as another scenario\n"
+own_sentence own_faults.Stands = codes "not saved: the file is there; :save! or :save-edits! writes it anew\n"
 own_sentence own_faults.NotSaved = codes "not saved: the file can't be written\n"
 own_sentence own_faults.Memory = codes "there was no memory for it\n"

@@ -1,6 +1,8 @@
 -- What is put on a shelf.
-use Rattle.std.specs.Prelude.{◌≡◌, ℕ, List, [], ◌∷◌, ◌++◌, Option, Some, None}
+use Rattle.std.specs.Prelude.{◌≡◌, ◌≢◌, ℕ, Bool, false, List, [], ◌∷◌, ◌++◌, All, Any, Option, Some, None, Result, Ok, Err}
 use Rattle.pd_device.specs.Device.{one_more}
+use Rattle.pd_desk.specs.declared.shelf.ShelfFault.{ShelfFault}
+use Rattle.pd_desk.specs.declared.shelf.ShelfFault.TheVariants.{Stands, Failed}
 
 -- what is known of a shelf: the names and texts that were put there, where it tells them, and how often that failed
 pub record Shelved : Type 0 where
@@ -24,3 +26,18 @@ IsPut shelf shelf' name text = Puts shelf.kept shelf'.kept name text × (shelf'.
 -- it couldn't be put there, which is counted
 abbrev pub IsNotPut : Shelved → Shelved → Type 0
 IsNotPut shelf shelf' = (shelf'.kept ≡ shelf.kept) × (shelf'.failures ≡ one_more shelf.failures)
+
+-- nothing stands there under this name
+abbrev pub IsFree : Option (List (List ℕ × List ℕ)) → List ℕ → Type 0
+IsFree None name = Unit {0}
+IsFree (Some kept) name = All (λ (put : List ℕ × List ℕ). put.0 ≢ name) kept
+
+abbrev pub IsTaken : Option (List (List ℕ × List ℕ)) → List ℕ → Type 0
+IsTaken None name = Unit {0}
+IsTaken (Some kept) name = Any (λ (put : List ℕ × List ℕ). put.0 ≡ name) kept
+
+-- how putting a text there ended: what stands there is replaced only where it is to be
+abbrev pub Ended : Shelved → Shelved → List ℕ → List ℕ → Bool → Result (Unit {0}) ShelfFault → Type 0
+Ended shelf shelf' name text is_over (Ok done) = IsPut shelf shelf' name text × (is_over ≡ false → IsFree shelf.kept name)
+Ended shelf shelf' name text is_over (Err Stands) = (is_over ≡ false) × IsTaken shelf.kept name × (shelf' ≡ shelf)
+Ended shelf shelf' name text is_over (Err Failed) = IsNotPut shelf shelf'

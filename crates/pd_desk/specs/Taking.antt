@@ -1,5 +1,5 @@
 -- How lines are taken from a reader, and answered.
-use Rattle.std.specs.Prelude.{◌≡◌, ℕ, ◌+◌, ◌≤◌, Bool, true, false, List, [], ◌∷◌, ◌++◌, length, map, All, Option}
+use Rattle.std.specs.Prelude.{◌≡◌, ◌⊎◌, ℕ, ◌+◌, ◌≤◌, Bool, true, false, List, [], ◌∷◌, ◌++◌, length, map, All, Option}
 use Rattle.std.specs.Str.Lines.{strip_carriage_return}
 use Rattle.std.specs.Io.KnownBytes.{Appends, Consumes, IsAtEnd}
 use Rattle.pd_scenario.specs.Scenarios.{ScenarioData}
@@ -9,8 +9,9 @@ use Rattle.pd_device.specs.declared.fault.BenchFault.TheVariants.{ReadFailed, Wr
 use Rattle.pd_bench.specs.Pending.{IsPending}
 use Rattle.pd_bench.specs.Session.{done_text}
 use Rattle.pd_bench.specs.Traces.{HasNoLineFeed, ended}
+use Rattle.pd_desk.specs.Commands.{is_quit}
 use Rattle.pd_desk.specs.Desk.{DeskReplies, WithShelf, at_first}
-use Rattle.pd_desk.specs.Ends.{Beside, GoOut}
+use Rattle.pd_desk.specs.Ends.{Beside, GoesOn, GoOut}
 use Rattle.pd_desk.specs.Shelf.{Shelved}
 
 -- The bytes of a line were read, and no line feed. What is kept stands for them.
@@ -40,6 +41,11 @@ abbrev pub Took : Bool → Option (List ℕ) → Option (List ℕ) → ℕ → �
 Took true left left' total total' kept = TookLine left left' total total' kept
 Took false left left' total total' kept = TookLast left left' total total' kept
 
+-- No more is read: at the end, or behind the line that ends the session.
+abbrev pub TookEnd : Option (List ℕ) → Option (List ℕ) → ℕ → ℕ → List ℕ → Type 0
+TookEnd left left' total total' kept =
+    TookLast left left' total total' kept ⊎ (TookLine left left' total total' kept × (is_quit kept ≡ true))
+
 -- how many bytes were read where reading ends so
 abbrev pub StopsAt : BenchFault → ℕ → Type 0
 StopsAt ReadFailed total = total ≤ 16777216
@@ -47,11 +53,12 @@ StopsAt WriteFailed total = ⊥
 StopsAt Memory total = ⊥
 StopsAt ReaderTooLong total = total ≡ 16777217
 
--- some ended lines were read, and their replies written
+-- some ended lines were read, none of which ends the session, and their replies written
 pub record Answering (n : ℕ) (left left' taken taken' : Option (List ℕ)) (w w' : Beside) (shelf : Shelved) (s : ScenarioData)
     (after : WithShelf) (total : ℕ) : Type 0 where
   pub whole : List (List ℕ)
   pub are_whole : All HasNoLineFeed whole
+  pub go_on : All GoesOn (map strip_carriage_return whole)
   pub consumes : Consumes left left' (ended whole)
   pub counts : total ≡ length (ended whole)
   pub out : List ℕ
@@ -60,16 +67,16 @@ pub record Answering (n : ℕ) (left left' taken taken' : Option (List ℕ)) (w 
   pub tells : GoOut tolds w w'
   pub are_replies : DeskReplies n (at_first s shelf) (map strip_carriage_return whole) out tolds after
 
--- all was read, and all answered but the last bytes, where no line feed ends them
+-- all that is to be read was, and all answered but the last line
 pub record AnsweredEnded (n : ℕ) (left left' taken taken' : Option (List ℕ)) (w w' : Beside) (shelf : Shelved) (s : ScenarioData)
     (after : WithShelf) (kept : List ℕ) : Type 0 where
   pub between : Option (List ℕ)
   pub total : ℕ
   pub total' : ℕ
   pub answering : Answering n left between taken taken' w w' shelf s after total
-  pub took : TookLast between left' total total' kept
+  pub took : TookEnd between left' total total' kept
 
--- the lines of the last bytes, where no line feed ends them
+-- the last line, where there is one
 abbrev pub last_line : List ℕ → List (List ℕ)
 last_line [] = []
 last_line (byte ∷ more) = (byte ∷ more) ∷ []

@@ -8,13 +8,14 @@ ghost use Rattle.pd_desk.specs.LineReasons.{reasons_text};
 ghost use Rattle.pd_edit_lines.specs.Numbers.{number_of};
 ghost use Rattle.pd_bench.specs.Session.{answered, refused_text};
 ghost use Rattle.pd_bench.specs.Stream.{IsRunning};
-ghost use Rattle.pd_desk.specs.Desk.{DeskReply, OwnReply, TellsWhyNot, ToldReply, standing, with_shelf};
+ghost use Rattle.pd_desk.specs.Desk.{DeskReply, OwnReply, TellsWhyNot, ToldReply, with_shelf};
+ghost use Rattle.pd_desk.specs.Standings.{standing_of};
 ghost use Rattle.pd_desk.specs.Ends.{GoesOut, ToldAfter, beside};
 
 use crate::desk::{Desk, answer_session};
 use crate::own::own_text;
 use crate::{Outlets, Shelf, is_colon, push_reasons, tell_reason};
-use pd_device::{BenchFault, TextOut, write_all};
+use pd_device::{BenchFault, TextOut, write_all, write_text};
 use pd_edit_lines::EditFault;
 use pd_port::Meter;
 use pd_run::Runner;
@@ -53,8 +54,8 @@ fn answer_told<const N: usize, T: Runner<N>, W: TextOut, E: TextOut, S: Shelf>(
     requires runs { IsRunning (T.plan runner.old) (T.entries runner.old) desk.old.state.scenario }
     requires room { answered desk.old.state.tally + 1 < 2 ^ 32 }
     ensures reply { (reply : List ℕ) × (told : List ℕ)
-        × ToldReply N (standing desk.old.state.scenario desk.old.earlier.items desk.old.state.tally) line.now reply told
-        (standing desk.new.state.scenario desk.new.earlier.items desk.new.state.tally)
+        × ToldReply N (standing_of desk.old) line.now reply told
+        (standing_of desk.new)
         × Writes (W.taken outlets.old.answers) (W.taken outlets.new.answers) result reply
         × ToldAfter result told (beside (E.taken outlets.old.reasons) (E.failures outlets.old.reasons))
         (beside (E.taken outlets.new.reasons) (E.failures outlets.new.reasons)) }
@@ -86,9 +87,9 @@ fn answer_own<const N: usize, T: Runner<N>, W: TextOut, E: TextOut, S: Shelf>(
     requires runs { IsRunning (T.plan runner.old) (T.entries runner.old) desk.old.state.scenario }
     ensures reply { (reply : List ℕ) × (told : List ℕ)
         × OwnReply N
-        (with_shelf (standing desk.old.state.scenario desk.old.earlier.items desk.old.state.tally) (S.known outlets.old.shelf))
+        (with_shelf (standing_of desk.old) (S.known outlets.old.shelf))
         (colon_of line.now) (second (words line.now)) reply told
-        (with_shelf (standing desk.new.state.scenario desk.new.earlier.items desk.new.state.tally) (S.known outlets.new.shelf))
+        (with_shelf (standing_of desk.new) (S.known outlets.new.shelf))
         × Writes (W.taken outlets.old.answers) (W.taken outlets.new.answers) result reply
         × ToldAfter result told (beside (E.taken outlets.old.reasons) (E.failures outlets.old.reasons))
         (beside (E.taken outlets.new.reasons) (E.failures outlets.new.reasons)) }
@@ -99,7 +100,7 @@ fn answer_own<const N: usize, T: Runner<N>, W: TextOut, E: TextOut, S: Shelf>(
     match own_text(alloc, line, desk, runner, &mut outlets.shelf, meter) {
         Ok(text) => write_all(&mut outlets.answers, text.as_slice()),
         Err(fault) => {
-            let _ = write_all(&mut outlets.reasons, fault.sentence());
+            let _ = write_text(&mut outlets.reasons, &fault.sentence());
             Ok(())
         }
     }
@@ -118,9 +119,9 @@ pub(crate) fn answer_desk<const N: usize, T: Runner<N>, W: TextOut, E: TextOut, 
     requires room { answered desk.old.state.tally + 1 < 2 ^ 32 }
     ensures reply { (reply : List ℕ) × (told : List ℕ)
         × DeskReply N
-        (with_shelf (standing desk.old.state.scenario desk.old.earlier.items desk.old.state.tally) (S.known outlets.old.shelf))
+        (with_shelf (standing_of desk.old) (S.known outlets.old.shelf))
         line.now reply told
-        (with_shelf (standing desk.new.state.scenario desk.new.earlier.items desk.new.state.tally) (S.known outlets.new.shelf))
+        (with_shelf (standing_of desk.new) (S.known outlets.new.shelf))
         × Writes (W.taken outlets.old.answers) (W.taken outlets.new.answers) result reply
         × ToldAfter result told (beside (E.taken outlets.old.reasons) (E.failures outlets.old.reasons))
         (beside (E.taken outlets.new.reasons) (E.failures outlets.new.reasons)) }

@@ -2,12 +2,23 @@
 
 ghost use Rattle.std.specs.Prelude.{◌≡◌, option_map};
 ghost use Rattle.pd_edit_lines.specs.Words.{words};
-ghost use Rattle.pd_desk.specs.Commands.{alone, asked, asked_by, colon_of, is_colon, save_of, second, why_of};
+ghost use Rattle.pd_desk.specs.Commands.{alone, asked, asked_by, asked_save, colon_of, diff_of, is_colon, is_quit, meant, save_of, second};
+ghost use Rattle.pd_desk.specs.Commands.{undo_of, why_of};
 
 use pd_edit_lines::{next, number};
+use pd_units::{Unit, number_in};
 
 /// The most bytes of a line.
 const LONGEST_LINE: usize = 256;
+
+/// What a line has written to a file.
+#[derive(Clone, Copy, Debug, PartialEq, Eq)]
+pub enum Saved {
+    /// The scenario that stands.
+    Scenario,
+    /// The accepted edits that led to it, as an edit script.
+    Edits,
+}
 
 /// What a line of the desk's own asks for.
 #[derive(Clone, Copy, Debug, PartialEq, Eq)]
@@ -16,14 +27,20 @@ pub enum Colon {
     Help,
     /// The scenario as edit lines.
     Listing,
-    /// Takes back the last accepted edit.
-    Undo,
+    /// Takes back the last accepted edit, and then so many before it.
+    Undo { before: u64 },
+    /// Makes the edit again that was taken back last.
+    Redo,
     /// What the last accepted edit changed.
     Diff,
-    /// Writes the scenario to a file, which the line names.
-    Save,
+    /// What all accepted edits changed since the start.
+    DiffAll,
+    /// Writes a file, which the line names, where none is there; or in the place of one that is.
+    Save { what: Saved, is_over: bool },
     /// What bounds a port: each offer up to a time in microseconds, or the last one.
     Why { port: u64, to: Option<u64> },
+    /// Ends the session.
+    Quit,
 }
 
 /// Whether a line is the desk's own.
@@ -33,6 +50,19 @@ pub fn is_colon(line: &[u8]) -> bool
     match line {
         [] => false,
         [byte, ..] => *byte == b':',
+    }
+}
+
+/// Whether a line ends the session.
+pub(crate) fn is_quit(line: &[u8]) -> bool
+    ensures { result ≡ is_quit line.now }
+{
+    if !is_colon(line) {
+        return false;
+    }
+    match Colon::read(line) {
+        Some(Colon::Quit) => true,
+        _ => false,
     }
 }
 
@@ -46,12 +76,42 @@ fn alone(colon: Colon, rest: &[u8]) -> Option<Colon>
     }
 }
 
-/// `:save`, by the words behind it.
-fn save_of(rest: &[u8]) -> Option<Colon>
-    ensures { result ≡ save_of (words rest.now) }
+/// `:save` and the others that write a file, by the words behind it.
+fn save_of(what: Saved, is_over: bool, rest: &[u8]) -> Option<Colon>
+    ensures { result ≡ save_of what is_over (words rest.now) }
 {
     let (_, rest) = next(rest)?;
-    alone(Colon::Save, rest)
+    alone(Colon::Save { what, is_over }, rest)
+}
+
+/// `:undo`, by the words behind it.
+fn undo_of(rest: &[u8]) -> Option<Colon>
+    ensures { result ≡ undo_of (words rest.now) }
+{
+    let Some((count, rest)) = next(rest) else {
+        return Some(Colon::Undo { before: 0 });
+    };
+    if next(rest).is_some() {
+        return None;
+    }
+    let count = number(count)?;
+    if count == 0 {
+        return None;
+    }
+    Some(Colon::Undo { before: count - 1 })
+}
+
+/// `:diff`, by the words behind it.
+fn diff_of(rest: &[u8]) -> Option<Colon>
+    ensures { result ≡ diff_of (words rest.now) }
+{
+    let Some((word, rest)) = next(rest) else {
+        return Some(Colon::Diff);
+    };
+    if next(rest).is_some() || word != b"all".as_slice() {
+        return None;
+    }
+    Some(Colon::DiffAll)
 }
 
 /// `:why`, by the words behind it.
@@ -67,8 +127,28 @@ fn why_of(rest: &[u8]) -> Option<Colon>
         return None;
     }
     let port = number(port)?;
-    let to = number(at)?;
+    let to = number_in(Unit::Microseconds, at)?;
     Some(Colon::Why { port, to: Some(to) })
+}
+
+/// What a word asks for that has a file written, by the words behind it.
+#[tactic(auto, unfolding(crate::specs::Commands::asked_save))]
+fn asked_save(word: &[u8], rest: &[u8]) -> Option<Colon>
+    ensures { result ≡ asked_save word.now (words rest.now) }
+{
+    if word == b":save".as_slice() {
+        return save_of(Saved::Scenario, false, rest);
+    }
+    if word == b":save!".as_slice() {
+        return save_of(Saved::Scenario, true, rest);
+    }
+    if word == b":save-edits".as_slice() {
+        return save_of(Saved::Edits, false, rest);
+    }
+    if word == b":save-edits!".as_slice() {
+        return save_of(Saved::Edits, true, rest);
+    }
+    None
 }
 
 /// What a word with a colon asks for, by the words behind it.
@@ -83,18 +163,21 @@ fn asked(word: &[u8], rest: &[u8]) -> Option<Colon>
         return alone(Colon::Listing, rest);
     }
     if word == b":undo".as_slice() {
-        return alone(Colon::Undo, rest);
+        return undo_of(rest);
+    }
+    if word == b":redo".as_slice() {
+        return alone(Colon::Redo, rest);
     }
     if word == b":diff".as_slice() {
-        return alone(Colon::Diff, rest);
-    }
-    if word == b":save".as_slice() {
-        return save_of(rest);
+        return diff_of(rest);
     }
     if word == b":why".as_slice() {
         return why_of(rest);
     }
-    None
+    if word == b":quit".as_slice() {
+        return alone(Colon::Quit, rest);
+    }
+    asked_save(word, rest)
 }
 
 /// What the words of a line ask for.
@@ -124,4 +207,36 @@ pub fn file_of(line: &[u8]) -> Option<&[u8]>
     let (_, rest) = next(line)?;
     let (file, _) = next(rest)?;
     Some(file)
+}
+
+/// The command that is meant by a word without a colon, as `quit`, where one is.
+#[tactic(auto, unfolding(crate::specs::Commands::meant))]
+pub(crate) fn meant(word: &[u8]) -> Option<&'static [u8]>
+    ensures { option_map (λ x. x.now) result ≡ meant word.now }
+{
+    if word == b"quit".as_slice() || word == b"exit".as_slice() {
+        return Some(b":quit");
+    }
+    if word == b"help".as_slice() || word == b"?".as_slice() {
+        return Some(b":help");
+    }
+    if word == b"list".as_slice() {
+        return Some(b":list");
+    }
+    if word == b"undo".as_slice() {
+        return Some(b":undo");
+    }
+    if word == b"redo".as_slice() {
+        return Some(b":redo");
+    }
+    if word == b"diff".as_slice() {
+        return Some(b":diff");
+    }
+    if word == b"why".as_slice() {
+        return Some(b":why");
+    }
+    if word == b"save".as_slice() {
+        return Some(b":save FILE");
+    }
+    None
 }

@@ -1,6 +1,6 @@
 //! What a desk has come to, and its answers to the lines of sessions.
 
-ghost use Rattle.std.specs.Prelude.{◌≡◌, ◌+◌, ◌<◌, ◌≤◌, ◌^◌, List, ℕ, Ok, Some, IfOk, vec_len, vec_capacity};
+ghost use Rattle.std.specs.Prelude.{◌≡◌, ◌+◌, ◌<◌, ◌≤◌, ◌^◌, List, ℕ, Ok, Some, IfOk, OnOk, OnErr};
 ghost use Rattle.pd_edit_lines.specs.Grammar.{line_of};
 ghost use Rattle.pd_edit_lines.specs.declared.line.Line.TheVariants as lines_read;
 ghost use Rattle.pd_edit.specs.Refusals.{edited};
@@ -11,8 +11,10 @@ ghost use Rattle.pd_bench.specs.declared.tally.Outcome.{Outcome as OutcomeData};
 ghost use Rattle.pd_bench.specs.declared.tally.Outcome.TheVariants as outcomes;
 ghost use Rattle.pd_bench.specs.Session.{answered, counted, refused_text};
 ghost use Rattle.pd_bench.specs.Stream.{IsRunning};
-ghost use Rattle.pd_desk.specs.Desk.{Becomes, IsFaultOf, standing, with_last};
+ghost use Rattle.pd_desk.specs.Desk.{Becomes, IsFaultOf, KeepsNotes, TakesNote};
+ghost use Rattle.pd_desk.specs.Standings.{standing_of};
 
+use crate::notes::{NotedLine, Notes, Step};
 use pd_bench::{Outcome, State, answer_line, refuse};
 use pd_device::{BenchFault, TextOut, write_all};
 use pd_edit::apply;
@@ -20,29 +22,60 @@ use pd_edit_lines::{Edit, EditFault, Line};
 use pd_port::Meter;
 use pd_run::Runner;
 use pd_scenario::Scenario;
-use std::alloc::Global;
+use std::alloc::{AllocError, Global};
 use std::mem;
 
-/// How many edits can be taken back.
-const MOST_EARLIER: usize = 100;
-
-/// What a desk has come to: the scenario and the counts, and the scenarios that stood before the last accepted edits, the
-/// latest last.
+/// What a desk has come to.
 #[derive(Drop)]
 pub(crate) struct Desk<const N: usize> {
+    /// The scenario that stands, and the counts.
     pub state: State<N>,
-    pub earlier: Vec<Scenario<N>>,
+    /// The scenario that stood first.
+    pub first: Scenario<N>,
+    /// How many edits were accepted up to the one that led to the scenario that stands.
+    pub number: u32,
+    /// The same of the scenario that was saved last.
+    pub saved: u32,
+    pub notes: Notes<N>,
 }
 
-/// Keeps a scenario, for which there is room, so that it can stand again. Of those before it the last 99 are left.
-fn remember<const N: usize>(earlier: &mut Vec<Scenario<N>>, before: Scenario<N>)
-    requires { vec_len earlier.old < vec_capacity earlier.old }
-    ensures { earlier.new.items ≡ with_last earlier.old.items before.entry }
+/// Stands for an edited scenario from now on, and has noted the line of the edit.
+///
+/// # Errors
+/// There is no memory for it; all is as it was.
+fn make<const N: usize, T: Runner<N>>(
+    alloc: Global,
+    line: &[u8],
+    edited: Scenario<N>,
+    desk: &mut Desk<N>,
+    runner: &mut T,
+    meter: &mut Meter,
+) -> Result<(), AllocError>
+    requires runs { IsRunning (T.plan runner.old) (T.entries runner.old) desk.old.state.scenario }
+    requires room { answered desk.old.state.tally + 1 < 2 ^ 32 }
+    ensures made { OnOk result (desk.new.state.scenario ≡ edited.entry) }
+    ensures counted { OnOk result (desk.new.state.tally ≡ counted desk.old.state.tally outcomes.Accepted) }
+    ensures noted { OnOk result (TakesNote outcomes.Accepted (standing_of desk.old) line.now (standing_of desk.new)) }
+    ensures same_scenario { OnErr result (desk.new.state.scenario ≡ desk.old.state.scenario) }
+    ensures same_tally { OnErr result (desk.new.state.tally ≡ desk.old.state.tally) }
+    ensures same_notes { OnErr result (KeepsNotes (standing_of desk.old) (standing_of desk.new)) }
+    ensures runs { IsRunning (T.plan runner.new) (T.entries runner.new) desk.new.state.scenario }
+    ensures room { answered desk.new.state.tally ≤ answered desk.old.state.tally + 1 }
 {
-    if earlier.len() >= MOST_EARLIER {
-        let _ = earlier.remove(0);
-    }
-    earlier.push_reserved(before);
+    let line = NotedLine::of(alloc, line)?;
+    desk.notes.reserve()?;
+    runner.replace(alloc, &edited, meter)?;
+    let scenario = mem::replace(&mut desk.state.scenario, edited);
+    let number = desk.number;
+    desk.notes.note(Step {
+        scenario,
+        number,
+        line,
+    });
+    desk.notes.later.clear();
+    desk.state.tally.count(Outcome::Accepted);
+    desk.number = desk.state.tally.edits;
+    Ok(())
 }
 
 /// Refuses a line.
@@ -56,7 +89,7 @@ fn refuse_line<const N: usize, W: TextOut>(
     ensures counts { CountsFailure (W.failures writer.old) (W.failures writer.new) result }
     ensures fault { IfOk result (λ told. told ≡ Some fault) }
     ensures same { desk.new.state.scenario ≡ desk.old.state.scenario }
-    ensures earlier { desk.new.earlier.items ≡ desk.old.earlier.items }
+    ensures notes { KeepsNotes (standing_of desk.old) (standing_of desk.new) }
     ensures counted { desk.new.state.tally ≡ counted desk.old.state.tally outcomes.Refused }
     ensures room { answered desk.new.state.tally ≤ answered desk.old.state.tally + 1 }
 {
@@ -64,10 +97,10 @@ fn refuse_line<const N: usize, W: TextOut>(
     Ok(Some(fault))
 }
 
-/// Answers an edit, and keeps the scenario before it; without room for that it isn't made. Answers why it is refused, where
-/// it is.
+/// Answers an edit, and notes it; without room for that it isn't made. Answers why it is refused, where it is.
 fn change<const N: usize, T: Runner<N>, W: TextOut>(
     alloc: Global,
+    line: &[u8],
     edit: &Edit,
     desk: &mut Desk<N>,
     runner: &mut T,
@@ -77,8 +110,7 @@ fn change<const N: usize, T: Runner<N>, W: TextOut>(
     requires runs { IsRunning (T.plan runner.old) (T.entries runner.old) desk.old.state.scenario }
     requires room { answered desk.old.state.tally + 1 < 2 ^ 32 }
     ensures reply { (reply : List ℕ) × (outcome : OutcomeData)
-        × Becomes N (standing desk.old.state.scenario desk.old.earlier.items desk.old.state.tally) (Ok (lines_read.Edit edit.now)) outcome
-        reply (standing desk.new.state.scenario desk.new.earlier.items desk.new.state.tally)
+        × Becomes N (standing_of desk.old) line.now (Ok (lines_read.Edit edit.now)) outcome reply (standing_of desk.new)
         × Writes (W.taken writer.old) (W.taken writer.new) result reply × IfOk result (λ fault. IsFaultOf fault outcome reply) }
     ensures counts { CountsFailure (W.failures writer.old) (W.failures writer.new) result }
     ensures runs { IsRunning (T.plan runner.new) (T.entries runner.new) desk.new.state.scenario }
@@ -88,15 +120,9 @@ fn change<const N: usize, T: Runner<N>, W: TextOut>(
         Ok(edited) => edited,
         Err(fault) => return refuse_line(fault, desk, writer),
     };
-    if desk.earlier.reserve(1).is_err() {
+    if make(alloc, line, edited, desk, runner, meter).is_err() {
         return refuse_line(EditFault::Memory, desk, writer);
     }
-    if runner.replace(alloc, &edited, meter).is_err() {
-        return refuse_line(EditFault::Memory, desk, writer);
-    }
-    let before = mem::replace(&mut desk.state.scenario, edited);
-    remember(&mut desk.earlier, before);
-    desk.state.tally.count(Outcome::Accepted);
     match write_all(writer, b"ok\n") {
         Ok(()) => Ok(None),
         Err(fault) => Err(fault),
@@ -116,8 +142,7 @@ fn show<const N: usize, T: Runner<N>, W: TextOut>(
     requires room { answered desk.old.state.tally + 1 < 2 ^ 32 }
     requires show { (show : Show) × (line_of line.now ≡ Ok (lines_read.Show show)) }
     ensures reply { (reply : List ℕ) × (outcome : OutcomeData)
-        × Becomes N (standing desk.old.state.scenario desk.old.earlier.items desk.old.state.tally) (line_of line.now) outcome reply
-        (standing desk.new.state.scenario desk.new.earlier.items desk.new.state.tally)
+        × Becomes N (standing_of desk.old) line.now (line_of line.now) outcome reply (standing_of desk.new)
         × Writes (W.taken writer.old) (W.taken writer.new) result reply × IfOk result (λ fault. IsFaultOf fault outcome reply) }
     ensures counts { CountsFailure (W.failures writer.old) (W.failures writer.new) result }
     ensures runs { IsRunning (T.plan runner.new) (T.entries runner.new) desk.new.state.scenario }
@@ -143,8 +168,7 @@ pub(crate) fn answer_session<const N: usize, T: Runner<N>, W: TextOut>(
     requires runs { IsRunning (T.plan runner.old) (T.entries runner.old) desk.old.state.scenario }
     requires room { answered desk.old.state.tally + 1 < 2 ^ 32 }
     ensures reply { (reply : List ℕ) × (outcome : OutcomeData)
-        × Becomes N (standing desk.old.state.scenario desk.old.earlier.items desk.old.state.tally) (line_of line.now) outcome reply
-        (standing desk.new.state.scenario desk.new.earlier.items desk.new.state.tally)
+        × Becomes N (standing_of desk.old) line.now (line_of line.now) outcome reply (standing_of desk.new)
         × Writes (W.taken writer.old) (W.taken writer.new) result reply × IfOk result (λ fault. IsFaultOf fault outcome reply) }
     ensures counts { CountsFailure (W.failures writer.old) (W.failures writer.new) result }
     ensures runs { IsRunning (T.plan runner.new) (T.entries runner.new) desk.new.state.scenario }
@@ -152,7 +176,7 @@ pub(crate) fn answer_session<const N: usize, T: Runner<N>, W: TextOut>(
 {
     match Line::read(line) {
         Ok(Line::Skip) => Ok(None),
-        Ok(Line::Edit(edit)) => change(alloc, &edit, desk, runner, writer, meter),
+        Ok(Line::Edit(edit)) => change(alloc, line, &edit, desk, runner, writer, meter),
         Ok(Line::Show(_)) => show(alloc, line, desk, runner, writer, meter),
         Err(fault) => refuse_line(fault, desk, writer),
     }

@@ -7,14 +7,18 @@ use std::alloc::{AllocError, Global};
 
 /// What there is, and what it does.
 const HELP: &[u8] = b"= help
-:list            the scenario as edit lines: settings, cables, sinks, and events by their time
-:undo            takes back the last accepted edit, and says which of these lines that changes;
-                 again and again, for the last 100 edits
-:diff            lines of contracts, faults and margins that the last accepted edit took away (-)
-                 and brought (+)
-:why PORT [AT]   what bounds a port: its last offer, or each one up to a time in microseconds
-:save FILE       writes the scenario to a file, which reads back as the same
-:help            this
+:list              the scenario as edit lines: settings, cables, sinks, and events by their time
+:undo [N]          takes back the last accepted edit, or the last N, and says which of these
+                   lines that changes; again and again, for the last 100 edits
+:redo              makes the edit again that was taken back last, until another one is made
+:diff [all]        lines of contracts, faults and margins that the last accepted edit, or all since
+                   the start, took away (-) and brought (+)
+:why PORT [AT]     what bounds a port: its last offer, or each one up to a time, as 60ms
+:save FILE         writes the scenario to a new file, which reads back as the same
+:save-edits FILE   writes the accepted edits since the start to a new file, an edit script
+:save! FILE        as :save, in the place of a file that is there; :save-edits! FILE too
+:quit              ends the session, as Ctrl-D does
+:help              this
 insert, remove, move, change, cable, sink, caps, floor, budget, end and show are lines of edit scripts
 ";
 

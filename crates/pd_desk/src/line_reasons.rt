@@ -1,14 +1,16 @@
 //! Why a line of a session is refused.
 
-ghost use Rattle.std.specs.Prelude.{◌≡◌, ◌++◌, IfOk, OnOk};
+ghost use Rattle.std.specs.Prelude.{◌≡◌, ◌++◌, codes, option_map, IfOk, OnOk};
 ghost use Rattle.std.specs.List.{flat_map};
 ghost use Rattle.pd_edit.specs.Refusals.{edited};
 ghost use Rattle.pd_explain.specs.Lines.{place_line};
 ghost use Rattle.pd_explain.specs.Places.{reasons};
-ghost use Rattle.pd_desk.specs.LineReasons.{bare, edit_reasons, no_line_text, reasons_text, show_reasons};
+ghost use Rattle.pd_edit_lines.specs.Words.{words};
+ghost use Rattle.pd_desk.specs.LineReasons.{bare, edit_reasons, meant_first, no_line_text, reasons_text, show_reasons};
 
+use crate::colon::meant;
 use pd_edit::apply;
-use pd_edit_lines::{Edit, EditFault, Line, Show};
+use pd_edit_lines::{Edit, EditFault, Line, Show, next};
 use pd_explain::{Place, Reason, is_port, push_place, push_syntax, reasons};
 use pd_scenario::Scenario;
 use pd_text::{Form, Front};
@@ -92,6 +94,24 @@ fn push_show<const N: usize>(
     }
 }
 
+/// The command that the first word of a line means, where it is one without its colon.
+fn meant_first(line: &[u8]) -> Option<&'static [u8]>
+    ensures { option_map (λ x. x.now) result ≡ meant_first (words line.now) }
+{
+    let (word, _) = next(line)?;
+    meant(word)
+}
+
+/// Writes which command is meant.
+fn push_meant(text: &mut Vec<u8>, command: &[u8]) -> Result<(), AllocError>
+    ensures { OnOk result (text.new.items ≡ text.old.items ++ (codes "did you mean " ++ (command.now ++ codes "?\n"))) }
+{
+    text.extend_from_slice(b"did you mean ")?;
+    text.extend_from_slice(command)?;
+    text.extend_from_slice(b"?\n")?;
+    Ok(())
+}
+
 /// Writes why a line is none of an edit script.
 #[tactic(auto, unfolding(crate::specs::LineReasons::no_line_text))]
 fn push_no_line(alloc: Global, text: &mut Vec<u8>, line: &[u8]) -> Result<(), AllocError>
@@ -100,8 +120,13 @@ fn push_no_line(alloc: Global, text: &mut Vec<u8>, line: &[u8]) -> Result<(), Al
     if line.len() > LONGEST_LINE {
         return text.extend_from_slice(b"the line has more than 256 bytes\n");
     }
-    let front = bare(alloc)?;
-    push_syntax(alloc, text, &front, line)
+    match meant_first(line) {
+        Some(command) => push_meant(text, command),
+        None => {
+            let front = bare(alloc)?;
+            push_syntax(alloc, text, &front, line)
+        }
+    }
 }
 
 /// Writes why a line is refused, with the scenario as it stands: a line for each place at which a refusal applies, those of

@@ -3,16 +3,19 @@
 ghost use Rattle.std.specs.Prelude.{◌≡◌, ◌+◌, ◌<◌, ◌≤◌, ◌^◌, [], Err, OnOk, MatchResult};
 ghost use Rattle.pd_device.specs.Device.{CountsFailure};
 ghost use Rattle.pd_device.specs.declared.fault.BenchFault.TheVariants.{WriteFailed as write_failed};
-ghost use Rattle.pd_bench.specs.Session.{CountsFault, answered, no_lines};
+ghost use Rattle.pd_bench.specs.Session.{CountsFault, answered};
 ghost use Rattle.pd_bench.specs.Stream.{IsRunning};
-ghost use Rattle.pd_desk.specs.Desk.{standing, with_shelf};
+ghost use Rattle.pd_desk.specs.Desk.{at_first, with_shelf};
 ghost use Rattle.pd_desk.specs.Ends.{DeskEnds, beside};
+ghost use Rattle.pd_desk.specs.Standings.{standing_of};
 ghost use Rattle.pd_desk.specs.Taking.{AnsweredEnded, FinishedAll, FinishedSome};
 
 use crate::answers::answer_desk;
+use crate::colon::is_quit;
 use crate::desk::Desk;
 use crate::line_in::take_line;
-use crate::{Outlets, Shelf};
+use crate::notes::Notes;
+use crate::{Left, Outlets, Shelf};
 use pd_bench::{Pending, State, Tally, write_done};
 use pd_device::{BenchFault, TextIn, TextOut};
 use pd_port::Meter;
@@ -20,7 +23,7 @@ use pd_run::Runner;
 use pd_scenario::Scenario;
 use std::alloc::Global;
 
-/// Reads to the end, and answers each line that a line feed ends.
+/// Reads to the end, or to the line that ends the session, and answers each line before that which a line feed ends.
 fn answer_ended<const N: usize, T: Runner<N>, R: TextIn, W: TextOut, E: TextOut, S: Shelf>(
     alloc: Global,
     line: &mut Pending,
@@ -32,14 +35,14 @@ fn answer_ended<const N: usize, T: Runner<N>, R: TextIn, W: TextOut, E: TextOut,
 ) -> Result<(), BenchFault>
     requires runs { IsRunning (T.plan runner.old) (T.entries runner.old) desk.old.state.scenario }
     requires empty { line.old ≡ [] }
-    requires first { desk.old.earlier.items ≡ [] }
-    requires none { desk.old.state.tally ≡ no_lines }
+    requires first { with_shelf (standing_of desk.old) (S.known outlets.old.shelf)
+        ≡ at_first desk.old.state.scenario (S.known outlets.old.shelf) }
     ensures text { MatchResult result
         (λ _. AnsweredEnded N (R.left reader.old) (R.left reader.new) (W.taken outlets.old.answers) (W.taken outlets.new.answers)
         (beside (E.taken outlets.old.reasons) (E.failures outlets.old.reasons))
         (beside (E.taken outlets.new.reasons) (E.failures outlets.new.reasons)) (S.known outlets.old.shelf)
         desk.old.state.scenario
-        (with_shelf (standing desk.new.state.scenario desk.new.earlier.items desk.new.state.tally) (S.known outlets.new.shelf)) line.new)
+        (with_shelf (standing_of desk.new) (S.known outlets.new.shelf)) line.new)
         (λ fault. DeskEnds N (Err fault) (R.left reader.old) (R.left reader.new) (W.taken outlets.old.answers)
         (W.taken outlets.new.answers) (beside (E.taken outlets.old.reasons) (E.failures outlets.old.reasons))
         (beside (E.taken outlets.new.reasons) (E.failures outlets.new.reasons)) (S.known outlets.old.shelf)
@@ -51,13 +54,16 @@ fn answer_ended<const N: usize, T: Runner<N>, R: TextIn, W: TextOut, E: TextOut,
 {
     let mut total = 0usize;
     while take_line(reader, line, &mut total)? {
+        if is_quit(line.as_slice()) {
+            return Ok(());
+        }
         answer_desk(alloc, line.as_slice(), desk, runner, outlets, meter)?;
         line.clear();
     }
     Ok(())
 }
 
-/// Answers a last line that no line feed ends, and writes the counts.
+/// Answers the last line, where there is one, and writes the counts.
 fn finish<const N: usize, T: Runner<N>, W: TextOut, E: TextOut, S: Shelf>(
     alloc: Global,
     line: &[u8],
@@ -72,14 +78,14 @@ fn finish<const N: usize, T: Runner<N>, W: TextOut, E: TextOut, S: Shelf>(
         (λ _. FinishedAll N (W.taken outlets.old.answers) (W.taken outlets.new.answers)
         (beside (E.taken outlets.old.reasons) (E.failures outlets.old.reasons))
         (beside (E.taken outlets.new.reasons) (E.failures outlets.new.reasons))
-        (with_shelf (standing desk.old.state.scenario desk.old.earlier.items desk.old.state.tally) (S.known outlets.old.shelf))
+        (with_shelf (standing_of desk.old) (S.known outlets.old.shelf))
         line.now
-        (with_shelf (standing desk.new.state.scenario desk.new.earlier.items desk.new.state.tally) (S.known outlets.new.shelf)))
+        (with_shelf (standing_of desk.new) (S.known outlets.new.shelf)))
         (λ fault. (fault ≡ write_failed)
         × FinishedSome N (W.taken outlets.old.answers) (W.taken outlets.new.answers)
         (beside (E.taken outlets.old.reasons) (E.failures outlets.old.reasons))
         (beside (E.taken outlets.new.reasons) (E.failures outlets.new.reasons))
-        (with_shelf (standing desk.old.state.scenario desk.old.earlier.items desk.old.state.tally) (S.known outlets.old.shelf))
+        (with_shelf (standing_of desk.old) (S.known outlets.old.shelf))
         line.now (S.known outlets.new.shelf)) }
     ensures counts { CountsFailure (W.failures outlets.old.answers) (W.failures outlets.new.answers) result }
 {
@@ -90,25 +96,20 @@ fn finish<const N: usize, T: Runner<N>, W: TextOut, E: TextOut, S: Shelf>(
     write_done(desk.state.tally, &mut outlets.answers)
 }
 
-/// Answers the lines of the reader, the desk's own too, and counts the others.
+/// Answers the lines of the reader, the desk's own too, and counts the others. The first scenario is handed in twice.
 ///
 /// # Errors
 /// As `session` of pd_bench.
-pub(crate) fn desk_session<
-    const N: usize,
-    T: Runner<N>,
-    R: TextIn,
-    W: TextOut,
-    E: TextOut,
-    S: Shelf,
->(
+pub fn desk_session<const N: usize, T: Runner<N>, R: TextIn, W: TextOut, E: TextOut, S: Shelf>(
     alloc: Global,
+    first: Scenario<N>,
     scenario: Scenario<N>,
     runner: &mut T,
     reader: &mut R,
     outlets: &mut Outlets<W, E, S>,
     meter: &mut Meter,
-) -> Result<Tally, BenchFault>
+) -> Result<Left, BenchFault>
+    requires { first ≡ scenario }
     ensures text { DeskEnds N result (R.left reader.old) (R.left reader.new) (W.taken outlets.old.answers)
         (W.taken outlets.new.answers) (beside (E.taken outlets.old.reasons) (E.failures outlets.old.reasons))
         (beside (E.taken outlets.new.reasons) (E.failures outlets.new.reasons)) (S.known outlets.old.shelf)
@@ -124,10 +125,16 @@ pub(crate) fn desk_session<
             scenario,
             tally: Tally::new(),
         },
-        earlier: Vec::new(alloc),
+        first,
+        number: 0,
+        saved: 0,
+        notes: Notes::new(alloc),
     };
     let mut line = Pending::new();
     answer_ended(alloc, &mut line, &mut desk, runner, reader, outlets, meter)?;
     finish(alloc, line.as_slice(), &mut desk, runner, outlets, meter)?;
-    Ok(desk.state.tally)
+    Ok(Left {
+        tally: desk.state.tally,
+        is_saved: desk.number == desk.saved,
+    })
 }

@@ -1,24 +1,25 @@
 //! Answers to the desk's own lines.
 
-ghost use Rattle.std.specs.Prelude.{◌≡◌, ◌++◌, codes, List, [], ℕ, IfOk, IfErr, OnOk, OnErr, MatchResult, Ok, Some};
+ghost use Rattle.std.specs.Prelude.{◌≡◌, ◌⊎◌, ◌++◌, [], codes, IfOk, IfErr, MatchResult};
 ghost use Rattle.pd_edit_lines.specs.Words.{words};
 ghost use Rattle.pd_scenario.specs.Plans.{plan_of};
-ghost use Rattle.pd_scenario_text.specs.Reading.{Reads};
-ghost use Rattle.pd_save.specs.Files.{file_text};
+ghost use Rattle.pd_save.specs.Files.{ReadsOtherwise, file_text};
 ghost use Rattle.pd_bench.specs.Stream.{IsRunning};
 ghost use Rattle.pd_desk.specs.Commands.{colon_of, second};
-ghost use Rattle.pd_save.specs.EditLines.{Lists};
-ghost use Rattle.pd_desk.specs.Diff.{diff_text};
 ghost use Rattle.pd_text.specs.declared.piece.Form.TheVariants.{Words};
 ghost use Rattle.pd_why.specs.Answers.{TellsWhy};
-ghost use Rattle.pd_desk.specs.Desk.{Fails, FailsEdit, FailsSave, FailsWhy, Tells, TellsChanges, Undoes, saved_text, standing, with_shelf};
+ghost use Rattle.pd_desk.specs.Desk.{Fails, FailsEdit, FailsSave, FailsWhy, ReadsBack, Saves, Tells, TellsAll, TellsChanges};
+ghost use Rattle.pd_desk.specs.Desk.{saved_as, saved_text, with_shelf};
 ghost use Rattle.pd_desk.specs.OwnFaults.{own_sentence};
-ghost use Rattle.pd_desk.specs.Shelf.{IsPut};
-ghost use Rattle.pd_desk.specs.declared.own.OwnFault.TheVariants.{Memory as memory};
+ghost use Rattle.pd_desk.specs.Standings.{notes_of, standing_of};
+ghost use Rattle.pd_desk.specs.declared.own.OwnFault.TheVariants.{Memory as memory, Differs as differs};
+ghost use Rattle.pd_desk.specs.declared.colon.Saved.TheVariants as saved;
 
 use crate::desk::Desk;
 use crate::help::help_text;
-use crate::{Colon, Shelf, file_of, push_diff, run_diff, why_port};
+use crate::steps::{redo, undo};
+use crate::{Colon, Saved, Shelf, ShelfFault, file_of, run_diff, why_port};
+use pd_device::Text;
 use pd_port::Meter;
 use pd_run::Runner;
 use pd_save::{SaveFault, list_scenario, scenario_text};
@@ -33,9 +34,15 @@ pub enum OwnFault {
     Unknown,
     /// No accepted edit is left that could be taken back.
     NoEdit,
+    /// So many are left, fewer than were to be taken back.
+    FewEdits { left: usize },
+    /// No edit is left that was taken back.
+    NoRedo,
     NoSuchPort,
     /// The text would read as something else than the scenario.
     Differs,
+    /// The file is there already.
+    Stands,
     /// The file couldn't be written.
     NotSaved,
     Memory,
@@ -51,68 +58,48 @@ impl From<AllocError> for OwnFault {
 
 impl OwnFault {
     /// What is said of it.
-    pub fn sentence(self) -> &'static [u8]
-        ensures { result.now ≡ own_sentence self }
+    pub fn sentence(self) -> Text<160>
+        ensures { result ≡ own_sentence self }
     {
+        let mut text = Text::new();
         match self {
             OwnFault::Unknown => {
-                b"the desk's own lines are :help, :list, :undo, :diff, :save FILE and :why PORT [AT]\n"
+                text.push_all(
+                    b"the desk's own lines are :list, :undo, :redo, :diff, :why, :save, :save-edits and :quit; :help tells of them\n",
+                );
             }
-            OwnFault::NoEdit => b"no accepted edit is left to take back\n",
-            OwnFault::NoSuchPort => b"no port has this number\n",
-            OwnFault::Differs => b"not saved: the text would read as another scenario\n",
-            OwnFault::NotSaved => b"not saved: the file can't be written\n",
-            OwnFault::Memory => b"there was no memory for it\n",
+            OwnFault::NoEdit => text.push_all(b"no accepted edit is left to take back\n"),
+            OwnFault::FewEdits { left } => {
+                text.push_all(b"fewer edits can be taken back: ");
+                text.push_number(left as u64);
+                text.push_all(b"\n");
+            }
+            OwnFault::NoRedo => text.push_all(
+                b"no edit that was taken back is left to make again\n",
+            ),
+            OwnFault::NoSuchPort => text.push_all(b"no port has this number\n"),
+            OwnFault::Differs => text.push_all(
+                b"not saved: the text would read as another scenario\n",
+            ),
+            OwnFault::Stands => {
+                text.push_all(
+                    b"not saved: the file is there; :save! or :save-edits! writes it anew\n",
+                );
+            }
+            OwnFault::NotSaved => text.push_all(b"not saved: the file can't be written\n"),
+            OwnFault::Memory => text.push_all(b"there was no memory for it\n"),
         }
+        text
     }
 }
 
-/// What changes where an earlier scenario stands again, which it does from now on in the runner.
-fn step_back<const N: usize, T: Runner<N>>(
-    alloc: Global,
-    scenario: &Scenario<N>,
-    back: &Scenario<N>,
-    runner: &mut T,
-    meter: &mut Meter,
-) -> Result<Vec<u8>, AllocError>
-    requires runs { IsRunning (T.plan runner.old) (T.entries runner.old) scenario.now }
-    ensures text { IfOk result (λ text. (listed : List ℕ) × (listed_back : List ℕ) × Lists scenario.now listed
-        × Lists back.now listed_back × (text.items ≡ codes "= undo\n" ++ diff_text listed listed_back)) }
-    ensures back { OnOk result (IsRunning (T.plan runner.new) (T.entries runner.new) back.now) }
-    ensures same { OnErr result (IsRunning (T.plan runner.new) (T.entries runner.new) scenario.now) }
+/// A telling of `:diff`.
+fn diff_of(alloc: Global, changes: Vec<u8>) -> Result<Vec<u8>, AllocError>
+    ensures { IfOk result (λ text. text.items ≡ codes "= diff\n" ++ changes.items) }
 {
-    let listed = list_scenario(alloc, scenario)?;
-    let listed_back = list_scenario(alloc, back)?;
     let mut text = Vec::new(alloc);
-    text.extend_from_slice(b"= undo\n")?;
-    push_diff(alloc, &mut text, listed.as_slice(), listed_back.as_slice())?;
-    runner.replace(alloc, back, meter)?;
-    Ok(text)
-}
-
-/// Takes back the last accepted edit.
-fn undo<const N: usize, T: Runner<N>>(
-    alloc: Global,
-    desk: &mut Desk<N>,
-    runner: &mut T,
-    meter: &mut Meter,
-) -> Result<Vec<u8>, OwnFault>
-    requires runs { IsRunning (T.plan runner.old) (T.entries runner.old) desk.old.state.scenario }
-    ensures text { MatchResult result
-        (λ text. Undoes (standing desk.old.state.scenario desk.old.earlier.items desk.old.state.tally) text.items
-        (standing desk.new.state.scenario desk.new.earlier.items desk.new.state.tally))
-        (λ fault. (standing desk.new.state.scenario desk.new.earlier.items desk.new.state.tally
-        ≡ standing desk.old.state.scenario desk.old.earlier.items desk.old.state.tally) × FailsEdit desk.old.earlier.items fault) }
-    ensures runs { IsRunning (T.plan runner.new) (T.entries runner.new) desk.new.state.scenario }
-    ensures tally { desk.new.state.tally ≡ desk.old.state.tally }
-{
-    let Some(back) = desk.earlier.as_slice().last() else {
-        return Err(OwnFault::NoEdit);
-    };
-    let text = step_back(alloc, &desk.state.scenario, back, runner, meter)?;
-    if let Some(back) = desk.earlier.pop() {
-        desk.state.scenario = back;
-    }
+    text.extend_from_slice(b"= diff\n")?;
+    text.extend_from_slice(changes.as_slice())?;
     Ok(text)
 }
 
@@ -122,48 +109,83 @@ fn diff<const N: usize>(
     desk: &Desk<N>,
     meter: &mut Meter,
 ) -> Result<Vec<u8>, OwnFault>
-    ensures { MatchResult result
-        (λ text. TellsChanges (standing desk.now.state.scenario desk.now.earlier.items desk.now.state.tally) text.items)
-        (λ fault. FailsEdit desk.now.earlier.items fault) }
+    ensures { MatchResult result (λ text. TellsChanges (standing_of desk.now) text.items)
+        (λ fault. FailsEdit (notes_of desk.now.notes) fault) }
 {
-    let Some(before) = desk.earlier.as_slice().last() else {
+    let Some(last) = desk.notes.earlier.as_slice().last() else {
         return Err(OwnFault::NoEdit);
     };
-    let changes = run_diff(alloc, before, &desk.state.scenario, meter)?;
-    let mut text = Vec::new(alloc);
-    text.extend_from_slice(b"= diff\n")?;
-    text.extend_from_slice(changes.as_slice())?;
-    Ok(text)
+    let changes = run_diff(alloc, &last.scenario, &desk.state.scenario, meter)?;
+    Ok(diff_of(alloc, changes)?)
 }
 
-/// Saves the scenario under the name on a line. All is made before the file is touched.
-fn save<const N: usize, S: Shelf>(
+/// What all accepted edits changed.
+fn diff_all<const N: usize>(
     alloc: Global,
-    line: &[u8],
-    scenario: &Scenario<N>,
-    shelf: &mut S,
-) -> Result<Vec<u8>, OwnFault>
-    ensures text { IfOk result (λ text. (file : List ℕ) × (second (words line.now) ≡ Some file) × (text.items ≡ saved_text file)
-        × Reads N (file_text scenario.now) (Ok scenario.now)
-        × IsPut (S.known shelf.old) (S.known shelf.new) file (file_text scenario.now)) }
-    ensures fault { IfErr result
-        (λ fault. FailsSave N scenario.now (second (words line.now)) fault (S.known shelf.old) (S.known shelf.new)) }
+    desk: &Desk<N>,
+    meter: &mut Meter,
+) -> Result<Vec<u8>, AllocError>
+    ensures { IfOk result (λ text. TellsAll (standing_of desk.now) text.items) }
 {
-    let Some(file) = file_of(line) else {
-        return Err(OwnFault::Unknown);
-    };
-    let saved = match scenario_text(alloc, scenario) {
-        Ok(saved) => saved,
-        Err(SaveFault::Memory) => return Err(OwnFault::Memory),
-        Err(SaveFault::Differs) => return Err(OwnFault::Differs),
-    };
+    let changes = run_diff(alloc, &desk.first, &desk.state.scenario, meter)?;
+    diff_of(alloc, changes)
+}
+
+/// What a file is to hold.
+fn saved_as<const N: usize>(alloc: Global, what: Saved, desk: &Desk<N>) -> Result<Vec<u8>, OwnFault>
+    ensures text { IfOk result (λ text. (text.items ≡ saved_as what (standing_of desk.now)) × ReadsBack N what desk.now.state.scenario) }
+    ensures fault { IfErr result (λ fault. ((fault ≡ differs) × (what ≡ saved.Scenario)
+        × ReadsOtherwise N (file_text desk.now.state.scenario) desk.now.state.scenario) ⊎ (fault ≡ memory)) }
+{
+    match what {
+        Saved::Scenario => match scenario_text(alloc, &desk.state.scenario) {
+            Ok(text) => Ok(text),
+            Err(SaveFault::Memory) => Err(OwnFault::Memory),
+            Err(SaveFault::Differs) => Err(OwnFault::Differs),
+        },
+        Saved::Edits => Ok(desk.notes.script(alloc)?),
+    }
+}
+
+/// What is told where a file was written.
+fn saved_text(alloc: Global, file: &[u8]) -> Result<Vec<u8>, AllocError>
+    ensures { IfOk result (λ text. text.items ≡ saved_text file.now) }
+{
     let mut text = Vec::new(alloc);
     text.extend_from_slice(b"saved ")?;
     text.extend_from_slice(file)?;
     text.extend_from_slice(b"\n")?;
-    match shelf.put(file, saved.as_slice()) {
-        Ok(()) => Ok(text),
-        Err(_) => Err(OwnFault::NotSaved),
+    Ok(text)
+}
+
+/// Writes a file under the name on a line. All is made before the file is touched.
+fn save<const N: usize, S: Shelf>(
+    alloc: Global,
+    line: &[u8],
+    what: Saved,
+    is_over: bool,
+    desk: &mut Desk<N>,
+    shelf: &mut S,
+) -> Result<Vec<u8>, OwnFault>
+    ensures text { MatchResult result
+        (λ text. Saves N (with_shelf (standing_of desk.old) (S.known shelf.old)) what is_over (second (words line.now)) text.items
+        (with_shelf (standing_of desk.new) (S.known shelf.new)))
+        (λ fault. FailsSave N desk.old.state.scenario what is_over (second (words line.now)) fault (S.known shelf.old) (S.known shelf.new)
+        × (standing_of desk.new ≡ standing_of desk.old)) }
+    ensures scenario { desk.new.state ≡ desk.old.state }
+{
+    let Some(file) = file_of(line) else {
+        return Err(OwnFault::Unknown);
+    };
+    let saved = saved_as(alloc, what, desk)?;
+    let text = saved_text(alloc, file)?;
+    match shelf.put(file, saved.as_slice(), is_over) {
+        Ok(()) => {
+            desk.saved = desk.number;
+            Ok(text)
+        }
+        Err(ShelfFault::Stands) => Err(OwnFault::Stands),
+        Err(ShelfFault::Failed) => Err(OwnFault::NotSaved),
     }
 }
 
@@ -203,13 +225,13 @@ pub(crate) fn own_text<const N: usize, T: Runner<N>, S: Shelf>(
     requires runs { IsRunning (T.plan runner.old) (T.entries runner.old) desk.old.state.scenario }
     ensures text { MatchResult result
         (λ text. Tells N
-        (with_shelf (standing desk.old.state.scenario desk.old.earlier.items desk.old.state.tally) (S.known shelf.old))
+        (with_shelf (standing_of desk.old) (S.known shelf.old))
         (colon_of line.now) (second (words line.now)) text.items
-        (with_shelf (standing desk.new.state.scenario desk.new.earlier.items desk.new.state.tally) (S.known shelf.new)))
+        (with_shelf (standing_of desk.new) (S.known shelf.new)))
         (λ fault. Fails N
-        (with_shelf (standing desk.old.state.scenario desk.old.earlier.items desk.old.state.tally) (S.known shelf.old))
+        (with_shelf (standing_of desk.old) (S.known shelf.old))
         (colon_of line.now) (second (words line.now)) fault
-        (with_shelf (standing desk.new.state.scenario desk.new.earlier.items desk.new.state.tally) (S.known shelf.new))) }
+        (with_shelf (standing_of desk.new) (S.known shelf.new))) }
     ensures runs { IsRunning (T.plan runner.new) (T.entries runner.new) desk.new.state.scenario }
     ensures tally { desk.new.state.tally ≡ desk.old.state.tally }
 {
@@ -217,9 +239,12 @@ pub(crate) fn own_text<const N: usize, T: Runner<N>, S: Shelf>(
         None => Err(OwnFault::Unknown),
         Some(Colon::Help) => Ok(help_text(alloc)?),
         Some(Colon::Listing) => Ok(list_scenario(alloc, &desk.state.scenario)?),
-        Some(Colon::Undo) => undo(alloc, desk, runner, meter),
+        Some(Colon::Undo { before }) => undo(alloc, before, desk, runner, meter),
+        Some(Colon::Redo) => redo(alloc, desk, runner, meter),
         Some(Colon::Diff) => diff(alloc, desk, meter),
-        Some(Colon::Save) => save(alloc, line, &desk.state.scenario, shelf),
+        Some(Colon::DiffAll) => Ok(diff_all(alloc, desk, meter)?),
+        Some(Colon::Save { what, is_over }) => save(alloc, line, what, is_over, desk, shelf),
         Some(Colon::Why { port, to }) => bounds(alloc, &desk.state.scenario, port, to, meter),
+        Some(Colon::Quit) => Ok(Vec::new(alloc)),
     }
 }

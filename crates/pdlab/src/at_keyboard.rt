@@ -6,8 +6,8 @@ use crate::Ending;
 use crate::answers::Counted;
 use crate::fault::{output, tell_refused, tell_unread, tell_unwritten};
 use pd_bench::{RunFault, read_whole};
-use pd_desk::{ByteIn, Outlets, Shelf, run_live};
-use pd_device::{DeviceFault, Output};
+use pd_desk::{ByteIn, Left, Outlets, Shelf, ShelfFault, run_live};
+use pd_device::Output;
 use pd_port::Meter;
 use std::alloc::Global;
 use std::fs::Permissions;
@@ -25,16 +25,25 @@ struct Folder<'a, R> {
 impl<'a, R: Files + Alloc<A = Global>> Shelf for Folder<'a, R> {
     ghost known = { λ s. untold s.failures };
 
-    fn put(&mut self, name: &[u8], text: &[u8]) -> Result<(), DeviceFault> {
-        let saved = match std::str::from_utf8(name) {
-            Ok(name) => save(self.files, name, text).is_ok(),
-            Err(_) => false,
-        };
-        if saved {
-            return Ok(());
+    fn put(&mut self, name: &[u8], text: &[u8], is_over: bool) -> Result<(), ShelfFault> {
+        if let Ok(name) = std::str::from_utf8(name) {
+            if !is_over && is_file(self.files, name) {
+                return Err(ShelfFault::Stands);
+            }
+            if save(self.files, name, text).is_ok() {
+                return Ok(());
+            }
         }
         self.failures = self.failures.saturating_add(1);
-        Err(DeviceFault)
+        Err(ShelfFault::Failed)
+    }
+}
+
+/// Whether a file stands there, also by a link. What is no file, as a pipe, isn't replaced by writing to it.
+fn is_file<R: Files + Alloc<A = Global>>(files: &R, name: &str) -> bool {
+    match fs::metadata(files, name) {
+        Ok(found) => found.is_file(),
+        Err(_) => false,
     }
 }
 
@@ -96,7 +105,8 @@ where
         return tell_unread(errors, scenario);
     };
     let input = rt.reader();
-    let prompts = input.is_terminal().then(|| output(errors));
+    let is_terminal = input.is_terminal();
+    let prompts = is_terminal.then(|| output(errors));
     let mut reader = ByteIn {
         reader: input,
         failures: 0,
@@ -119,21 +129,32 @@ where
         &mut outlets,
         &mut meter,
     );
-    match ended {
-        Ok(_) => Ending::Done,
-        Err(fault) => tell_fault(errors, scenario, &outlets.answers, fault),
-    }
+    tell_end(errors, scenario, &outlets.answers, is_terminal, ended)
 }
 
-/// Tells why the desk could not go on.
-fn tell_fault<E: Print, W>(
+/// Tells that edits were left.
+fn tell_unsaved<E: Print>(errors: &E) {
+    let _ = println!(errors;
+        "pdlab: the last edits were not saved, as :save FILE or :save-edits FILE does"
+    );
+}
+
+/// Tells why the desk could not go on, or at a terminal that edits were left.
+fn tell_end<E: Print, W>(
     errors: &E,
     scenario: &str,
     answers: &Output<Counted<W>>,
-    fault: RunFault,
+    is_terminal: bool,
+    ended: Result<Left, RunFault>,
 ) -> Ending {
-    match fault {
-        RunFault::Scenario(fault) => tell_refused(errors, scenario, fault),
-        RunFault::Session(fault) => tell_unwritten(errors, answers, fault),
+    match ended {
+        Ok(left) => {
+            if is_terminal && !left.is_saved {
+                tell_unsaved(errors);
+            }
+            Ending::Done
+        }
+        Err(RunFault::Scenario(fault)) => tell_refused(errors, scenario, fault),
+        Err(RunFault::Session(fault)) => tell_unwritten(errors, answers, fault),
     }
 }

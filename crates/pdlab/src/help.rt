@@ -57,17 +57,23 @@ usage: pdlab live SCENARIO
 Runs the charger of the file SCENARIO, reads edits and shows from standard input,
 a line at a time, and answers each on standard output before it reads the next;
 after refused N, says on standard error where the line breaks the rule and what
-would be right there; in a terminal asks for each line by a prompt.
+would be right there; in a terminal asks for each line by a prompt, and says at the end
+where the last edits were not saved.
 
 A line with a colon first is the desk's own. It is not counted, and where it can
 do nothing, standard error says why:
-  :list            the scenario as edit lines
-  :undo            takes back the last edit that was made, again and again
-  :diff            lines of contracts, faults and margins that this edit took
-                   away (-) and brought (+)
-  :why PORT [AT]   what bounds a port: its last offer, or each one up to AT
-  :save FILE       writes the scenario to a file, which reads back as the same
-  :help            tells of these lines
+  :list              the scenario as edit lines
+  :undo [N]          takes back the last edit that was made, or the last N, again and
+                     again
+  :redo              makes the edit again that was taken back last
+  :diff [all]        lines of contracts, faults and margins that this edit, or all
+                     edits, took away (-) and brought (+)
+  :why PORT [AT]     what bounds a port: its last offer, or each one up to AT
+  :save FILE         writes the scenario to a new file, which reads back as the same
+  :save-edits FILE   writes the edits that led to it to a new file, a script
+  :save! FILE        as :save, in the place of a file that is there; :save-edits! too
+  :quit              ends the session, as Ctrl-D does
+  :help              tells of these lines
 
 Lines, files and numbers are those of pdbench: times in microseconds, voltages in
 mV, currents in mA, powers in mW. The last line tells how many edits were made,

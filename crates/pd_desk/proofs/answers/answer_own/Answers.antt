@@ -19,5 +19,5 @@ returns-in-Err-clause-reply g c = (
   own_sentence c.in-Err.fault,
   inr (c.in-Err.fault, c.in-Err.ensures.text, refl, refl),
   Appends-nil _,
-  (c.write_all-in-Err.result, rw c.sentence.ensures at c.write_all-in-Err.ensures.text, c.write_all-in-Err.ensures.counts),
+  (c.write_text.result, rw c.sentence.ensures at c.write_text.ensures.text, c.write_text.ensures.counts),
 )

@@ -10,4 +10,4 @@ returns-in-Ok-Skip-clause-reply g c =
     let read = c.in-Ok-Skip.ensures in
     let skip = c.in-Ok-Skip.field-0-is in
     let is : line_of c.args.line.now ≡ Ok lines_read.Skip = cc in
-    rw is ([], outcomes.Skipped, ((refl, refl, refl), refl, refl), Appends-nil _, λ e. absurd (cc))
+    rw is ([], outcomes.Skipped, ((refl, refl, refl), refl, (refl, refl, refl, refl)), Appends-nil _, λ e. absurd (cc))

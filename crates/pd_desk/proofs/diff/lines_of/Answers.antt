@@ -1,6 +1,4 @@
-use Rattle.std.proofs.Common.{◌≡◌, ◌∙◌, ◌||◌, List, ap, sym, false, true, refl, Bool}
-use Rattle.std.specs.Prelude.{bytes_eq}
-use Rattle.std.specs.List.{list_any}
+use Rattle.std.proofs.Common.{refl}
 use Rattle.std.specs.Str.Lines.{lines}
 use Rattle.pd_desk.proofs.FoundLines.{found_more, found_all}
 use Rattle.pd_desk.proofs.diff.lines_of.Goals as goal

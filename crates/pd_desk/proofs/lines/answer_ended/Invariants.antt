@@ -1,8 +1,9 @@
 use Rattle.std.proofs.Common.{◌≡◌, ◌-◌, ◌≤◌, []}
 use Rattle.pd_bench.specs.Session.{answered}
 use Rattle.pd_bench.specs.Stream.{IsRunning}
-use Rattle.pd_desk.specs.Desk.{standing, with_shelf}
+use Rattle.pd_desk.specs.Desk.{with_shelf}
 use Rattle.pd_desk.specs.Ends.{beside}
+use Rattle.pd_desk.specs.Standings.{standing_of}
 use Rattle.pd_desk.specs.Taking.{Answering}
 use Rattle.pd_desk.proofs.lines.answer_ended.Given as goal
 
@@ -13,8 +14,7 @@ invariant-loop-line g l = record {
       (beside (g.E.TextOut.taken l.fn.outlets.reasons) (g.E.TextOut.failures l.fn.outlets.reasons))
       (beside (g.E.TextOut.taken l.outlets.reasons) (g.E.TextOut.failures l.outlets.reasons))
       (g.S.Shelf.known l.fn.outlets.shelf) l.fn.desk.state.scenario
-      (with_shelf (standing l.desk.state.scenario l.desk.earlier.items l.desk.state.tally)
-      (g.S.Shelf.known l.outlets.shelf)) l.total;
+      (with_shelf (standing_of l.desk) (g.S.Shelf.known l.outlets.shelf)) l.total;
   reads : g.R.TextIn.failures l.reader ≡ g.R.TextIn.failures l.fn.reader;
   writes : g.W.TextOut.failures l.outlets.answers ≡ g.W.TextOut.failures l.fn.outlets.answers;
   runs : IsRunning (g.T.Runner.plan l.runner) (g.T.Runner.entries l.runner) l.desk.state.scenario;
