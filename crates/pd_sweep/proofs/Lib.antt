@@ -1,12 +1,17 @@
-mod JoinLemmas
-mod SweepLemmas
+mod BesideLemmas
+mod ChangeLemmas
+mod EffectLemmas
 pub mod FoldLemmas
 mod HitLemmas
 mod IdLemmas
-pub mod TrialLemmas
+mod InstantLemmas
+mod JoinLemmas
 mod PlaceLemmas
 mod QuietLemmas
 mod RowLemmas
+mod StepLemmas
+mod SweepLemmas
+pub mod TrialLemmas
 mod TruthLemmas
 pub mod WalkLemmas
 mod WatchLemmas

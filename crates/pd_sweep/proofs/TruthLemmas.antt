@@ -1,11 +1,11 @@
 -- A packet that is hit has taken the disturbance of an event that was put in for it.
-use Rattle.std.proofs.Common.{◌≡◌, ◌≢◌, ◌⊎◌, ℕ, zero, suc, ◌+◌, ◌-◌, ◌<◌, Bool, true, false, cond, not, List, [], ◌∷◌, ◌++◌, length, map}
+use Rattle.std.proofs.Common.{◌≡◌, ◌≢◌, ◌⊎◌, ℕ, zero, suc, ◌+◌, ◌-◌, ◌<◌, Bool, true, false, cond, List, [], ◌∷◌, ◌++◌, length, map}
 use Rattle.std.proofs.Common.{get_or, set, drop, fold, Option, Some, None, Result, Ok, Err, refl, sym, ap, ◌∙◌, subst, inl, inr, ⊎_elim}
 use Rattle.std.proofs.Common.{arith}
 use Rattle.std.specs.Prelude.{◌==◌, ◌&&◌, ◌||◌, Contains, MatchBool, find}
 use Rattle.std.specs.List.{AllByRecursion}
 use Rattle.std.proofs.lemmas.Bool.{and_parts, cases_Bool, cases_eq, eq-eqb, eqb-true, ne_eqb, not-true}
-use Rattle.std.proofs.lemmas.List.{get_or-replicate, get_or-set_other, get_or-set_same, length-replicate, length-set}
+use Rattle.std.proofs.lemmas.List.{get_or-replicate, get_or-set_other, get_or-set_same, length-replicate}
 use Rattle.std.proofs.lemmas.Option.{same_Some}
 use Rattle.pd_symbols.specs.declared.channel.Channel.{Channel}
 use Rattle.pd_symbols.specs.declared.channel.Channel.TheVariants.{Sop, SopPrime}
@@ -28,37 +28,36 @@ use Rattle.pd_scenario.specs.declared.event.ScenarioEvent.{ScenarioEvent}
 use Rattle.pd_scenario.specs.declared.event.ScenarioHappening.{ScenarioHappening}
 use Rattle.pd_scenario.specs.declared.event.ScenarioHappening.TheVariants.{OnPort, Budget}
 use Rattle.pd_scenario.specs.Events.{ScenarioEventKind}
-use Rattle.pd_scenario.specs.Plan.{Plan, count}
+use Rattle.pd_scenario.specs.Plan.{count}
 use Rattle.pd_scenario.specs.Plans.{plan_of}
 use Rattle.pd_scenario.specs.Scenarios.{ScenarioData, has_id}
 use Rattle.pd_scenario.specs.Script.{resolved, seen_by}
 use Rattle.pd_scenario.proofs.Lists.{cases, none}
 use Rattle.pd_edit.specs.Edits.{inserted_event, outcome}
 use Rattle.pd_edit.specs.Refusals.{answered, edited, refusals, refuses}
-use Rattle.pd_edit_lines.specs.declared.edit.Edit.{Edit}
 use Rattle.pd_edit_lines.specs.declared.edit.EditHappening.TheVariants as edit
 use Rattle.pd_edit_lines.specs.declared.fault.EditFault.{EditFault}
 use Rattle.pd_run.specs.Order.{EachAfter}
 use Rattle.pd_run.specs.Run.{GoesOn, Move, Run, shown}
+use Rattle.pd_run.proofs.OneRun.{run_unique}
 use Rattle.pd_run.proofs.Cut.{EachAfter-back, EachAfter-front}
 use Rattle.pd_report.proofs.MarginLemmas.{all-append, all-drop}
 use Rattle.pd_watch.specs.declared.watch.Disturber.{Disturber}
 use Rattle.pd_watch.specs.Watch.{WatchData, after_entry, after_happening, after_kind, after_start, after_step, after_steps, after_what}
 use Rattle.pd_watch.specs.Watch.{all_at_rest, at_rest, disturber_of, first_of, id_of, is_disturbed, is_ignored, taken_by, watch_at}
 use Rattle.pd_watch.proofs.Watched.{step_length, takers_are_named}
-use Rattle.pd_sweep.specs.Laws.{HitsAreTrue, IsHit, RanHit}
+use Rattle.pd_sweep.specs.Laws.{HitsAreTrue, IsHit, MeasuresAreTrue, RanHit}
+use Rattle.pd_sweep.specs.Measures.{measures_of}
 use Rattle.pd_sweep.specs.Summaries.{AreFindings}
-use Rattle.pd_sweep.specs.Trials.{IsOfVariant, IsRunOf, hit_from, hits, is_packet, is_put_in, set_place, side_place, watched_on}
+use Rattle.pd_sweep.specs.Trials.{IsOfVariant, hit_from, hits, is_packet, is_put_in, set_place, side_place, watched_on}
 use Rattle.pd_sweep.specs.Variants.{free_id, goes_on, insertion, kind_of, least_id, refused_as, row_variant, variant, with_id}
 use Rattle.pd_sweep.specs.declared.choice.Campaign.{Campaign}
 use Rattle.pd_sweep.specs.declared.choice.Loss.{Loss}
-use Rattle.pd_sweep.specs.declared.findings.Findings.{Findings}
+use Rattle.pd_sweep.specs.declared.effect.Effect.{Effect}
 use Rattle.pd_sweep.specs.declared.packets.Target.{Target}
-use Rattle.pd_sweep.specs.declared.trial.Outcome.{Outcome}
-use Rattle.pd_sweep.specs.declared.trial.Outcome.TheVariants.{Ran, Missed, Disturbed, Barred}
-use Rattle.pd_sweep.specs.declared.trial.Trial.{Trial}
+use Rattle.pd_sweep.specs.declared.trial.Outcome.TheVariants.{Ran, Disturbed}
 use Rattle.pd_sweep.specs.declared.variant.Obstacle.{Obstacle}
-use Rattle.pd_sweep.proofs.HitLemmas.{IsOf, event_of}
+use Rattle.pd_sweep.proofs.HitLemmas.{event_of}
 
 -- ---- the events of a variant
 
@@ -434,28 +433,48 @@ module _ (n : ℕ) (c v : ScenarioData) (behind : ℕ) (harm : Loss) (t : Target
                 subst (Contains v.events) (is ∙ ap (λ k. inserted_event k t.at (edit.OnPort t.port (kind_of harm))) of.id_is) of.there
           ]
 
-run_is_true : (n : ℕ) (c : ScenarioData) (campaign : Campaign) (t : Target) (r : Result ScenarioData Obstacle) (findings : Findings)
-    → row_variant campaign.behind n c campaign.loss t ≡ r → IsOfVariant c.events r t (Ran findings) → RanHit n c campaign t findings
-run_is_true n c campaign t (Ok v) findings is (moves, shows, hit, found) = record {
+run_is_true : (n : ℕ) (c : ScenarioData) (campaign : Campaign) (t : Target) (r : Result ScenarioData Obstacle) (effect : Effect)
+    → row_variant campaign.behind n c campaign.loss t ≡ r → IsOfVariant c r t (Ran effect) → RanHit n c campaign t effect
+run_is_true n c campaign t (Ok v) effect is ran = record {
   variant = v;
   variant_is = is;
-  moves = shows.moves;
-  safe = shows.safe;
-  found = subst (λ l. AreFindings (plan_of v) l findings) shows.entries_are found;
+  moves = ran.shows.moves;
+  safe = ran.shows.safe;
+  found = subst (λ l. AreFindings (plan_of v) l effect.findings) ran.shows.entries_are ran.found;
+  base = ran.base_shows.moves;
+  base_safe = ran.base_shows.safe;
+  measured =
+      ran.measured ∙ ap (λ l. measures_of (plan_of c).end l ran.moves) ran.base_shows.entries_are
+      ∙ ap (λ l. measures_of (plan_of c).end (map shown ran.base_shows.moves) l) ran.shows.entries_are;
   hit =
-      hit_is_true n c v campaign.behind campaign.loss t shows.moves is shows.safe.run
-      (hit_at c.events t at_rest shows.moves (ap (hit_from c.events t at_rest) (sym shows.entries_are) ∙ hit));
+      hit_is_true n c v campaign.behind campaign.loss t ran.shows.moves is ran.shows.safe.run
+      (hit_at c.events t at_rest ran.shows.moves (ap (hit_from c.events t at_rest) (sym ran.shows.entries_are) ∙ ran.hit));
 }
-run_is_true n c campaign t (Err obstacle) findings is h = absurd (cc)
+run_is_true n c campaign t (Err obstacle) effect is h = absurd (cc)
 
 pub hits_are_true : HitsAreTrue
-hits_are_true n c campaign trial findings is ran = by_disturbed trial.target.disturbed is
+hits_are_true n c campaign trial effect is ran = by_disturbed trial.target.disturbed is
   where
     by_disturbed : (b : Bool)
         → MatchBool b (trial.outcome ≡ Disturbed)
-        (IsOfVariant c.events (row_variant campaign.behind n c campaign.loss trial.target) trial.target trial.outcome)
-        → RanHit n c campaign trial.target findings
-    by_disturbed true h = let never : Disturbed ≡ Ran findings = sym h ∙ ran in absurd (cc)
+        (IsOfVariant c (row_variant campaign.behind n c campaign.loss trial.target) trial.target trial.outcome)
+        → RanHit n c campaign trial.target effect
+    by_disturbed true h = let never : Disturbed ≡ Ran effect = sym h ∙ ran in absurd (cc)
     by_disturbed false h =
-        run_is_true n c campaign trial.target (row_variant campaign.behind n c campaign.loss trial.target) findings refl
-        (subst (IsOfVariant c.events (row_variant campaign.behind n c campaign.loss trial.target) trial.target) ran h)
+        run_is_true n c campaign trial.target (row_variant campaign.behind n c campaign.loss trial.target) effect refl
+        (subst (IsOfVariant c (row_variant campaign.behind n c campaign.loss trial.target) trial.target) ran h)
+
+same_variant : (v w : ScenarioData) (r : Result ScenarioData Obstacle) → r ≡ Ok v → r ≡ Ok w → w ≡ v
+same_variant v w r e f = cc
+
+pub measures_are_true : MeasuresAreTrue
+measures_are_true n c v campaign trial effect base moves is ran variant base_run run =
+    let hit : RanHit n c campaign trial.target effect = hits_are_true n c campaign trial effect is ran in
+    let same : v ≡ hit.variant =
+    same_variant hit.variant v (row_variant campaign.behind n c campaign.loss trial.target) hit.variant_is variant in
+    let its : Run (plan_of hit.variant) moves = subst (λ (x : ScenarioData). Run (plan_of x) moves) same run in
+    hit.measured
+    ∙ ap (λ (l : List Move). measures_of (plan_of c).end (map shown l) (map shown hit.moves))
+    (run_unique (plan_of c) hit.base base hit.base_safe.run base_run)
+    ∙ ap (λ (l : List Move). measures_of (plan_of c).end (map shown base) (map shown l))
+    (run_unique (plan_of hit.variant) hit.moves moves hit.safe.run its)

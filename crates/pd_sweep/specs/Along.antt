@@ -1,6 +1,7 @@
 -- Going along a run: what is known after one more entry.
-use Rattle.std.specs.Prelude.{ℕ, ◌+◌, ◌-◌, ◌==◌, ◌&&◌, min, Bool, true, false, List, fold, length, count_by, replicate, slice_set}
+use Rattle.std.specs.Prelude.{ℕ, ◌+◌, ◌-◌, ◌==◌, ◌&&◌, min, Bool, true, false, List, [], ◌++◌, fold, length, count_by, replicate, slice_set}
 use Rattle.std.specs.Prelude.{Option, Some, None, if◌then◌else◌}
+use Rattle.std.specs.List.{cons_option}
 use Rattle.pd_port.specs.declared.entry.ContractChange.{ContractChange}
 use Rattle.pd_port.specs.declared.entry.Entry.{Entry}
 use Rattle.pd_setup.specs.declared.event.EventKind.TheVariants.{Lose, Damage}
@@ -8,8 +9,10 @@ use Rattle.pd_scenario.specs.Events.{ScenarioEventKind}
 use Rattle.pd_scenario.specs.declared.event.ScenarioEvent.{ScenarioEvent}
 use Rattle.pd_scenario.specs.declared.event.ScenarioHappening.{ScenarioHappening}
 use Rattle.pd_scenario.specs.declared.event.ScenarioHappening.TheVariants.{OnPort, Budget}
+use Rattle.pd_sweep.specs.Measures.{step_of}
 use Rattle.pd_sweep.specs.Summaries.{contract_left, is_hard_reset, makes}
 use Rattle.pd_sweep.specs.declared.makers.Makers.{Makers}
+use Rattle.pd_sweep.specs.declared.measure.Step.{Step}
 use Rattle.pd_sweep.specs.declared.summary.Mishaps.{Mishaps}
 use Rattle.pd_sweep.specs.declared.summary.Standing.{Standing}
 
@@ -24,6 +27,10 @@ changed s port at (Some change) = record { contracts = slice_set s.contracts (po
 
 abbrev pub stands_after : Standing → ℕ × Entry → Standing
 stands_after s move = changed s move.0 move.1.at move.1.contract
+
+-- the changes of contracts before an end, and that of one more entry
+abbrev pub gathered : ℕ → List Step → ℕ × Entry → List Step
+gathered end steps move = steps ++ cons_option (step_of end move) []
 
 -- before the run nothing has gone wrong
 abbrev pub no_mishap : Mishaps

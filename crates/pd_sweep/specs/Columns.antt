@@ -4,29 +4,44 @@ use Rattle.pd_tell.specs.Members.{number_member}
 use Rattle.pd_sweep.specs.declared.tally.Lowest.{Lowest}
 use Rattle.pd_sweep.specs.declared.tally.Tally.{Tally}
 use Rattle.pd_sweep.specs.declared.tally.Worst.{Worst}
+use Rattle.pd_sweep.specs.declared.tally.WorstOn.{WorstOn}
 use Rattle.pd_sweep.specs.Objects.{instant_members, packet_members}
 
--- how many packets were lost, and how many of the runs end with other contracts
+-- how many packets were lost, how many of the runs differ, and how many end with other contracts
 abbrev pub counts_members : Tally → List ℕ
-counts_members tally = number_member (codes "packets") tally.tried ++ number_member (codes "other_contracts") tally.changed
+counts_members tally =
+    number_member (codes "packets") tally.tried ++ (number_member (codes "different") tally.different
+    ++ number_member (codes "other_contracts") tally.changed)
 
--- a column's worst: how much more there is, behind its key, and the packet
-abbrev pub worst_object : List ℕ → Worst → List ℕ
-worst_object more w =
-    codes "{\"" ++ (more ++ (codes "\":" ++ (decimal w.by ++ (packet_members w.target ++ codes "}"))))
+-- a column's worst: how much more there is, and the packet
+abbrev pub worst_object : Worst → List ℕ
+worst_object w = codes "{\"more\":" ++ (decimal w.by ++ (packet_members w.target ++ codes "}"))
 
-abbrev pub worst_json : List ℕ → Option Worst → List ℕ
-worst_json more None = codes "null"
-worst_json more (Some w) = worst_object more w
+abbrev pub worst_json : Option Worst → List ℕ
+worst_json None = codes "null"
+worst_json (Some w) = worst_object w
 
-unfoldable pub worst_member : List ℕ → List ℕ → Option Worst → List ℕ
-worst_member key more worst = codes ",\"" ++ (key ++ (codes "\":" ++ worst_json more worst))
+unfoldable pub worst_member : List ℕ → Option Worst → List ℕ
+worst_member key worst = codes ",\"" ++ (key ++ (codes "\":" ++ worst_json worst))
+
+-- that of a measure of a port: how much it is, behind its key, the port, and the packet
+abbrev pub worst_on_object : List ℕ → WorstOn → List ℕ
+worst_on_object by w =
+    codes "{\"" ++ (by ++ (codes "\":" ++ (decimal w.by ++ (number_member (codes "of_port") w.port
+    ++ (packet_members w.target ++ codes "}")))))
+
+abbrev pub worst_on_json : List ℕ → Option WorstOn → List ℕ
+worst_on_json by None = codes "null"
+worst_on_json by (Some w) = worst_on_object by w
+
+unfoldable pub worst_on_member : List ℕ → List ℕ → Option WorstOn → List ℕ
+worst_on_member key by worst = codes ",\"" ++ (key ++ (codes "\":" ++ worst_on_json by worst))
 
 abbrev pub columns_members : Tally → List ℕ
 columns_members tally =
-    worst_member (codes "latest_settled") (codes "more_us") tally.settled
-    ++ (worst_member (codes "most_faults") (codes "more") tally.faults
-    ++ worst_member (codes "most_hard_resets") (codes "more") tally.hard_resets)
+    worst_on_member (codes "longest_less_power") (codes "less_power_us") tally.less
+    ++ (worst_on_member (codes "latest_difference") (codes "differs_until_us") tally.until
+    ++ (worst_member (codes "most_faults") tally.faults ++ worst_member (codes "most_hard_resets") tally.hard_resets))
 
 -- the least that a loss leaves, when, and by which ports
 abbrev pub lowest_object : Lowest → List ℕ

@@ -1,10 +1,10 @@
 -- What holds of a packet that is told to be hit.
-use Rattle.std.specs.Prelude.{◌≡◌, ℕ, ◌+◌, false, List, [], ◌∷◌, ◌++◌, map, Contains, Option, Some, Result, Ok}
+use Rattle.std.specs.Prelude.{◌≡◌, ℕ, ◌+◌, false, List, ◌∷◌, ◌++◌, map, Contains, Some, Ok}
 use Rattle.pd_packet.specs.Contents.{Contents}
 use Rattle.pd_packet.specs.declared.fate.Fate.{Fate}
 use Rattle.pd_header.specs.declared.side.Side.{Side}
 use Rattle.pd_line.specs.declared.notes.Start.TheVariants as start
-use Rattle.pd_run.specs.Run.{Move, shown}
+use Rattle.pd_run.specs.Run.{Move, Run, shown}
 use Rattle.pd_run.specs.Shown.{SafeRun}
 use Rattle.pd_scenario.specs.Plan.{count}
 use Rattle.pd_scenario.specs.Plans.{plan_of}
@@ -13,12 +13,13 @@ use Rattle.pd_edit.specs.Edits.{inserted_event}
 use Rattle.pd_edit_lines.specs.declared.edit.EditHappening.TheVariants as edit
 use Rattle.pd_watch.specs.declared.watch.Disturber.{Disturber}
 use Rattle.pd_watch.specs.Watch.{after_steps, all_at_rest, disturber_of, watch_at}
+use Rattle.pd_sweep.specs.Measures.{measures_of}
 use Rattle.pd_sweep.specs.Summaries.{AreFindings}
 use Rattle.pd_sweep.specs.Trials.{IsTrial}
 use Rattle.pd_sweep.specs.Variants.{kind_of, row_variant}
 use Rattle.pd_sweep.specs.declared.choice.Campaign.{Campaign}
 use Rattle.pd_sweep.specs.declared.choice.Loss.{Loss}
-use Rattle.pd_sweep.specs.declared.findings.Findings.{Findings}
+use Rattle.pd_sweep.specs.declared.effect.Effect.{Effect}
 use Rattle.pd_sweep.specs.declared.packets.Target.{Target}
 use Rattle.pd_sweep.specs.declared.trial.Outcome.TheVariants.{Ran}
 use Rattle.pd_sweep.specs.declared.trial.Trial.{Trial}
@@ -47,17 +48,29 @@ pub record IsHit (c v : ScenarioData) (harm : Loss) (t : Target) (moves : List M
   pub is_new : has_id c.events taker.id ≡ false
   pub is_put_in : Contains v.events (inserted_event taker.id t.at (edit.OnPort t.port (kind_of harm)))
 
--- it is so in the safe run of the variant, of which these findings are told
-pub record RanHit (n : ℕ) (c : ScenarioData) (campaign : Campaign) (t : Target) (findings : Findings) : Type 0 where
+-- it is so in the safe run of the variant, of which these findings are told; and the measures are those of that run beside the safe run
+-- of the scenario
+pub record RanHit (n : ℕ) (c : ScenarioData) (campaign : Campaign) (t : Target) (effect : Effect) : Type 0 where
   pub variant : ScenarioData
   pub variant_is : row_variant campaign.behind n c campaign.loss t ≡ Ok variant
   pub moves : List Move
   pub safe : SafeRun (plan_of variant) moves
-  pub found : AreFindings (plan_of variant) (map shown moves) findings
+  pub found : AreFindings (plan_of variant) (map shown moves) effect.findings
+  pub base : List Move
+  pub base_safe : SafeRun (plan_of c) base
+  pub measured : effect.measures ≡ measures_of (plan_of c).end (map shown base) (map shown moves)
   pub hit : IsHit c variant campaign.loss t moves
 
 -- So is each packet hit of which the line tells a run.
 abbrev pub HitsAreTrue : Type 0
 HitsAreTrue =
-    (n : ℕ) (c : ScenarioData) (campaign : Campaign) (trial : Trial) (findings : Findings) → IsTrial n c campaign trial
-    → trial.outcome ≡ Ran findings → RanHit n c campaign trial.target findings
+    (n : ℕ) (c : ScenarioData) (campaign : Campaign) (trial : Trial) (effect : Effect) → IsTrial n c campaign trial
+    → trial.outcome ≡ Ran effect → RanHit n c campaign trial.target effect
+
+-- The measures of a line are those of any run of the variant beside any run of the scenario: there is one of each.
+abbrev pub MeasuresAreTrue : Type 0
+MeasuresAreTrue =
+    (n : ℕ) (c v : ScenarioData) (campaign : Campaign) (trial : Trial) (effect : Effect) (base moves : List Move)
+    → IsTrial n c campaign trial → trial.outcome ≡ Ran effect → row_variant campaign.behind n c campaign.loss trial.target ≡ Ok v
+    → Run (plan_of c) base → Run (plan_of v) moves
+    → effect.measures ≡ measures_of (plan_of c).end (map shown base) (map shown moves)

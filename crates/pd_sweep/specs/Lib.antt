@@ -8,8 +8,10 @@ pub mod Rows
 pub mod Sweeps
 pub mod Texts
 pub mod Along
+pub mod Beside
 pub mod Choices
 pub mod Laws
+pub mod Measures
 pub mod Summaries
 pub mod Tallies
 pub mod Trials

@@ -1,5 +1,5 @@
 -- A trial as a JSON object, and the summary of all: the keys of a shown run, with a number's unit at the end of its key.
-use Rattle.std.specs.Prelude.{ℕ, ◌+◌, nat_lt, Bool, List, [], ◌∷◌, ◌++◌, codes, decimal, if◌then◌else◌, Option, Some, None}
+use Rattle.std.specs.Prelude.{ℕ, ◌+◌, nat_lt, Bool, List, [], ◌∷◌, ◌++◌, codes, decimal, if◌then◌else◌, Option, Some, None, is_some}
 use Rattle.pd_symbols.specs.declared.channel.Channel.{Channel}
 use Rattle.pd_header.specs.Header.{id_of}
 use Rattle.pd_header.specs.Kinds.{kind_of_header, name_of}
@@ -7,11 +7,14 @@ use Rattle.pd_objects.specs.declared.contract.Contract.{Contract}
 use Rattle.pd_edit_lines.specs.Numbers.{number_of}
 use Rattle.pd_tell.specs.Members.{number_member, text_member}
 use Rattle.pd_tell.specs.Words.{side_words}
-use Rattle.pd_sweep.specs.Words.{are_same, is_same, listed}
+use Rattle.pd_sweep.specs.Words.{are_same, extent_of, is_same, listed, makes_difference}
+use Rattle.pd_sweep.specs.declared.effect.Effect.{Effect}
 use Rattle.pd_sweep.specs.declared.findings.Findings.{Findings}
 use Rattle.pd_sweep.specs.declared.makers.Makers.{Makers}
 use Rattle.pd_sweep.specs.declared.packets.Target.{Target}
-use Rattle.pd_sweep.specs.declared.summary.Summary.{Summary}
+use Rattle.pd_sweep.specs.declared.measure.Extent.TheVariants.{Until}
+use Rattle.pd_sweep.specs.declared.measure.Measure.{Measure}
+use Rattle.pd_sweep.specs.declared.summary.Mishaps.{Mishaps}
 use Rattle.pd_sweep.specs.declared.trial.Outcome.{Outcome}
 use Rattle.pd_sweep.specs.declared.trial.Outcome.TheVariants.{Ran, Missed, Disturbed, Barred}
 use Rattle.pd_sweep.specs.declared.trial.Trial.{Trial}
@@ -71,18 +74,32 @@ change_objects lead port (old ∷ olds) (new ∷ news) =
 unfoldable pub changes_member : List (Option Contract) → List (Option Contract) → List ℕ
 changes_member olds news = codes ",\"contracts\":[" ++ (change_objects [] 1 olds news ++ codes "]")
 
+-- ---- the time over which contracts are others
+
+-- a port whose contract ever is another
+unfoldable pub port_object : ℕ → Measure → List ℕ
+port_object port m =
+    codes "{\"port\":" ++ (decimal port ++ (number_member (codes "less_power_us") m.less
+    ++ (number_member (codes "more_power_us") m.more ++ (number_member (codes "differs_until_us") (extent_of Until m) ++ codes "}"))))
+
+-- these ports, from one on: the first behind some words, and each further one behind a comma
+unfoldable pub port_objects : List ℕ → ℕ → List Measure → List ℕ
+port_objects lead port [] = []
+port_objects lead port (m ∷ ms) =
+    if is_some m.until then lead ++ (port_object port m ++ port_objects (codes ",") (port + 1) ms)
+    else port_objects lead (port + 1) ms
+
+unfoldable pub measures_member : List Measure → List ℕ
+measures_member measures = codes ",\"ports\":[" ++ (port_objects [] 1 measures ++ codes "]")
+
 -- ---- the run in which a packet is lost beside the one in which it isn't
 
-abbrev pub later_members : Summary → Summary → List ℕ
-later_members old new =
-    signed_member (codes "settled_us") old.standing.settled new.standing.settled
-    ++ (signed_member (codes "faults") old.mishaps.faults new.mishaps.faults
-    ++ signed_member (codes "hard_resets") old.mishaps.hard_resets new.mishaps.hard_resets)
+abbrev pub mishaps_members : Mishaps → Mishaps → List ℕ
+mishaps_members old new =
+    signed_member (codes "faults") old.faults new.faults ++ signed_member (codes "hard_resets") old.hard_resets new.hard_resets
 
-abbrev pub summary_members : Summary → Summary → List ℕ
-summary_members old new =
-    flag_member (codes "same_contracts") (are_same old.standing.contracts new.standing.contracts)
-    ++ (changes_member old.standing.contracts new.standing.contracts ++ later_members old new)
+abbrev pub contracts_members : List (Option Contract) → List (Option Contract) → List ℕ
+contracts_members olds news = flag_member (codes "same_contracts") (are_same olds news) ++ changes_member olds news
 
 -- the ports whose contracts are made at an instant
 unfoldable pub ports_member : Makers → List ℕ
@@ -101,13 +118,19 @@ lower_members old new =
 abbrev pub margin_members : Findings → Findings → List ℕ
 margin_members old new = number_member (codes "least_margin_uw") new.margin.left ++ lower_members old new
 
-abbrev pub run_members : Findings → Findings → List ℕ
-run_members old new = summary_members old.summary new.summary ++ margin_members old new
+abbrev pub findings_members : Findings → Findings → List ℕ
+findings_members old new = mishaps_members old.summary.mishaps new.summary.mishaps ++ margin_members old new
+
+abbrev pub run_members : Findings → Effect → List ℕ
+run_members old effect =
+    flag_member (codes "difference") (makes_difference old effect)
+    ++ (contracts_members old.summary.standing.contracts effect.findings.summary.standing.contracts
+    ++ (measures_member effect.measures ++ findings_members old effect.findings))
 
 -- ---- what comes of losing a packet
 
-abbrev pub hit_members : Findings → Findings → List ℕ
-hit_members old new = text_member (codes "outcome") (codes "hit") ++ run_members old new
+abbrev pub hit_members : Findings → Effect → List ℕ
+hit_members old effect = text_member (codes "outcome") (codes "hit") ++ run_members old effect
 
 abbrev pub refused_members : ℕ → List ℕ
 refused_members number = text_member (codes "outcome") (codes "refused") ++ number_member (codes "refusal") number
@@ -117,7 +140,7 @@ barred_members NoId = text_member (codes "outcome") (codes "no_id")
 barred_members (Refused fault) = refused_members (number_of fault)
 
 abbrev pub outcome_members : Findings → Outcome → List ℕ
-outcome_members old (Ran new) = hit_members old new
+outcome_members old (Ran effect) = hit_members old effect
 outcome_members old Missed = text_member (codes "outcome") (codes "not_hit")
 outcome_members old Disturbed = text_member (codes "outcome") (codes "disturbed")
 outcome_members old (Barred obstacle) = barred_members obstacle

@@ -10,13 +10,18 @@ use Rattle.pd_line.specs.declared.notes.Start.{Start}
 use Rattle.pd_line.specs.declared.notes.Start.TheVariants.{Packet, HardReset}
 use Rattle.pd_port.specs.declared.entry.Entry.{Entry}
 use Rattle.pd_run.specs.Shown.{Shows}
+use Rattle.pd_scenario.specs.Plan.{Plan}
 use Rattle.pd_scenario.specs.Plans.{plan_of}
 use Rattle.pd_scenario.specs.Scenarios.{ScenarioData, has_id}
 use Rattle.pd_scenario.specs.declared.event.ScenarioEvent.{ScenarioEvent}
 use Rattle.pd_watch.specs.Watch.{WatchData, after_entry, at_rest, disturber_of, id_of}
+use Rattle.pd_sweep.specs.Beside.{AreInOrder}
+use Rattle.pd_sweep.specs.Measures.{measures_of, steps_of}
 use Rattle.pd_sweep.specs.Summaries.{AreFindings}
 use Rattle.pd_sweep.specs.Variants.{row_variant}
+use Rattle.pd_sweep.specs.declared.base.Base.{Base}
 use Rattle.pd_sweep.specs.declared.choice.Campaign.{Campaign}
+use Rattle.pd_sweep.specs.declared.effect.Effect.{Effect}
 use Rattle.pd_sweep.specs.declared.packets.Target.{Target}
 use Rattle.pd_sweep.specs.declared.trial.Outcome.{Outcome}
 use Rattle.pd_sweep.specs.declared.trial.Outcome.TheVariants.{Ran, Missed, Disturbed, Barred}
@@ -69,20 +74,41 @@ AreBefore at moves = AllByRecursion (λ move. move.1.at < at) moves
 abbrev pub is_hit : List ScenarioEvent → Target → List (ℕ × Entry) → Bool
 is_hit events t moves = hit_from events t at_rest moves
 
--- what the run of a scenario comes to, which is safe: what is found of it where the packet is hit in it by an event that none of these is
-abbrev pub IsRunOf : List ScenarioEvent → ScenarioData → Target → Outcome → Type 0
-IsRunOf events c target (Ran findings) =
-    (moves : List (ℕ × Entry)) × Shows (plan_of c) moves × (is_hit events target moves ≡ true) × AreFindings (plan_of c) moves findings
-IsRunOf events c target Missed = (moves : List (ℕ × Entry)) × Shows (plan_of c) moves × (is_hit events target moves ≡ false)
-IsRunOf events c target Disturbed = ⊥
-IsRunOf events c target (Barred obstacle) = ⊥
+-- The packet is hit in the run of a variant of a scenario, by an event that the scenario doesn't have; and these are what is found of
+-- that run, and how the contracts in it differ from those in the scenario's own run. Both runs are safe.
+pub record IsEffect (c v : ScenarioData) (target : Target) (effect : Effect) : Type 0 where
+  pub base : List (ℕ × Entry)
+  pub base_shows : Shows (plan_of c) base
+  pub moves : List (ℕ × Entry)
+  pub shows : Shows (plan_of v) moves
+  pub hit : is_hit c.events target moves ≡ true
+  pub found : AreFindings (plan_of v) moves effect.findings
+  pub measured : effect.measures ≡ measures_of (plan_of c).end base moves
 
-abbrev pub IsOfVariant : List ScenarioEvent → Result ScenarioData Obstacle → Target → Outcome → Type 0
-IsOfVariant events (Ok c) target outcome = IsRunOf events c target outcome
-IsOfVariant events (Err obstacle) target outcome = outcome ≡ Barred obstacle
+-- what the run of a variant of a scenario comes to
+abbrev pub IsRunOf : ScenarioData → ScenarioData → Target → Outcome → Type 0
+IsRunOf c v target (Ran effect) = IsEffect c v target effect
+IsRunOf c v target Missed = (moves : List (ℕ × Entry)) × Shows (plan_of v) moves × (is_hit c.events target moves ≡ false)
+IsRunOf c v target Disturbed = ⊥
+IsRunOf c v target (Barred obstacle) = ⊥
+
+abbrev pub IsOfVariant : ScenarioData → Result ScenarioData Obstacle → Target → Outcome → Type 0
+IsOfVariant c (Ok v) target outcome = IsRunOf c v target outcome
+IsOfVariant c (Err obstacle) target outcome = outcome ≡ Barred obstacle
 
 -- the run in which the packet is lost; a packet that the scenario itself disturbs has none
 abbrev pub IsTrial : ℕ → ScenarioData → Campaign → Trial → Type 0
 IsTrial n c campaign trial =
     MatchBool trial.target.disturbed (trial.outcome ≡ Disturbed)
-    (IsOfVariant c.events (row_variant campaign.behind n c campaign.loss trial.target) trial.target trial.outcome)
+    (IsOfVariant c (row_variant campaign.behind n c campaign.loss trial.target) trial.target trial.outcome)
+
+-- what is kept of the run of a plan, to tell others beside it: what is found of it, and its changes of contracts before the plan's end
+pub record IsBase (plan : Plan) (moves : List (ℕ × Entry)) (base : Base) : Type 0 where
+  pub found : AreFindings plan moves base.findings
+  pub steps_are : base.steps.items ≡ steps_of plan.end moves
+  pub in_order : AreInOrder plan.end base.steps.items
+
+pub record IsBaseOf (c : ScenarioData) (base : Base) : Type 0 where
+  pub moves : List (ℕ × Entry)
+  pub shows : Shows (plan_of c) moves
+  pub is : IsBase (plan_of c) moves base

@@ -1,6 +1,7 @@
 -- A trial as a line of text: this product's own form, as docs/FORMATS.md has it under Sweep.
 use Rattle.std.specs.Prelude.{ℕ, ◌+◌, ◌-◌, ◌==◌, ◌&&◌, nat_le, nat_lt, Bool, true, false, if◌then◌else◌, List, [], ◌∷◌, ◌++◌, codes}
-use Rattle.std.specs.Prelude.{decimal, Option, Some, None}
+use Rattle.std.specs.Prelude.{decimal, not, Option, Some, None, is_none, is_some}
+use Rattle.std.specs.Option.{option_map_or}
 use Rattle.pd_symbols.specs.declared.channel.Channel.{Channel}
 use Rattle.pd_symbols.specs.declared.channel.Channel.TheVariants.{Sop, SopPrime}
 use Rattle.pd_header.specs.Header.{id_of}
@@ -9,9 +10,13 @@ use Rattle.pd_objects.specs.declared.contract.Contract.{Contract}
 use Rattle.pd_device.specs.Text.{right}
 use Rattle.pd_edit_lines.specs.Numbers.{number_of}
 use Rattle.pd_tell.specs.Words.{contract_words, side_words}
+use Rattle.pd_sweep.specs.declared.effect.Effect.{Effect}
 use Rattle.pd_sweep.specs.declared.findings.Findings.{Findings}
 use Rattle.pd_sweep.specs.declared.makers.Makers.{Makers}
-use Rattle.pd_sweep.specs.declared.summary.Summary.{Summary}
+use Rattle.pd_sweep.specs.declared.measure.Extent.{Extent}
+use Rattle.pd_sweep.specs.declared.measure.Extent.TheVariants.{Less, More, Until}
+use Rattle.pd_sweep.specs.declared.measure.Measure.{Measure}
+use Rattle.pd_sweep.specs.declared.summary.Mishaps.{Mishaps}
 use Rattle.pd_sweep.specs.declared.packets.Target.{Target}
 use Rattle.pd_sweep.specs.declared.trial.Outcome.{Outcome}
 use Rattle.pd_sweep.specs.declared.trial.Outcome.TheVariants.{Ran, Missed, Disturbed, Barred}
@@ -50,6 +55,23 @@ are_same [] news = true
 are_same (old ∷ olds) [] = true
 are_same (old ∷ olds) (new ∷ news) = is_same old new && are_same olds news
 
+-- no port's contract ever is another
+abbrev pub are_steady : List Measure → Bool
+are_steady [] = true
+are_steady (m ∷ ms) = is_none m.until && are_steady ms
+
+-- A contract is another at some instant, or at the end, or the least that is left of the budget is.
+abbrev pub makes_difference : Findings → Effect → Bool
+makes_difference old effect =
+    not (are_steady effect.measures && are_same old.summary.standing.contracts effect.findings.summary.standing.contracts
+    && old.margin.left == effect.findings.margin.left)
+
+-- one of the three that are measured of a port
+abbrev pub extent_of : Extent → Measure → ℕ
+extent_of Less m = m.less
+extent_of More m = m.more
+extent_of Until m = option_map_or (λ t. t) m.until 0
+
 abbrev pub others_words : List (Option Contract) → List (Option Contract) → List ℕ
 others_words olds news = codes "other contracts" ++ changes_from 1 olds news
 
@@ -79,13 +101,36 @@ unfoldable pub packet_words : Target → List ℕ
 packet_words t =
     right t.at ++ (codes " port " ++ (decimal t.port ++ (32 ∷ (side_words t.side ++ message_words t.channel t.header))))
 
--- the summary of the run in which a packet is lost beside that of the one in which it isn't
-unfoldable pub summary_words : Summary → Summary → List ℕ
-summary_words old new =
-    contracts_words old.standing.contracts new.standing.contracts
-    ++ (codes ", settled " ++ (more_words old.standing.settled new.standing.settled
-    ++ (codes " us, faults " ++ (more_words old.mishaps.faults new.mishaps.faults
-    ++ (codes ", hard resets " ++ more_words old.mishaps.hard_resets new.mishaps.hard_resets)))))
+-- for how long something is so, where it ever is
+abbrev pub time_words : List ℕ → ℕ → List ℕ
+time_words words time = if time == 0 then [] else words ++ (decimal time ++ codes " us,")
+
+-- for how long a port's power is less and for how long it is more, and until when its contract is another
+abbrev pub measure_words : Measure → List ℕ
+measure_words m =
+    time_words (codes " less power for ") m.less ++ (time_words (codes " more power for ") m.more
+    ++ (codes " differs until " ++ decimal (extent_of Until m)))
+
+-- the ports whose contracts ever are others, from one on: the first behind some words, and each further one behind others
+unfoldable pub ports_words : List ℕ → List ℕ → ℕ → List Measure → List ℕ
+ports_words first next port [] = []
+ports_words first next port (m ∷ ms) =
+    if is_some m.until then first ++ (decimal port ++ (measure_words m ++ ports_words next next (port + 1) ms))
+    else ports_words first next (port + 1) ms
+
+-- how many more there are than there were, or less, where they aren't as many
+abbrev pub others_counted : List ℕ → ℕ → ℕ → List ℕ
+others_counted words old new = if old == new then [] else words ++ more_words old new
+
+-- what stands before the Hard Resets: they are told behind the faults
+abbrev pub resets_lead : ℕ → ℕ → List ℕ
+resets_lead old new = if old == new then codes "; hard resets " else codes ", hard resets "
+
+-- the faults and the Hard Resets, where they aren't as many
+abbrev pub mishaps_words : Mishaps → Mishaps → List ℕ
+mishaps_words old new =
+    others_counted (codes "; faults ") old.faults new.faults
+    ++ others_counted (resets_lead old.faults new.faults) old.hard_resets new.hard_resets
 
 -- the ports that are marked, from one on: the first behind some words, and each further one behind others
 unfoldable pub listed : List ℕ → List ℕ → ℕ → List Bool → List ℕ
@@ -107,11 +152,22 @@ lower_words old new = if nat_lt new.margin.left old.margin.left then instant_wor
 
 -- the least that is left of the budget at the end of an instant
 abbrev pub margin_words : Findings → Findings → List ℕ
-margin_words old new = codes ", least margin " ++ (decimal new.margin.left ++ lower_words old new)
+margin_words old new = codes "; least margin " ++ (decimal new.margin.left ++ lower_words old new)
 
 -- the run in which a packet is lost beside the one in which it isn't
-abbrev pub run_words : Findings → Findings → List ℕ
-run_words old new = summary_words old.summary new.summary ++ margin_words old new
+unfoldable pub effect_words : Findings → Effect → List ℕ
+effect_words old effect =
+    contracts_words old.summary.standing.contracts effect.findings.summary.standing.contracts
+    ++ (ports_words (codes "; port ") (codes "; port ") 1 effect.measures
+    ++ (mishaps_words old.summary.mishaps effect.findings.summary.mishaps ++ margin_words old effect.findings))
+
+-- or that it makes no difference
+abbrev pub quiet_words : Mishaps → Mishaps → List ℕ
+quiet_words old new = codes "no difference" ++ mishaps_words old new
+
+abbrev pub run_words : Findings → Effect → List ℕ
+run_words old effect =
+    if makes_difference old effect then effect_words old effect else quiet_words old.summary.mishaps effect.findings.summary.mishaps
 
 -- why a packet can't be lost
 abbrev pub obstacle_words : Obstacle → List ℕ
@@ -119,7 +175,7 @@ obstacle_words NoId = codes "no id is free"
 obstacle_words (Refused fault) = codes "refused " ++ decimal (number_of fault)
 
 abbrev pub outcome_words : Findings → Outcome → List ℕ
-outcome_words old (Ran new) = run_words old new
+outcome_words old (Ran effect) = run_words old effect
 outcome_words old Missed = codes "not hit"
 outcome_words old Disturbed = codes "not tried: disturbed already"
 outcome_words old (Barred obstacle) = codes "not tried: " ++ obstacle_words obstacle

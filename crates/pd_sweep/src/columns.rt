@@ -3,66 +3,105 @@
 ghost use Rattle.std.specs.Prelude.{◌≡◌, ◌++◌, OnOk};
 ghost use Rattle.pd_sweep.specs.Columns.{columns_members, counts_members, less_members, lowest_json, lowest_member};
 ghost use Rattle.pd_sweep.specs.Columns.{lowest_object, short_members, tally_members, tally_object, worst_json, worst_member};
-ghost use Rattle.pd_sweep.specs.Columns.{worst_object};
+ghost use Rattle.pd_sweep.specs.Columns.{worst_object, worst_on_json, worst_on_member, worst_on_object};
 
 use crate::objects::{push_instant_members, push_packet_members};
-use crate::{Lowest, Tally, Worst, push_wide};
+use crate::{Lowest, Tally, Worst, WorstOn, push_wide};
 use pd_tell::{push_number, push_number_member};
 use std::alloc::AllocError;
 
-/// Writes how many packets were lost, and how many of the runs end with other contracts.
+/// Writes how many packets were lost, how many of the runs differ, and how many end with other contracts.
 fn push_counts(text: &mut Vec<u8>, tally: &Tally) -> Result<(), AllocError>
     ensures { OnOk result (text.new.items ≡ text.old.items ++ counts_members tally.now) }
 {
     push_number_member(text, b"packets", tally.tried)?;
+    push_number_member(text, b"different", tally.different)?;
     push_number_member(text, b"other_contracts", tally.changed)
 }
 
-/// Writes a column's worst: how much more there is, behind its key, and the packet.
-fn push_worst_object(text: &mut Vec<u8>, more: &[u8], worst: &Worst) -> Result<(), AllocError>
-    ensures { OnOk result (text.new.items ≡ text.old.items ++ worst_object more.now worst.now) }
+/// Writes a column's worst: how much more there is, and the packet.
+fn push_worst_object(text: &mut Vec<u8>, worst: &Worst) -> Result<(), AllocError>
+    ensures { OnOk result (text.new.items ≡ text.old.items ++ worst_object worst.now) }
 {
-    text.extend_from_slice(b"{\"")?;
-    text.extend_from_slice(more)?;
-    text.extend_from_slice(b"\":")?;
+    text.extend_from_slice(b"{\"more\":")?;
     push_wide(text, worst.by)?;
     push_packet_members(text, &worst.target)?;
     text.extend_from_slice(b"}")
 }
 
 /// Writes the same, or that there is none.
-fn push_worst(text: &mut Vec<u8>, more: &[u8], worst: &Option<Worst>) -> Result<(), AllocError>
-    ensures { OnOk result (text.new.items ≡ text.old.items ++ worst_json more.now worst.now) }
+fn push_worst(text: &mut Vec<u8>, worst: &Option<Worst>) -> Result<(), AllocError>
+    ensures { OnOk result (text.new.items ≡ text.old.items ++ worst_json worst.now) }
 {
     match worst {
         None => text.extend_from_slice(b"null"),
-        Some(worst) => push_worst_object(text, more, worst),
+        Some(worst) => push_worst_object(text, worst),
     }
 }
 
 /// Writes a column behind its key.
 #[tactic(auto, unfolding(crate::specs::Columns::worst_member))]
-fn push_column(
-    text: &mut Vec<u8>,
-    key: &[u8],
-    more: &[u8],
-    worst: &Option<Worst>,
-) -> Result<(), AllocError>
-    ensures { OnOk result (text.new.items ≡ text.old.items ++ worst_member key.now more.now worst.now) }
+fn push_column(text: &mut Vec<u8>, key: &[u8], worst: &Option<Worst>) -> Result<(), AllocError>
+    ensures { OnOk result (text.new.items ≡ text.old.items ++ worst_member key.now worst.now) }
 {
     text.extend_from_slice(b",\"")?;
     text.extend_from_slice(key)?;
     text.extend_from_slice(b"\":")?;
-    push_worst(text, more, worst)
+    push_worst(text, worst)
 }
 
-/// Writes the columns of which there may be more than without a loss.
+/// Writes how much a measure of a port is, behind its key, the port, and the packet.
+fn push_worst_on_object(text: &mut Vec<u8>, by: &[u8], worst: &WorstOn) -> Result<(), AllocError>
+    ensures { OnOk result (text.new.items ≡ text.old.items ++ worst_on_object by.now worst.now) }
+{
+    text.extend_from_slice(b"{\"")?;
+    text.extend_from_slice(by)?;
+    text.extend_from_slice(b"\":")?;
+    push_number(text, worst.by)?;
+    push_number_member(text, b"of_port", worst.port)?;
+    push_packet_members(text, &worst.target)?;
+    text.extend_from_slice(b"}")
+}
+
+/// Writes the same, or that there is none.
+fn push_worst_on(text: &mut Vec<u8>, by: &[u8], worst: &Option<WorstOn>) -> Result<(), AllocError>
+    ensures { OnOk result (text.new.items ≡ text.old.items ++ worst_on_json by.now worst.now) }
+{
+    match worst {
+        None => text.extend_from_slice(b"null"),
+        Some(worst) => push_worst_on_object(text, by, worst),
+    }
+}
+
+/// Writes that of a measure behind its key.
+#[tactic(auto, unfolding(crate::specs::Columns::worst_on_member))]
+fn push_measure_column(
+    text: &mut Vec<u8>,
+    key: &[u8],
+    by: &[u8],
+    worst: &Option<WorstOn>,
+) -> Result<(), AllocError>
+    ensures { OnOk result (text.new.items ≡ text.old.items ++ worst_on_member key.now by.now worst.now) }
+{
+    text.extend_from_slice(b",\"")?;
+    text.extend_from_slice(key)?;
+    text.extend_from_slice(b"\":")?;
+    push_worst_on(text, by, worst)
+}
+
+/// Writes the columns: the worst of what is measured of a port, and that of which there may be more than without a loss.
 fn push_columns(text: &mut Vec<u8>, tally: &Tally) -> Result<(), AllocError>
     ensures { OnOk result (text.new.items ≡ text.old.items ++ columns_members tally.now) }
 {
-    push_column(text, b"latest_settled", b"more_us", &tally.settled)?;
-    push_column(text, b"most_faults", b"more", &tally.faults)?;
-    push_column(text, b"most_hard_resets", b"more", &tally.hard_resets)
+    push_measure_column(text, b"longest_less_power", b"less_power_us", &tally.less)?;
+    push_measure_column(
+        text,
+        b"latest_difference",
+        b"differs_until_us",
+        &tally.until,
+    )?;
+    push_column(text, b"most_faults", &tally.faults)?;
+    push_column(text, b"most_hard_resets", &tally.hard_resets)
 }
 
 /// Writes the least that a loss leaves, when, and by which ports.

@@ -27,8 +27,9 @@ pub(crate) fn head(form: Form) -> &'static [u8]
     match form {
         Form::Words | Form::Json => b"",
         Form::Csv => {
-            b"at_us,port,side,set,message,id,outcome,same_contracts,contracts,\
-              settled_us,faults,hard_resets,least_margin_uw,lower_at_us,lower_ports\n"
+            b"at_us,port,side,set,message,id,outcome,difference,same_contracts,contracts,\
+              ports,less_power_us,more_power_us,differs_until_us,faults,hard_resets,\
+              least_margin_uw,lower_at_us,lower_ports\n"
         }
     }
 }

@@ -1,19 +1,24 @@
 //! Each packet of a run lost in turn, and what that leads to: lines of words, JSON objects, or comma-separated values.
 #![tactic(auto)]
 
+mod base;
+mod beside;
 mod choice;
 mod columns;
 mod count;
+mod effect;
 mod findings;
 mod form;
 mod hit;
 mod laws;
 mod makers;
+mod measure;
 mod names;
 mod objects;
 mod packets;
 mod part;
 mod rows;
+mod steps;
 mod summary;
 mod tally;
 mod texts;
@@ -22,18 +27,22 @@ mod variant;
 mod walk;
 mod words;
 
+pub use base::Base;
+pub use beside::{Ledger, Whose, measures};
 pub use choice::{Campaign, Choice, Loss};
 pub use count::packet_count;
+pub use effect::Effect;
 pub use findings::Findings;
 pub use form::Form;
 pub use hit::is_hit;
-pub use laws::{hits_are_true, parts_are_the_sweep};
+pub use laws::{hits_are_true, measures_are_true, parts_are_the_sweep};
 pub use makers::{Makers, makers_of};
+pub use measure::{Extent, Measure, Step};
 pub use packets::{Target, chosen};
 pub use part::Part;
 pub use pd_scene::{Refused, SceneFault};
 pub use summary::{Mishaps, Standing, Summary, summary_of};
-pub use tally::{Lowest, Tally, Worst, push_tally};
+pub use tally::{Lowest, Tally, Worst, WorstOn, push_tally};
 pub use texts::{sweep_part_text, sweep_text};
 pub use trial::{Outcome, Trial, try_packet};
 pub use variant::{Obstacle, row_variant_of, variant_of};

@@ -2,14 +2,15 @@
 
 ghost use Rattle.std.specs.Prelude.{◌≡◌, ◌+◌, ◌<◌, ◌^◌, ◌++◌, OnOk, length};
 ghost use Rattle.pd_sweep.specs.Objects.{barred_members, change_object, change_objects, changes_member, contract_json};
-ghost use Rattle.pd_sweep.specs.Objects.{contract_object, flag_member, hit_members, instant_members, later_members};
-ghost use Rattle.pd_sweep.specs.Objects.{lower_members, margin_members, message_members, outcome_members, packet_members};
-ghost use Rattle.pd_sweep.specs.Objects.{ports_member, refused_members, run_members, signed_member, summary_members};
-ghost use Rattle.pd_sweep.specs.Objects.{trial_object};
+ghost use Rattle.pd_sweep.specs.Objects.{contract_object, contracts_members, findings_members, flag_member, hit_members};
+ghost use Rattle.pd_sweep.specs.Objects.{instant_members, lower_members, margin_members, measures_member, message_members};
+ghost use Rattle.pd_sweep.specs.Objects.{mishaps_members, outcome_members, packet_members, port_object, port_objects};
+ghost use Rattle.pd_sweep.specs.Objects.{ports_member, refused_members, run_members, signed_member, trial_object};
 
 use crate::names::{push_signed, set_name, truth};
 use crate::{
-    Findings, Makers, Obstacle, Outcome, Summary, Target, Trial, are_same, is_same, push_listed,
+    Effect, Extent, Findings, Makers, Measure, Mishaps, Obstacle, Outcome, Target, Trial, are_same,
+    is_same, push_listed,
 };
 use pd_header::{header_id, header_kind};
 use pd_objects::Contract;
@@ -148,32 +149,70 @@ fn push_changes_member(
     Ok(())
 }
 
-/// Writes how much later the last contract changes, and how many faults and Hard Resets there are more.
-fn push_later(text: &mut Vec<u8>, old: &Summary, new: &Summary) -> Result<(), AllocError>
-    ensures { OnOk result (text.new.items ≡ text.old.items ++ later_members old.now new.now) }
+/// Writes whether the contracts at the end are the same, and which are others.
+fn push_contracts_members(
+    text: &mut Vec<u8>,
+    olds: &[Option<Contract>; 8],
+    news: &[Option<Contract>; 8],
+) -> Result<(), AllocError>
+    ensures { OnOk result (text.new.items ≡ text.old.items ++ contracts_members olds.now news.now) }
 {
-    let (before, after) = (
-        u128::from(old.standing.settled),
-        u128::from(new.standing.settled),
-    );
-    push_signed_member(text, b"settled_us", before, after)?;
-    push_signed_member(text, b"faults", old.mishaps.faults, new.mishaps.faults)?;
-    push_signed_member(
-        text,
-        b"hard_resets",
-        old.mishaps.hard_resets,
-        new.mishaps.hard_resets,
-    )
+    push_flag(text, b"same_contracts", are_same(olds, news))?;
+    push_changes_member(text, olds, news)
 }
 
-/// Writes the summary of a run beside that of the one without the loss.
-fn push_summary(text: &mut Vec<u8>, old: &Summary, new: &Summary) -> Result<(), AllocError>
-    ensures { OnOk result (text.new.items ≡ text.old.items ++ summary_members old.now new.now) }
+/// Writes a port whose contract ever is another.
+#[tactic(auto, unfolding(crate::specs::Objects::port_object))]
+fn push_port(text: &mut Vec<u8>, port: u64, measure: &Measure) -> Result<(), AllocError>
+    ensures { OnOk result (text.new.items ≡ text.old.items ++ port_object port measure.now) }
 {
-    let (olds, news) = (&old.standing.contracts, &new.standing.contracts);
-    push_flag(text, b"same_contracts", are_same(olds, news))?;
-    push_changes_member(text, olds, news)?;
-    push_later(text, old, new)
+    text.extend_from_slice(b"{\"port\":")?;
+    push_number(text, port)?;
+    push_number_member(text, b"less_power_us", measure.less)?;
+    push_number_member(text, b"more_power_us", measure.more)?;
+    push_number_member(text, b"differs_until_us", measure.extent(Extent::Until))?;
+    text.extend_from_slice(b"}")
+}
+
+/// Writes these ports, from one on: the first behind some words, each further one behind a comma.
+#[tactic(auto, unfolding(crate::specs::Objects::port_objects))]
+fn push_port_objects(
+    text: &mut Vec<u8>,
+    lead: &[u8],
+    port: u64,
+    measures: &[Measure],
+) -> Result<(), AllocError>
+    requires { port + length measures.now < 2 ^ 64 }
+    ensures { OnOk result (text.new.items ≡ text.old.items ++ port_objects lead.now port measures.now) }
+{
+    let [measure, measures @ ..] = measures else {
+        return Ok(());
+    };
+    if !measure.until.is_some() {
+        return push_port_objects(text, lead, port + 1, measures);
+    }
+    text.extend_from_slice(lead)?;
+    push_port(text, port, measure)?;
+    push_port_objects(text, b",", port + 1, measures)
+}
+
+/// Writes for how long, and until when, the ports' contracts are others.
+#[tactic(auto, unfolding(crate::specs::Objects::measures_member))]
+fn push_measures(text: &mut Vec<u8>, measures: &[Measure; 8]) -> Result<(), AllocError>
+    ensures { OnOk result (text.new.items ≡ text.old.items ++ measures_member measures.now) }
+{
+    text.extend_from_slice(b",\"ports\":[")?;
+    push_port_objects(text, b"", 1, measures)?;
+    text.extend_from_slice(b"]")?;
+    Ok(())
+}
+
+/// Writes how many faults and Hard Resets there are more.
+fn push_mishaps(text: &mut Vec<u8>, old: &Mishaps, new: &Mishaps) -> Result<(), AllocError>
+    ensures { OnOk result (text.new.items ≡ text.old.items ++ mishaps_members old.now new.now) }
+{
+    push_signed_member(text, b"faults", old.faults, new.faults)?;
+    push_signed_member(text, b"hard_resets", old.hard_resets, new.hard_resets)
 }
 
 /// Writes the ports whose contracts are made at an instant.
@@ -217,20 +256,31 @@ fn push_margin(text: &mut Vec<u8>, old: &Findings, new: &Findings) -> Result<(),
     push_lower(text, old, new)
 }
 
-/// Writes the run in which a packet is lost beside the one in which it isn't.
-fn push_run(text: &mut Vec<u8>, old: &Findings, new: &Findings) -> Result<(), AllocError>
-    ensures { OnOk result (text.new.items ≡ text.old.items ++ run_members old.now new.now) }
+/// Writes what is found of the run in which a packet is lost beside what is found of the one in which it isn't.
+fn push_findings(text: &mut Vec<u8>, old: &Findings, new: &Findings) -> Result<(), AllocError>
+    ensures { OnOk result (text.new.items ≡ text.old.items ++ findings_members old.now new.now) }
 {
-    push_summary(text, &old.summary, &new.summary)?;
+    push_mishaps(text, &old.summary.mishaps, &new.summary.mishaps)?;
     push_margin(text, old, new)
 }
 
+/// Writes the run in which a packet is lost beside the one in which it isn't.
+fn push_run(text: &mut Vec<u8>, old: &Findings, effect: &Effect) -> Result<(), AllocError>
+    ensures { OnOk result (text.new.items ≡ text.old.items ++ run_members old.now effect.now) }
+{
+    let (before, after) = (&old.summary.standing, &effect.findings.summary.standing);
+    push_flag(text, b"difference", effect.makes_difference(old))?;
+    push_contracts_members(text, &before.contracts, &after.contracts)?;
+    push_measures(text, &effect.measures)?;
+    push_findings(text, old, &effect.findings)
+}
+
 /// Writes that a packet is hit, and the run in which it is.
-fn push_hit(text: &mut Vec<u8>, old: &Findings, new: &Findings) -> Result<(), AllocError>
-    ensures { OnOk result (text.new.items ≡ text.old.items ++ hit_members old.now new.now) }
+fn push_hit(text: &mut Vec<u8>, old: &Findings, effect: &Effect) -> Result<(), AllocError>
+    ensures { OnOk result (text.new.items ≡ text.old.items ++ hit_members old.now effect.now) }
 {
     push_text_member(text, b"outcome", b"hit")?;
-    push_run(text, old, new)
+    push_run(text, old, effect)
 }
 
 /// Writes that the event is refused.
@@ -256,7 +306,7 @@ fn push_outcome(text: &mut Vec<u8>, old: &Findings, outcome: &Outcome) -> Result
     ensures { OnOk result (text.new.items ≡ text.old.items ++ outcome_members old.now outcome.now) }
 {
     match outcome {
-        Outcome::Ran(new) => push_hit(text, old, new),
+        Outcome::Ran(effect) => push_hit(text, old, effect),
         Outcome::Missed => push_text_member(text, b"outcome", b"not_hit"),
         Outcome::Disturbed => push_text_member(text, b"outcome", b"disturbed"),
         Outcome::Barred(obstacle) => push_barred(text, obstacle),

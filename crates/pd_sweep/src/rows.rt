@@ -1,14 +1,15 @@
 //! A trial as comma-separated values.
 
 ghost use Rattle.std.specs.Prelude.{◌≡◌, ◌++◌, OnOk};
-ghost use Rattle.pd_sweep.specs.Rows.{barred_values, contracts_values, hit_values, instant_values, later_values, lower_values};
-ghost use Rattle.pd_sweep.specs.Rows.{margin_values, message_values, more_value, outcome_values, packet_values, run_values};
-ghost use Rattle.pd_sweep.specs.Rows.{trial_row};
+ghost use Rattle.pd_sweep.specs.Rows.{barred_values, contracts_values, findings_values, hit_values, instant_values, lower_values};
+ghost use Rattle.pd_sweep.specs.Rows.{margin_values, measures_values, message_values, mishaps_values, more_value, most_of};
+ghost use Rattle.pd_sweep.specs.Rows.{outcome_values, packet_values, run_values, trial_row, until_value};
 
 use crate::names::{push_signed, set_name, truth};
+use crate::words::push_ports;
 use crate::{
-    Findings, Makers, Obstacle, Outcome, Summary, Target, Trial, are_same, push_contracts,
-    push_listed,
+    Effect, Extent, Findings, Makers, Measure, Mishaps, Obstacle, Outcome, Target, Trial, are_same,
+    push_contracts, push_listed,
 };
 use pd_header::{header_id, header_kind};
 use pd_objects::Contract;
@@ -64,17 +65,48 @@ fn push_more(text: &mut Vec<u8>, old: u128, new: u128) -> Result<(), AllocError>
     push_signed(text, old, new)
 }
 
-/// Writes how much later the last contract changes, and how many faults and Hard Resets there are more.
-fn push_later(text: &mut Vec<u8>, old: &Summary, new: &Summary) -> Result<(), AllocError>
-    ensures { OnOk result (text.new.items ≡ text.old.items ++ later_values old.now new.now) }
+/// Writes how many faults and Hard Resets there are more.
+fn push_mishaps(text: &mut Vec<u8>, old: &Mishaps, new: &Mishaps) -> Result<(), AllocError>
+    ensures { OnOk result (text.new.items ≡ text.old.items ++ mishaps_values old.now new.now) }
 {
-    let (before, after) = (
-        u128::from(old.standing.settled),
-        u128::from(new.standing.settled),
-    );
-    push_more(text, before, after)?;
-    push_more(text, old.mishaps.faults, new.mishaps.faults)?;
-    push_more(text, old.mishaps.hard_resets, new.mishaps.hard_resets)
+    push_more(text, old.faults, new.faults)?;
+    push_more(text, old.hard_resets, new.hard_resets)
+}
+
+/// The most of one of the measures over all ports.
+fn most_of(extent: Extent, measures: &[Measure]) -> u64
+    ensures { result ≡ most_of extent measures.now }
+{
+    let mut most = 0;
+    for measure in measures {
+        most = measure.extent(extent).max(most);
+    }
+    most
+}
+
+/// Writes the last instant until which a contract is another, if there is one.
+fn push_until(text: &mut Vec<u8>, until: u64) -> Result<(), AllocError>
+    ensures { OnOk result (text.new.items ≡ text.old.items ++ until_value until) }
+{
+    text.push(b',')?;
+    if until == 0 {
+        return Ok(());
+    }
+    push_number(text, until)
+}
+
+/// Writes the ports whose contracts ever are others, in words, and the most of each measure.
+#[tactic(auto, unfolding(crate::specs::Rows::measures_values))]
+fn push_measures(text: &mut Vec<u8>, measures: &[Measure; 8]) -> Result<(), AllocError>
+    ensures { OnOk result (text.new.items ≡ text.old.items ++ measures_values measures.now) }
+{
+    text.extend_from_slice(b",\"")?;
+    push_ports(text, b"port ", b"; port ", 1, measures)?;
+    text.extend_from_slice(b"\",")?;
+    push_number(text, most_of(Extent::Less, measures))?;
+    text.push(b',')?;
+    push_number(text, most_of(Extent::More, measures))?;
+    push_until(text, most_of(Extent::Until, measures))
 }
 
 /// Writes an instant, and the ports whose contracts are made then.
@@ -107,14 +139,24 @@ fn push_margin(text: &mut Vec<u8>, old: &Findings, new: &Findings) -> Result<(),
     push_lower(text, old, new)
 }
 
-/// Writes the run in which a packet is lost beside the one in which it isn't.
-fn push_run(text: &mut Vec<u8>, old: &Findings, new: &Findings) -> Result<(), AllocError>
-    ensures { OnOk result (text.new.items ≡ text.old.items ++ run_values old.now new.now) }
+/// Writes what is found of the run in which a packet is lost beside what is found of the one in which it isn't.
+fn push_findings(text: &mut Vec<u8>, old: &Findings, new: &Findings) -> Result<(), AllocError>
+    ensures { OnOk result (text.new.items ≡ text.old.items ++ findings_values old.now new.now) }
 {
-    let (before, after) = (&old.summary.standing, &new.summary.standing);
-    push_contracts_values(text, &before.contracts, &after.contracts)?;
-    push_later(text, &old.summary, &new.summary)?;
+    push_mishaps(text, &old.summary.mishaps, &new.summary.mishaps)?;
     push_margin(text, old, new)
+}
+
+/// Writes the run in which a packet is lost beside the one in which it isn't.
+fn push_run(text: &mut Vec<u8>, old: &Findings, effect: &Effect) -> Result<(), AllocError>
+    ensures { OnOk result (text.new.items ≡ text.old.items ++ run_values old.now effect.now) }
+{
+    let (before, after) = (&old.summary.standing, &effect.findings.summary.standing);
+    text.extend_from_slice(b",")?;
+    text.extend_from_slice(truth(effect.makes_difference(old)))?;
+    push_contracts_values(text, &before.contracts, &after.contracts)?;
+    push_measures(text, &effect.measures)?;
+    push_findings(text, old, &effect.findings)
 }
 
 /// Writes why a packet can't be lost.
@@ -122,21 +164,21 @@ fn push_barred(text: &mut Vec<u8>, obstacle: &Obstacle) -> Result<(), AllocError
     ensures { OnOk result (text.new.items ≡ text.old.items ++ barred_values obstacle.now) }
 {
     match obstacle {
-        Obstacle::NoId => text.extend_from_slice(b",no_id,,,,,,,,"),
+        Obstacle::NoId => text.extend_from_slice(b",no_id,,,,,,,,,,,,"),
         Obstacle::Refused(fault) => {
             text.extend_from_slice(b",refused ")?;
             push_number(text, u64::from(fault.number()))?;
-            text.extend_from_slice(b",,,,,,,,")
+            text.extend_from_slice(b",,,,,,,,,,,,")
         }
     }
 }
 
 /// Writes that a packet is hit, and the run in which it is.
-fn push_hit(text: &mut Vec<u8>, old: &Findings, new: &Findings) -> Result<(), AllocError>
-    ensures { OnOk result (text.new.items ≡ text.old.items ++ hit_values old.now new.now) }
+fn push_hit(text: &mut Vec<u8>, old: &Findings, effect: &Effect) -> Result<(), AllocError>
+    ensures { OnOk result (text.new.items ≡ text.old.items ++ hit_values old.now effect.now) }
 {
     text.extend_from_slice(b",hit")?;
-    push_run(text, old, new)
+    push_run(text, old, effect)
 }
 
 /// Writes what comes of losing a packet.
@@ -144,9 +186,9 @@ fn push_outcome(text: &mut Vec<u8>, old: &Findings, outcome: &Outcome) -> Result
     ensures { OnOk result (text.new.items ≡ text.old.items ++ outcome_values old.now outcome.now) }
 {
     match outcome {
-        Outcome::Ran(new) => push_hit(text, old, new),
-        Outcome::Missed => text.extend_from_slice(b",not_hit,,,,,,,,"),
-        Outcome::Disturbed => text.extend_from_slice(b",disturbed,,,,,,,,"),
+        Outcome::Ran(effect) => push_hit(text, old, effect),
+        Outcome::Missed => text.extend_from_slice(b",not_hit,,,,,,,,,,,,"),
+        Outcome::Disturbed => text.extend_from_slice(b",disturbed,,,,,,,,,,,,"),
         Outcome::Barred(obstacle) => push_barred(text, obstacle),
     }
 }

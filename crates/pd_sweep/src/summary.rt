@@ -31,7 +31,7 @@ pub struct Summary {
 }
 
 /// The contract that a change leaves.
-fn contract_left(change: ContractChange) -> Option<Contract>
+pub(crate) fn contract_left(change: ContractChange) -> Option<Contract>
     ensures { result ≡ contract_left change }
 {
     match change {

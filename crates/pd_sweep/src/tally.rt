@@ -1,15 +1,16 @@
 //! What all trials come to.
 
-ghost use Rattle.std.specs.Prelude.{◌≡◌, ◌+◌, ◌-◌, ◌<◌, ◌≤◌, ◌^◌, ◌++◌, OnOk, if◌then◌else◌};
+ghost use Rattle.std.specs.Prelude.{◌≡◌, ◌+◌, ◌-◌, ◌<◌, ◌≤◌, ◌^◌, ◌++◌, OnOk, if◌then◌else◌, length};
 ghost use Rattle.pd_sweep.specs.Tallies.{column_words, columns_words, counts_words, is_short, least_so_far, less_words, low_words};
-ghost use Rattle.pd_sweep.specs.Tallies.{lower, lowest_line, lowest_words, no_trial, noted_trial, short_words, tally_words, worse};
-ghost use Rattle.pd_sweep.specs.Tallies.{tried_words, worst_words};
+ghost use Rattle.pd_sweep.specs.Tallies.{lower, lowest_line, lowest_words, measure_column, no_trial, noted_trial, on_port_words};
+ghost use Rattle.pd_sweep.specs.Tallies.{short_words, tally_words, tried_words, worse, worse_on, worst_of, worst_on_words};
+ghost use Rattle.pd_sweep.specs.Tallies.{worst_words};
 
-use crate::Target;
 use crate::findings::Findings;
 use crate::makers::Makers;
 use crate::trial::{Outcome, Trial};
 use crate::words::{are_same, push_instant, push_packet, push_wide};
+use crate::{Extent, Measure, Target};
 use pd_report::Margin;
 use pd_tell::push_number;
 use std::alloc::AllocError;
@@ -21,6 +22,14 @@ pub struct Worst {
     pub by: u128,
 }
 
+/// A packet, and how much its loss makes of a measure of a port, numbered from 1.
+#[derive(Clone, Copy, Debug)]
+pub struct WorstOn {
+    pub target: Target,
+    pub port: u64,
+    pub by: u64,
+}
+
 /// A packet, the least that is left of the budget where it is lost, and the ports whose contracts are made then.
 #[derive(Clone, Copy, Debug)]
 pub struct Lowest {
@@ -29,14 +38,17 @@ pub struct Lowest {
     pub makers: Makers,
 }
 
-/// How many packets were tried, how many of the runs end with other contracts, and the worst of each column and its packet: how many
-/// microseconds later the last change of a contract comes, how many faults and how many Hard Resets there are more, and the least
-/// that is left of the budget, where it is less than without a loss; and in how many runs less is left than was to be.
+/// How many packets were tried, how many of the runs differ, how many of them end with other contracts, and the worst of each column
+/// and its packet: for how long a port's power is less, until when a port's contract is another, how many faults and how many Hard
+/// Resets there are more, and the least that is left of the budget, where it is less than without a loss; and in how many runs less
+/// is left than was to be.
 #[derive(Clone, Copy, Debug)]
 pub struct Tally {
     pub tried: u64,
+    pub different: u64,
     pub changed: u64,
-    pub settled: Option<Worst>,
+    pub less: Option<WorstOn>,
+    pub until: Option<WorstOn>,
     pub faults: Option<Worst>,
     pub hard_resets: Option<Worst>,
     pub margin: Option<Lowest>,
@@ -56,6 +68,39 @@ fn worse(best: Option<Worst>, target: Target, by: u128) -> Option<Worst>
     } else {
         best
     }
+}
+
+/// The worse of two of a port.
+fn worse_on(best: Option<WorstOn>, target: Target, port: u64, by: u64) -> Option<WorstOn>
+    ensures { result ≡ worse_on best target port by }
+{
+    let so_far = match best {
+        None => 0,
+        Some(worst) => worst.by,
+    };
+    if so_far < by {
+        Some(WorstOn { target, port, by })
+    } else {
+        best
+    }
+}
+
+/// The worst of one of the measures after those of a packet's run, of the ports from one on.
+fn worst_of(
+    extent: Extent,
+    best: Option<WorstOn>,
+    target: Target,
+    port: u64,
+    measures: &[Measure],
+) -> Option<WorstOn>
+    requires { port + length measures.now < 2 ^ 64 }
+    ensures { result ≡ worst_of extent best target port measures.now }
+{
+    let [measure, measures @ ..] = measures else {
+        return best;
+    };
+    let best = worse_on(best, target, port, measure.extent(extent));
+    worst_of(extent, best, target, port + 1, measures)
 }
 
 /// The least that is left so far, without a loss or with one.
@@ -109,8 +154,10 @@ impl Tally {
     {
         Tally {
             tried: 0,
+            different: 0,
             changed: 0,
-            settled: None,
+            less: None,
+            until: None,
             faults: None,
             hard_resets: None,
             margin: None,
@@ -122,60 +169,109 @@ impl Tally {
     pub fn after(&self, reserve: Option<u64>, old: &Findings, trial: &Trial) -> Tally
         requires room { self.now.tried < 2 ^ 64 - 1 }
         requires few { self.now.changed ≤ self.now.tried }
+        requires few_different { self.now.different ≤ self.now.tried }
         requires few_short { self.now.short ≤ self.now.tried }
         ensures value { result ≡ noted_trial reserve old.now self.now trial.now }
         ensures one { result.tried ≤ self.now.tried + 1 }
         ensures few { result.changed ≤ result.tried }
+        ensures few_different { result.different ≤ result.tried }
         ensures few_short { result.short ≤ result.tried }
     {
-        let Outcome::Ran(new) = trial.outcome else {
+        let Outcome::Ran(effect) = trial.outcome else {
             return *self;
         };
         let target = trial.target;
-        let (before, after) = (&old.summary.standing, &new.summary.standing);
+        let new = &effect.findings;
         let (few, many) = (&old.summary.mishaps, &new.summary.mishaps);
-        let later = after.settled.saturating_sub(before.settled);
         let faults = many.faults.saturating_sub(few.faults);
         let resets = many.hard_resets.saturating_sub(few.hard_resets);
-        let same = are_same(&before.contracts, &after.contracts);
+        let same = are_same(
+            &old.summary.standing.contracts,
+            &new.summary.standing.contracts,
+        );
         Tally {
             tried: self.tried + 1,
+            different: more_if(effect.makes_difference(old), self.different),
             changed: if same { self.changed } else { self.changed + 1 },
-            settled: worse(self.settled, target, u128::from(later)),
+            less: worst_of(Extent::Less, self.less, target, 1, &effect.measures),
+            until: worst_of(Extent::Until, self.until, target, 1, &effect.measures),
             faults: worse(self.faults, target, faults),
             hard_resets: worse(self.hard_resets, target, resets),
-            margin: lower(old.margin, self.margin, target, &new),
+            margin: lower(old.margin, self.margin, target, new),
             short: more_if(is_short(reserve, &new.margin), self.short),
         }
     }
 }
 
 /// Writes the worst of a column.
-fn push_worst(text: &mut Vec<u8>, unit: &[u8], worst: &Option<Worst>) -> Result<(), AllocError>
-    ensures { OnOk result (text.new.items ≡ text.old.items ++ worst_words unit.now worst.now) }
+fn push_worst(text: &mut Vec<u8>, worst: &Option<Worst>) -> Result<(), AllocError>
+    ensures { OnOk result (text.new.items ≡ text.old.items ++ worst_words worst.now) }
 {
     let Some(worst) = worst else {
         return text.extend_from_slice(b"none\n");
     };
     text.push(b'+')?;
     push_wide(text, worst.by)?;
-    text.extend_from_slice(unit)?;
     text.extend_from_slice(b", ")?;
     push_packet(text, &worst.target)?;
     text.extend_from_slice(b"\n")
 }
 
 /// Writes a column's name and its worst.
-fn push_column(
-    text: &mut Vec<u8>,
-    name: &[u8],
-    unit: &[u8],
-    worst: &Option<Worst>,
-) -> Result<(), AllocError>
-    ensures { OnOk result (text.new.items ≡ text.old.items ++ column_words name.now unit.now worst.now) }
+fn push_column(text: &mut Vec<u8>, name: &[u8], worst: &Option<Worst>) -> Result<(), AllocError>
+    ensures { OnOk result (text.new.items ≡ text.old.items ++ column_words name.now worst.now) }
 {
     text.extend_from_slice(name)?;
-    push_worst(text, unit, worst)
+    push_worst(text, worst)
+}
+
+/// Writes how much a measure of a port is, the port, and the packet.
+fn push_on_port(
+    text: &mut Vec<u8>,
+    lead: &[u8],
+    unit: &[u8],
+    worst: &WorstOn,
+) -> Result<(), AllocError>
+    ensures { OnOk result (text.new.items ≡ text.old.items ++ on_port_words lead.now unit.now worst.now) }
+{
+    text.extend_from_slice(lead)?;
+    push_number(text, worst.by)?;
+    text.extend_from_slice(unit)?;
+    text.extend_from_slice(b" on port ")?;
+    push_number(text, worst.port)?;
+    text.extend_from_slice(b", ")?;
+    push_packet(text, &worst.target)?;
+    text.extend_from_slice(b"\n")?;
+    Ok(())
+}
+
+/// Writes the same, or that there is none.
+fn push_worst_on(
+    text: &mut Vec<u8>,
+    lead: &[u8],
+    unit: &[u8],
+    worst: &Option<WorstOn>,
+) -> Result<(), AllocError>
+    ensures { OnOk result (text.new.items ≡ text.old.items ++ worst_on_words lead.now unit.now worst.now) }
+{
+    match worst {
+        None => text.extend_from_slice(b"none\n"),
+        Some(worst) => push_on_port(text, lead, unit, worst),
+    }
+}
+
+/// Writes the name of a measure, and its worst.
+fn push_measure_column(
+    text: &mut Vec<u8>,
+    name: &[u8],
+    lead: &[u8],
+    unit: &[u8],
+    worst: &Option<WorstOn>,
+) -> Result<(), AllocError>
+    ensures { OnOk result (text.new.items ≡ text.old.items ++ measure_column name.now lead.now unit.now worst.now) }
+{
+    text.extend_from_slice(name)?;
+    push_worst_on(text, lead, unit, worst)
 }
 
 /// Writes what stands behind the number of packets that were tried, lost or damaged.
@@ -188,12 +284,14 @@ fn push_tried(text: &mut Vec<u8>, count: u64) -> Result<(), AllocError>
     text.extend_from_slice(b" packets tried, ")
 }
 
-/// Writes how many packets were tried, and how many of the runs end with other contracts.
+/// Writes how many packets were tried, how many of the runs differ, and how many end with other contracts.
 fn push_counts(text: &mut Vec<u8>, tally: &Tally) -> Result<(), AllocError>
     ensures { OnOk result (text.new.items ≡ text.old.items ++ counts_words tally.now) }
 {
     push_number(text, tally.tried)?;
     push_tried(text, tally.tried)?;
+    push_number(text, tally.different)?;
+    text.extend_from_slice(b" with a difference, ")?;
     push_number(text, tally.changed)?;
     text.extend_from_slice(b" with other contracts at the end\n")?;
     Ok(())
@@ -234,9 +332,10 @@ fn push_lowest_line(text: &mut Vec<u8>, lowest: &Option<Lowest>) -> Result<(), A
 fn push_columns(text: &mut Vec<u8>, tally: &Tally) -> Result<(), AllocError>
     ensures { OnOk result (text.new.items ≡ text.old.items ++ columns_words tally.now) }
 {
-    push_column(text, b"latest settled: ", b" us", &tally.settled)?;
-    push_column(text, b"most faults: ", b"", &tally.faults)?;
-    push_column(text, b"most hard resets: ", b"", &tally.hard_resets)
+    push_measure_column(text, b"longest less power: ", b"", b" us", &tally.less)?;
+    push_measure_column(text, b"latest difference: ", b"until ", b"", &tally.until)?;
+    push_column(text, b"most faults: ", &tally.faults)?;
+    push_column(text, b"most hard resets: ", &tally.hard_resets)
 }
 
 /// Writes in how many runs less is left than so many milliwatts.

@@ -2,10 +2,11 @@
 
 ghost use Rattle.std.specs.Prelude.{◌≡◌, ◌<◌, ◌≤◌, IfErr, IfOk, MatchOption, length, nat_lt, slice_get, take};
 ghost use Rattle.pd_device.specs.declared.fault.BenchFault.TheVariants.{Memory as no_memory};
-ghost use Rattle.pd_sweep.specs.Trials.{AreBefore, IsOfVariant, IsTrial};
+ghost use Rattle.pd_sweep.specs.Trials.{AreBefore, IsBaseOf, IsOfVariant, IsTrial};
 ghost use Rattle.pd_sweep.specs.Variants.{row_variant};
 
-use crate::findings::Findings;
+use crate::base::Base;
+use crate::effect::Effect;
 use crate::hit::is_hit;
 use crate::variant::{Obstacle, row_variant_of};
 use crate::{Campaign, Target};
@@ -18,8 +19,8 @@ use std::alloc::Global;
 /// What comes of losing a packet.
 #[derive(Clone, Copy, Debug)]
 pub enum Outcome {
-    /// The run in which it is lost.
-    Ran(Findings),
+    /// The run in which it is lost, beside the one in which it isn't.
+    Ran(Effect),
     /// The event doesn't hit the packet.
     Missed,
     /// The scenario disturbs the packet already.
@@ -78,11 +79,13 @@ fn outcome_of<const N: usize, T: Runner<N>>(
     alloc: Global,
     run: &mut T,
     scenario: &Scenario<N>,
+    base: &Base,
     campaign: &Campaign,
     target: &Target,
     meter: &mut Meter,
 ) -> Result<Outcome, BenchFault>
-    ensures value { IfOk result (λ outcome. IsOfVariant scenario.now.events
+    requires { IsBaseOf scenario.now base.now }
+    ensures value { IfOk result (λ outcome. IsOfVariant scenario.now
         (row_variant campaign.now.behind N scenario.now campaign.now.loss target.now) target.now outcome) }
     ensures memory { IfErr result (λ fault. fault ≡ no_memory) }
 {
@@ -95,14 +98,18 @@ fn outcome_of<const N: usize, T: Runner<N>>(
         return Err(BenchFault::Memory);
     };
     match is_hit(alloc, scenario, target, run, &variant) {
-        Ok(true) => Ok(Outcome::Ran(Findings::of(run, &variant))),
-        Ok(false) => Ok(Outcome::Missed),
+        Ok(true) => {}
+        Ok(false) => return Ok(Outcome::Missed),
+        Err(_) => return Err(BenchFault::Memory),
+    }
+    match Effect::of(alloc, run, &variant, base, scenario.end_time()) {
+        Ok(effect) => Ok(Outcome::Ran(effect)),
         Err(_) => Err(BenchFault::Memory),
     }
 }
 
-/// Loses a packet of the run of a scenario. The runner, which may stand for any scenario, stands for the one in which the packet
-/// is lost from then on, where there is one.
+/// Loses a packet of the run of a scenario, of which the base is kept. The runner, which may stand for any scenario, stands for the
+/// one in which the packet is lost from then on, where there is one.
 ///
 /// # Errors
 /// `Memory`: there is none.
@@ -110,10 +117,12 @@ pub fn try_packet<const N: usize, T: Runner<N>>(
     alloc: Global,
     run: &mut T,
     scenario: &Scenario<N>,
+    base: &Base,
     campaign: &Campaign,
     target: Target,
     meter: &mut Meter,
 ) -> Result<Trial, BenchFault>
+    requires { IsBaseOf scenario.now base.now }
     ensures packet { IfOk result (λ trial. trial.target ≡ target) }
     ensures value { IfOk result (λ trial. IsTrial N scenario.now campaign.now trial) }
     ensures memory { IfErr result (λ fault. fault ≡ no_memory) }
@@ -124,7 +133,7 @@ pub fn try_packet<const N: usize, T: Runner<N>>(
             outcome: Outcome::Disturbed,
         });
     }
-    match outcome_of(alloc, run, scenario, campaign, &target, meter) {
+    match outcome_of(alloc, run, scenario, base, campaign, &target, meter) {
         Ok(outcome) => Ok(Trial { target, outcome }),
         Err(fault) => Err(fault),
     }

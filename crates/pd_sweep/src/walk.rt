@@ -8,7 +8,7 @@ ghost use Rattle.pd_sweep.specs.Sweeps.{CountsSweep, Sweeps};
 
 use crate::form::{head, push_tally_text, push_trial_text};
 use crate::part::part_of;
-use crate::{Campaign, Findings, Form, Part, Tally, Trial, chosen, try_packet};
+use crate::{Base, Campaign, Findings, Form, Part, Tally, Trial, chosen, try_packet};
 use pd_device::{BenchFault, TextOut, write_all};
 use pd_port::Meter;
 use pd_run::Runner;
@@ -76,19 +76,19 @@ pub fn sweep<const N: usize, T: Runner<N>, W: TextOut>(
     let Ok(targets) = chosen(alloc, run, &campaign.choice) else {
         return Err(BenchFault::Memory);
     };
-    let base = Findings::of(run, scenario);
+    let base = Base::of(alloc, run, scenario)?;
     write_head(writer, form)?;
     let mut tally = Tally::none();
     let tried = part_of(part, targets.as_slice());
     for target in tried {
-        let Ok(trial) = try_packet(alloc, run, scenario, campaign, *target, meter) else {
+        let Ok(trial) = try_packet(alloc, run, scenario, &base, campaign, *target, meter) else {
             return Err(BenchFault::Memory);
         };
-        let Ok(line) = trial_text(alloc, form, &base, &trial) else {
+        let Ok(line) = trial_text(alloc, form, &base.findings, &trial) else {
             return Err(BenchFault::Memory);
         };
         write_all(writer, line.as_slice())?;
-        tally = tally.after(campaign.reserve, &base, &trial);
+        tally = tally.after(campaign.reserve, &base.findings, &trial);
     }
     let Ok(closing) = tally_text(alloc, form, campaign.reserve, &tally) else {
         return Err(BenchFault::Memory);

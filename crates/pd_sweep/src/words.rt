@@ -2,17 +2,13 @@
 
 ghost use Rattle.std.specs.Prelude.{◌≡◌, ◌+◌, ◌<◌, ◌≤◌, ◌^◌, ◌++◌, OnOk, decimal, length};
 ghost use Rattle.pd_device.specs.Text.{right};
-ghost use Rattle.pd_sweep.specs.Words.{are_same, changes_from, contracts_words, instant_words, instead_words, is_same, listed};
-ghost use Rattle.pd_sweep.specs.Words.{lower_words, makers_words, margin_words, message_words, more_words, obstacle_words};
-ghost use Rattle.pd_sweep.specs.Words.{others_words, outcome_words, packet_words, run_words, set_words, standing_words};
-ghost use Rattle.pd_sweep.specs.Words.{summary_words, trial_line};
+ghost use Rattle.pd_sweep.specs.Words.{are_same, changes_from, contracts_words, effect_words, instant_words, instead_words, is_same};
+ghost use Rattle.pd_sweep.specs.Words.{listed, lower_words, makers_words, margin_words, measure_words, message_words, mishaps_words};
+ghost use Rattle.pd_sweep.specs.Words.{more_words, obstacle_words, others_counted, others_words, outcome_words, packet_words};
+ghost use Rattle.pd_sweep.specs.Words.{ports_words, quiet_words, resets_lead, run_words, set_words, standing_words, time_words};
+ghost use Rattle.pd_sweep.specs.Words.{trial_line};
 
-use crate::Target;
-use crate::findings::Findings;
-use crate::makers::Makers;
-use crate::summary::Summary;
-use crate::trial::{Outcome, Trial};
-use crate::variant::Obstacle;
+use crate::{Effect, Extent, Findings, Makers, Measure, Mishaps, Obstacle, Outcome, Target, Trial};
 use pd_device::Text;
 use pd_header::{header_id, header_kind};
 use pd_objects::Contract;
@@ -193,25 +189,86 @@ fn push_more(text: &mut Vec<u8>, old: u128, new: u128) -> Result<(), AllocError>
     }
 }
 
-/// Writes how much later a time is than it was, or earlier.
-fn push_later(text: &mut Vec<u8>, old: u64, new: u64) -> Result<(), AllocError>
-    ensures { OnOk result (text.new.items ≡ text.old.items ++ more_words old new) }
+/// Writes for how long something is so, where it ever is.
+fn push_time(text: &mut Vec<u8>, words: &[u8], time: u64) -> Result<(), AllocError>
+    ensures { OnOk result (text.new.items ≡ text.old.items ++ time_words words.now time) }
 {
-    push_more(text, u128::from(old), u128::from(new))
+    if time == 0 {
+        return Ok(());
+    }
+    text.extend_from_slice(words)?;
+    push_number(text, time)?;
+    text.extend_from_slice(b" us,")
 }
 
-/// Writes the summary of the run in which a packet is lost beside that of the one in which it isn't.
-#[tactic(auto, unfolding(crate::specs::Words::summary_words))]
-fn push_summary(text: &mut Vec<u8>, old: &Summary, new: &Summary) -> Result<(), AllocError>
-    ensures { OnOk result (text.new.items ≡ text.old.items ++ summary_words old.now new.now) }
+/// Writes for how long a port's power is less and for how long it is more, and until when its contract is another.
+fn push_measure(text: &mut Vec<u8>, measure: &Measure) -> Result<(), AllocError>
+    ensures { OnOk result (text.new.items ≡ text.old.items ++ measure_words measure.now) }
 {
-    push_contracts(text, &old.standing.contracts, &new.standing.contracts)?;
-    text.extend_from_slice(b", settled ")?;
-    push_later(text, old.standing.settled, new.standing.settled)?;
-    text.extend_from_slice(b" us, faults ")?;
-    push_more(text, old.mishaps.faults, new.mishaps.faults)?;
-    text.extend_from_slice(b", hard resets ")?;
-    push_more(text, old.mishaps.hard_resets, new.mishaps.hard_resets)
+    push_time(text, b" less power for ", measure.less)?;
+    push_time(text, b" more power for ", measure.more)?;
+    text.extend_from_slice(b" differs until ")?;
+    push_number(text, measure.extent(Extent::Until))
+}
+
+/// Writes the ports whose contracts ever are others, from one on: the first behind some words, and each further one behind others.
+#[tactic(auto, unfolding(crate::specs::Words::ports_words))]
+pub(crate) fn push_ports(
+    text: &mut Vec<u8>,
+    first: &[u8],
+    next: &[u8],
+    port: u64,
+    measures: &[Measure],
+) -> Result<(), AllocError>
+    requires { port + length measures.now < 2 ^ 64 }
+    ensures { OnOk result (text.new.items ≡ text.old.items ++ ports_words first.now next.now port measures.now) }
+{
+    let [measure, measures @ ..] = measures else {
+        return Ok(());
+    };
+    if !measure.until.is_some() {
+        return push_ports(text, first, next, port + 1, measures);
+    }
+    text.extend_from_slice(first)?;
+    push_number(text, port)?;
+    push_measure(text, measure)?;
+    push_ports(text, next, next, port + 1, measures)
+}
+
+/// Writes how many more there are than there were, or less, where they aren't as many.
+fn push_others_counted(
+    text: &mut Vec<u8>,
+    words: &[u8],
+    old: u128,
+    new: u128,
+) -> Result<(), AllocError>
+    ensures { OnOk result (text.new.items ≡ text.old.items ++ others_counted words.now old new) }
+{
+    if old == new {
+        return Ok(());
+    }
+    text.extend_from_slice(words)?;
+    push_more(text, old, new)
+}
+
+/// What stands before the Hard Resets: they are told behind the faults.
+fn resets_lead(old: u128, new: u128) -> &'static [u8]
+    ensures { result.now ≡ resets_lead old new }
+{
+    if old == new {
+        b"; hard resets "
+    } else {
+        b", hard resets "
+    }
+}
+
+/// Writes the faults and the Hard Resets, where they aren't as many.
+fn push_mishaps(text: &mut Vec<u8>, old: &Mishaps, new: &Mishaps) -> Result<(), AllocError>
+    ensures { OnOk result (text.new.items ≡ text.old.items ++ mishaps_words old.now new.now) }
+{
+    push_others_counted(text, b"; faults ", old.faults, new.faults)?;
+    let lead = resets_lead(old.faults, new.faults);
+    push_others_counted(text, lead, old.hard_resets, new.hard_resets)
 }
 
 /// Writes the ports that are marked, from one on: the first behind some words, and each further one behind others.
@@ -274,17 +331,40 @@ fn push_lower(text: &mut Vec<u8>, old: &Findings, new: &Findings) -> Result<(), 
 fn push_margin(text: &mut Vec<u8>, old: &Findings, new: &Findings) -> Result<(), AllocError>
     ensures { OnOk result (text.new.items ≡ text.old.items ++ margin_words old.now new.now) }
 {
-    text.extend_from_slice(b", least margin ")?;
+    text.extend_from_slice(b"; least margin ")?;
     push_number(text, new.margin.left)?;
     push_lower(text, old, new)
 }
 
 /// Writes the run in which a packet is lost beside the one in which it isn't.
-fn push_run(text: &mut Vec<u8>, old: &Findings, new: &Findings) -> Result<(), AllocError>
-    ensures { OnOk result (text.new.items ≡ text.old.items ++ run_words old.now new.now) }
+#[tactic(auto, unfolding(crate::specs::Words::effect_words))]
+fn push_effect(text: &mut Vec<u8>, old: &Findings, effect: &Effect) -> Result<(), AllocError>
+    ensures { OnOk result (text.new.items ≡ text.old.items ++ effect_words old.now effect.now) }
 {
-    push_summary(text, &old.summary, &new.summary)?;
-    push_margin(text, old, new)
+    let (before, after) = (&old.summary, &effect.findings.summary);
+    push_contracts(text, &before.standing.contracts, &after.standing.contracts)?;
+    push_ports(text, b"; port ", b"; port ", 1, &effect.measures)?;
+    push_mishaps(text, &before.mishaps, &after.mishaps)?;
+    push_margin(text, old, &effect.findings)
+}
+
+/// Writes that it makes no difference.
+fn push_quiet(text: &mut Vec<u8>, old: &Mishaps, new: &Mishaps) -> Result<(), AllocError>
+    ensures { OnOk result (text.new.items ≡ text.old.items ++ quiet_words old.now new.now) }
+{
+    text.extend_from_slice(b"no difference")?;
+    push_mishaps(text, old, new)
+}
+
+/// Writes the one or the other.
+fn push_run(text: &mut Vec<u8>, old: &Findings, effect: &Effect) -> Result<(), AllocError>
+    ensures { OnOk result (text.new.items ≡ text.old.items ++ run_words old.now effect.now) }
+{
+    if effect.makes_difference(old) {
+        push_effect(text, old, effect)
+    } else {
+        push_quiet(text, &old.summary.mishaps, &effect.findings.summary.mishaps)
+    }
 }
 
 /// Writes why a packet can't be lost.
@@ -308,7 +388,7 @@ fn push_outcome(text: &mut Vec<u8>, old: &Findings, outcome: &Outcome) -> Result
     ensures { OnOk result (text.new.items ≡ text.old.items ++ outcome_words old.now outcome.now) }
 {
     match outcome {
-        Outcome::Ran(new) => push_run(text, old, new),
+        Outcome::Ran(effect) => push_run(text, old, effect),
         Outcome::Missed => text.extend_from_slice(b"not hit"),
         Outcome::Disturbed => text.extend_from_slice(b"not tried: disturbed already"),
         Outcome::Barred(obstacle) => {

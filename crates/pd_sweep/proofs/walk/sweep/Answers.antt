@@ -1,4 +1,4 @@
-use Rattle.std.proofs.Common.{◌≡◌, ◌+◌, ◌++◌, ◌∷◌, ◌∙◌, [], inr, ap, sym, take, arith}
+use Rattle.std.proofs.Common.{◌≡◌, ◌+◌, ◌++◌, ◌∷◌, ◌∙◌, [], inr, ap, sym, take, arith, lit<}
 use Rattle.std.proofs.lemmas.List.{take_more}
 use Rattle.std.proofs.lemmas.Result.{err_from_is_err_and}
 use Rattle.pd_sweep.specs.declared.packets.Target.{Target}
@@ -9,17 +9,27 @@ use Rattle.pd_sweep.proofs.walk.sweep.Goals as goal
 
 pub returns-in_err-write_head-clause-text : goal.returns-in_err-write_head-clause-text
 returns-in_err-write_head-clause-text g c =
-    let p = err_from_is_err_and c.from_residual.result c.from_residual.ensures.1 in
-    rw (p.1) (inr (began_head g.row.N c.args.scenario.now c.args.campaign.now c.args.form c.of-base.result
+    let p = err_from_is_err_and c.from_residual-in_err-write_head.result c.from_residual-in_err-write_head.ensures.1 in
+    rw (p.1) (inr (began_head g.row.N c.args.scenario.now c.args.campaign.now c.args.form c.in_ok-base.base.findings
     (part_of c.args.part c.in-Ok-chosen.targets.items) c.args.part (g.T.Runner.entries c.replace.new.self) c.in-Ok.ensures.run
-    c.of-base.ensures (ap (part_of c.args.part) c.in-Ok-chosen.ensures) _ _
+    c.in_ok-base.ensures.value.found (ap (part_of c.args.part) c.in-Ok-chosen.ensures) _ _
     c.in_err-write_head.ensures.text.1))
+
+pub try_packet-requires : goal.try_packet-requires
+try_packet-requires g c = (
+  lit< tt,
+  record {
+    moves = g.T.Runner.entries c.replace.new.self;
+    shows = c.in-Ok.ensures.run;
+    is = c.in_ok-base.ensures.value;
+  },
+)
 
 pub returns-in_default-try_packet-clause-text : goal.returns-in_default-try_packet-clause-text
 returns-in_default-try_packet-clause-text g c =
     let targets = c.part_of-tried.result.now in
-    inr (began_so_far g.row.N c.args.scenario.now c.args.campaign.now c.args.form c.of-base.result targets c.args.part
-    (g.T.Runner.entries c.replace.new.self) c.in-Ok.ensures.run c.of-base.ensures
+    inr (began_so_far g.row.N c.args.scenario.now c.args.campaign.now c.args.form c.in_ok-base.base.findings targets c.args.part
+    (g.T.Runner.entries c.replace.new.self) c.in-Ok.ensures.run c.in_ok-base.ensures.value.found
     (c.part_of-tried.ensures ∙ ap (part_of c.args.part) (c.as_slice.ensures.value ∙ c.in-Ok-chosen.ensures))
     c.loop-target.target-index c.loop-target.tally _ _
     c.loop-target.invariant.progress)
@@ -27,8 +37,8 @@ returns-in_default-try_packet-clause-text g c =
 pub returns-in_default-trial_text-clause-text : goal.returns-in_default-trial_text-clause-text
 returns-in_default-trial_text-clause-text g c =
     let targets = c.part_of-tried.result.now in
-    inr (began_so_far g.row.N c.args.scenario.now c.args.campaign.now c.args.form c.of-base.result targets c.args.part
-    (g.T.Runner.entries c.replace.new.self) c.in-Ok.ensures.run c.of-base.ensures
+    inr (began_so_far g.row.N c.args.scenario.now c.args.campaign.now c.args.form c.in_ok-base.base.findings targets c.args.part
+    (g.T.Runner.entries c.replace.new.self) c.in-Ok.ensures.run c.in_ok-base.ensures.value.found
     (c.part_of-tried.ensures ∙ ap (part_of c.args.part) (c.as_slice.ensures.value ∙ c.in-Ok-chosen.ensures))
     c.loop-target.target-index c.loop-target.tally _ _
     c.loop-target.invariant.progress)
@@ -41,8 +51,8 @@ returns-in_err-write_all-clause-text g c =
     let here : take (i + 1) targets ≡ take i targets ++ trial.target ∷ [] =
     take_more targets i _ c.loop-target-test.true ∙ ap (λ (t : Target). take i targets ++ t ∷ []) (sym c.in-Ok-try_packet.ensures.packet) in
     let p = err_from_is_err_and c.from_residual-in_err-write_all.result c.from_residual-in_err-write_all.ensures.1 in
-    rw (p.1) (inr (began_torn g.row.N c.args.scenario.now c.args.campaign.now c.args.form c.of-base.result targets c.args.part
-    (g.T.Runner.entries c.replace.new.self) c.in-Ok.ensures.run c.of-base.ensures
+    rw (p.1) (inr (began_torn g.row.N c.args.scenario.now c.args.campaign.now c.args.form c.in_ok-base.base.findings targets c.args.part
+    (g.T.Runner.entries c.replace.new.self) c.in-Ok.ensures.run c.in_ok-base.ensures.value.found
     (c.part_of-tried.ensures ∙ ap (part_of c.args.part) (c.as_slice.ensures.value ∙ c.in-Ok-chosen.ensures))
     i c.loop-target.tally _ _ _ trial c.loop-target.invariant.progress here
     c.in-Ok-try_packet.ensures.value
@@ -51,11 +61,12 @@ returns-in_err-write_all-clause-text g c =
 pub loop-target-init : goal.loop-target-init
 loop-target-init g c = record {
   progress =
-      progress_none g.row.N c.args.scenario.now c.args.campaign.now c.args.form c.of-base.result c.part_of-tried.result.now
+      progress_none g.row.N c.args.scenario.now c.args.campaign.now c.args.form c.in_ok-base.base.findings c.part_of-tried.result.now
       c.none-tally.result _ _ c.none-tally.ensures c.in_ok-write_head.ensures.text;
   counts = c.in_ok-write_head.ensures.counts;
   tried = rw c.none-tally.ensures (omega arith);
   changed = rw c.none-tally.ensures (omega arith);
+  different = rw c.none-tally.ensures (omega arith);
   short = rw c.none-tally.ensures (omega arith);
 }
 
@@ -68,21 +79,22 @@ loop-target-preserved g c =
     take_more targets i _ c.loop-target-test.true ∙ ap (λ (t : Target). take i targets ++ t ∷ []) (sym c.in-Ok-try_packet.ensures.packet) in
     record {
       progress =
-          progress_more g.row.N c.args.scenario.now c.args.campaign.now c.args.form c.of-base.result targets i c.loop-target.tally
+          progress_more g.row.N c.args.scenario.now c.args.campaign.now c.args.form c.in_ok-base.base.findings targets i c.loop-target.tally
           c.after-tally.result _ _ _ trial c.loop-target.invariant.progress here c.in-Ok-try_packet.ensures.value
           c.after-tally.ensures.value
           (rw (sym c.in-Ok-trial_text.ensures, sym c.as_slice-in-loop-target.ensures.value) c.in_ok-write_all.ensures.text);
       counts = c.in_ok-write_all.ensures.counts ∙ c.loop-target.invariant.counts;
       tried = omega (arith, c.after-tally.ensures.one, c.loop-target.invariant.tried);
       changed = c.after-tally.ensures.few;
+      different = c.after-tally.ensures.few_different;
       short = c.after-tally.ensures.few_short;
     }
 
 pub returns-in_default-tally_text-clause-text : goal.returns-in_default-tally_text-clause-text
 returns-in_default-tally_text-clause-text g c =
     let targets = c.part_of-tried.result.now in
-    inr (began_so_far g.row.N c.args.scenario.now c.args.campaign.now c.args.form c.of-base.result targets c.args.part
-    (g.T.Runner.entries c.replace.new.self) c.in-Ok.ensures.run c.of-base.ensures
+    inr (began_so_far g.row.N c.args.scenario.now c.args.campaign.now c.args.form c.in_ok-base.base.findings targets c.args.part
+    (g.T.Runner.entries c.replace.new.self) c.in-Ok.ensures.run c.in_ok-base.ensures.value.found
     (c.part_of-tried.ensures ∙ ap (part_of c.args.part) (c.as_slice.ensures.value ∙ c.in-Ok-chosen.ensures))
     c.loop-target.target-index c.loop-target.tally _ _
     c.loop-target.invariant.progress)
@@ -91,8 +103,8 @@ pub returns-in_err-write_all-2-clause-text : goal.returns-in_err-write_all-2-cla
 returns-in_err-write_all-2-clause-text g c =
     let targets = c.part_of-tried.result.now in
     let p = err_from_is_err_and c.from_residual-in_err-write_all-2.result c.from_residual-in_err-write_all-2.ensures.1 in
-    rw (p.1) (inr (began_closing g.row.N c.args.scenario.now c.args.campaign.now c.args.form c.of-base.result targets c.args.part
-    (g.T.Runner.entries c.replace.new.self) c.in-Ok.ensures.run c.of-base.ensures
+    rw (p.1) (inr (began_closing g.row.N c.args.scenario.now c.args.campaign.now c.args.form c.in_ok-base.base.findings targets c.args.part
+    (g.T.Runner.entries c.replace.new.self) c.in-Ok.ensures.run c.in_ok-base.ensures.value.found
     (c.part_of-tried.ensures ∙ ap (part_of c.args.part) (c.as_slice.ensures.value ∙ c.in-Ok-chosen.ensures))
     c.loop-target.target-index c.loop-target.tally _ _ _
     c.loop-target.invariant.progress
@@ -101,8 +113,8 @@ returns-in_err-write_all-2-clause-text g c =
 pub returns-clause-text : goal.returns-clause-text
 returns-clause-text g c =
     let targets = c.part_of-tried.result.now in
-    wrote g.row.N c.args.scenario.now c.args.campaign.now c.args.form c.of-base.result targets c.args.part
-    (g.T.Runner.entries c.replace.new.self) c.in-Ok.ensures.run c.of-base.ensures
+    wrote g.row.N c.args.scenario.now c.args.campaign.now c.args.form c.in_ok-base.base.findings targets c.args.part
+    (g.T.Runner.entries c.replace.new.self) c.in-Ok.ensures.run c.in_ok-base.ensures.value.found
     (c.part_of-tried.ensures ∙ ap (part_of c.args.part) (c.as_slice.ensures.value ∙ c.in-Ok-chosen.ensures))
     c.loop-target.target-index c.loop-target.tally _ _ _
     (omega (arith, c.loop-target-test.false)) c.loop-target.invariant.progress

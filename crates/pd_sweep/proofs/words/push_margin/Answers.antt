@@ -6,5 +6,5 @@ use Rattle.pd_sweep.proofs.words.push_margin.Goals as goal
 pub returns : goal.returns
 returns c =
     on_ok_weaker c.push_lower.result
-    (λ h. joined_three _ _ _ _ (codes ", least margin ") _ _ c.in_ok-extend_from_slice.ensures.items c.in_ok-push_number.ensures h)
+    (λ h. joined_three _ _ _ _ (codes "; least margin ") _ _ c.in_ok-extend_from_slice.ensures.items c.in_ok-push_number.ensures h)
     c.push_lower.ensures
