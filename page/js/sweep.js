@@ -1,13 +1,15 @@
 // Each packet lost in turn: a worker runs the parts, and here stands what came of them, packet by packet and by message.
 import { endingWords } from "./engine.js";
-import { HEATS, grouped, heatOf, worseFirst } from "./groups.js";
+import { HEATS, differsUntil, grouped, heatOf, lessPower, worseFirst } from "./groups.js";
 import { SortedTable, element } from "./table.js";
 import { named, objectWords, seconds, span, watts } from "./words.js";
 
 const signed = (number) => (number > 0 ? `+${number}` : String(number).replace("-", "−"));
-const later = (us) => `${us > 0 ? "+" : ""}${span(us)}`;
 /** A value of packets that were lost; where none was, nothing. */
 const orNone = (value, words) => (Number.isFinite(value) ? words(value) : "");
+/** A time, where there is one. */
+const lasting = (us) => (us > 0 ? span(us) : "");
+const instant = (us) => (us > 0 ? seconds(us) : "");
 const contractWords = (it) => (it ? `${it.voltage_mv / 1000} V ${(it.current_ma / 1000).toFixed(2)} A` : "none");
 const fromWords = (it) => `${it.side} ${it.set}`;
 
@@ -22,7 +24,8 @@ const PACKETS = [
   { title: "port", width: 54, right: true, least: true, by: (it) => it.port, words: (it) => it.port },
   { title: "packet lost", width: 210, by: (it) => it.message, words: (it) => `${fromWords(it)} ${it.message} ${it.id}` },
   { title: "comes to", width: 190, by: heatOf, words: (it) => HEATS[heatOf(it)], worst: worseFirst },
-  { title: "settled", width: 106, right: true, by: (it) => it.settled_us ?? -Infinity, words: (it) => orNone(it.settled_us, later) },
+  { title: "less power", width: 106, right: true, by: lessPower, words: (it) => lasting(lessPower(it)) },
+  { title: "differs until s", width: 118, right: true, by: differsUntil, words: (it) => instant(differsUntil(it)) },
   { title: "faults", width: 66, right: true, by: (it) => it.faults ?? -Infinity, words: (it) => orNone(it.faults, signed) },
   { title: "resets", width: 66, right: true, by: (it) => it.hard_resets ?? -Infinity, words: (it) => orNone(it.hard_resets, signed) },
   { title: "least margin", width: 110, right: true, by: (it) => it.least_margin_uw ?? Infinity, least: true,
@@ -37,7 +40,8 @@ const GROUPS = [
   { title: "at worst", width: 196, by: (it) => heatOf(it.worst), words: (it) => HEATS[heatOf(it.worst)],
     worst: (one, other) => worseFirst(one.worst, other.worst) },
   { title: "how many", width: 86, right: true, by: (it) => it.counts[heatOf(it.worst)], words: (it) => it.counts[heatOf(it.worst)] },
-  { title: "settled", width: 106, right: true, by: (it) => it.settled, words: (it) => orNone(it.settled, later) },
+  { title: "less power", width: 106, right: true, by: (it) => it.less, words: (it) => lasting(it.less) },
+  { title: "differs until s", width: 118, right: true, by: (it) => it.until, words: (it) => instant(it.until) },
   { title: "faults", width: 66, right: true, by: (it) => it.faults, words: (it) => orNone(it.faults, signed) },
   { title: "resets", width: 66, right: true, by: (it) => it.resets, words: (it) => orNone(it.resets, signed) },
   { title: "least margin", width: 110, right: true, by: (it) => it.margin, least: true, words: (it) => orNone(it.margin, watts) },
@@ -167,9 +171,12 @@ export class Sweep {
   }
 }
 
+const portWords = (of) => `, port ${of.port}${of.less_power_us > 0 ? ` less power for ${span(of.less_power_us)},` : ""}` +
+  `${of.more_power_us > 0 ? ` more power for ${span(of.more_power_us)},` : ""} differs until ${seconds(of.differs_until_us)} s`;
+
 /** What a loss led to, in a line. */
 export function sweepWords(it) {
   return `${seconds(it.at_us)} s port ${it.port} ${it.side} ${it.message} lost: ${HEATS[heatOf(it)]}` +
-    (it.outcome === "hit" ? `, settled ${later(it.settled_us)}, faults ${signed(it.faults)}, resets ${signed(it.hard_resets)}`
+    (it.outcome === "hit" ? `${it.ports.map(portWords).join("")}, faults ${signed(it.faults)}, resets ${signed(it.hard_resets)}`
       : `, ${objectWords({ outcome: it.outcome })}`);
 }
