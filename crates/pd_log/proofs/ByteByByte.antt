@@ -16,7 +16,7 @@ next_pair read [] byte long is = absurd (omega arith)
 next_pair read (high ∷ []) byte long is = absurd (omega arith)
 next_pair read (high ∷ low ∷ digits) byte long is =
     let all : take (length (high ∷ low ∷ digits) - 2) digits ≡ digits = take_all _ digits (omega arith) in
-    rw (← is, all) (joined read byte (pairs_of digits))
+    rw (← is, all) (joined read (byte ∷ []) (pairs_of digits))
 
 -- two digits that are no byte
 pub no_pair : (read digits : List ℕ) → 2 ≤ length digits → None ≡ pair_of (get_or digits 0 0) (get_or digits 1 0)

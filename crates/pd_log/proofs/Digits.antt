@@ -1,4 +1,4 @@
--- How large a number of hexadecimal digits is.
+-- How large a number of hexadecimal or of decimal digits is.
 use Rattle.std.proofs.Common.{ℕ, ◌^◌, ◌<◌, ◌≤◌, arith, lit<}
 use Rattle.std.proofs.Math.Nat.{pow-le-pow_right}
 
@@ -8,3 +8,7 @@ of_seven k n h lt =
 
 pub of_four : (k n : ℕ) → n < 16 ^ k → k ≤ 4 → n < 65536
 of_four k n h le = omega (arith, pow-le-pow_right {n = 16} (lit< tt) le)
+
+pub of_five : (k n : ℕ) → n < 10 ^ k → k < 6 → n < 100000
+of_five k n h lt =
+    let few : k ≤ 5 = omega arith in omega (arith, pow-le-pow_right {n = 10} (lit< tt) few)

@@ -1,5 +1,6 @@
 -- What a line of a log says.
-use Rattle.std.specs.Prelude.{◌≡◌, ◌≢◌, ℕ, ◌==◌, Bool, true, false, List, length, Option, Some, None, Ok, Err, if◌then◌else◌}
+use Rattle.std.specs.Prelude.{◌≡◌, ◌≢◌, ℕ, ◌==◌, ◌&&◌, ◌||◌, Bool, true, false, is_some, List, [], ◌∷◌, length}
+use Rattle.std.specs.Prelude.{Option, Some, None, Ok, Err, if◌then◌else◌}
 use Rattle.pd_symbols.specs.declared.channel.Channel.TheVariants.{Sop}
 use Rattle.pd_symbols.specs.declared.channel.OrderedSet.TheVariants as sets
 use Rattle.pd_symbols.specs.Sets.{set_codes}
@@ -11,8 +12,11 @@ use Rattle.pd_log.specs.declared.mark.Mark.{Mark}
 use Rattle.pd_log.specs.declared.mark.Mark.TheVariants.{Whole}
 use Rattle.pd_log.specs.declared.answer.Answer.{Answer}
 use Rattle.pd_log.specs.declared.answer.Answer.TheVariants.{Nothing, Packet, Bytes, Either, Fault, HardReset, Header, Miscounted, Unknown}
+use Rattle.std.specs.Char.{is_ascii_digit}
+use Rattle.pd_log.specs.Begun.{BegunData, begun_behind, goes_on}
 use Rattle.pd_log.specs.Bytes.{given_bytes}
-use Rattle.pd_log.specs.Parts.{parts}
+use Rattle.pd_log.specs.Parts.{Parts, parts}
+use Rattle.pd_log.specs.Stamps.{stamp, unstamped}
 use Rattle.pd_log.specs.Forms.{given_codes, tells_nothing}
 use Rattle.pd_log.specs.Places.{place_of}
 use Rattle.pd_log.specs.Words.{given_words}
@@ -50,14 +54,39 @@ with_bytes (Packet p mark) (Some q) = Either p q
 with_bytes answer (Some q) = Bytes q
 with_bytes answer None = answer
 
--- A heading and the reply of a session tell nothing. Codes are read before words, and words before bytes; a line with none is unknown.
-abbrev pub Comes : Bool → Option (List ℕ × Mark) → Option (ℕ × List ℕ) → Option Contents → Answer → Type 0
-Comes true given words bytes answer = answer ≡ Nothing
-Comes false (Some given) words bytes answer = TellsEither given.0 given.1 bytes answer
-Comes false None (Some words) bytes answer = answer ≡ with_bytes (words_answer words.0 words.1) bytes
-Comes false None None bytes answer = answer ≡ with_bytes Unknown bytes
+-- a line of a controller's log names its port first: C0 or C1:
+abbrev pub names_port : Parts → Bool
+names_port ((c ∷ d ∷ []) ∷ ps) = c == 67 && is_ascii_digit d
+names_port ((c ∷ d ∷ e ∷ []) ∷ ps) = c == 67 && (is_ascii_digit d && e == 58)
+names_port _ = false
 
--- what a line says
-abbrev pub Says : List ℕ → Answer → Type 0
-Says line answer =
-    Comes (tells_nothing (parts line)) (given_codes (parts line)) (given_words (parts line)) (given_bytes (parts line)) answer
+-- a line of a log on something else than packets: it has the log's own time, or names a port
+abbrev pub is_of_a_log : List ℕ → Bool
+is_of_a_log line = is_some (stamp line) || names_port (parts (unstamped line))
+
+abbrev pub otherwise : Bool → Answer
+otherwise true = Nothing
+otherwise false = Unknown
+
+-- Codes are read before words, and words before bytes; a line with none is unknown, or a log's on something else.
+abbrev pub Comes : Option (List ℕ × Mark) → Option (ℕ × List ℕ) → Option Contents → Bool → Answer → Type 0
+Comes (Some given) words bytes other answer = TellsEither given.0 given.1 bytes answer
+Comes None (Some words) bytes other answer = answer ≡ with_bytes (words_answer words.0 words.1) bytes
+Comes None None bytes other answer = answer ≡ with_bytes (otherwise other) bytes
+
+-- what a line says alone
+abbrev pub SaysAlone : Parts → Bool → Answer → Type 0
+SaysAlone ps other answer = Comes (given_codes ps) (given_words ps) (given_bytes ps) other answer
+
+-- A heading and the reply of a session tell nothing. A line may go on with the packet that has begun; else it says what it says alone.
+abbrev pub ByTurn : Bool → Option (Answer × Option BegunData) → Option BegunData → Parts → Bool → Answer → Option BegunData → Type 0
+ByTurn true on begun ps other answer behind = (answer ≡ Nothing) × (behind ≡ begun)
+ByTurn false (Some told) begun ps other answer behind = (answer, behind) ≡ told
+ByTurn false None begun ps other answer behind = SaysAlone ps other answer × (behind ≡ begun_behind begun answer)
+
+-- What a line of a log says, where the lines before it have begun a packet or not, and what has begun behind it.
+abbrev pub Says : Option BegunData → List ℕ → Answer → Option BegunData → Type 0
+Says begun line answer behind = SaysOf begun (parts (unstamped line)) (is_of_a_log line) answer behind
+  where
+    SaysOf : Option BegunData → Parts → Bool → Answer → Option BegunData → Type 0
+    SaysOf begun ps other answer behind = ByTurn (tells_nothing ps) (goes_on begun ps) begun ps other answer behind

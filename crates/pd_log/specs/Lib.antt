@@ -1,9 +1,12 @@
 pub mod Parts
 pub mod Codes
 pub mod Forms
+pub mod Stamps
+pub mod Supplies
 pub mod Places
 pub mod Answers
 pub mod Words
+pub mod Begun
 pub mod Bytes
 pub mod Lines
 pub mod Objects

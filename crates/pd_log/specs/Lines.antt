@@ -1,5 +1,5 @@
 -- What a line of a log says, as a line of text: this product's own form.
-use Rattle.std.specs.Prelude.{ℕ, List, [], ◌∷◌, ◌++◌, codes, decimal}
+use Rattle.std.specs.Prelude.{ℕ, List, [], ◌∷◌, ◌++◌, codes, decimal, Option, Some, None}
 use Rattle.pd_symbols.specs.declared.channel.Channel.TheVariants.{Sop}
 use Rattle.pd_header.specs.Header.{count_of}
 use Rattle.pd_packet.specs.declared.fault.PacketFault.{PacketFault}
@@ -9,7 +9,8 @@ use Rattle.pd_packet.specs.Reading.{number_of}
 use Rattle.pd_log.specs.declared.mark.Mark.{Mark}
 use Rattle.pd_log.specs.declared.mark.Mark.TheVariants.{Whole, Lost, Damaged}
 use Rattle.pd_log.specs.declared.answer.Answer.{Answer}
-use Rattle.pd_log.specs.declared.answer.Answer.TheVariants.{Nothing, Packet, Bytes, Either, Fault, HardReset, Header, Miscounted, Unknown}
+use Rattle.pd_log.specs.declared.answer.Answer.TheVariants.{Nothing, Packet, Supplies, Bytes, Either, Fault, HardReset}
+use Rattle.pd_log.specs.declared.answer.Answer.TheVariants.{Header, Miscounted, Unknown}
 use Rattle.pd_content.specs.Texts.{header_text, packet_text}
 
 abbrev pub mark_text : Mark → List ℕ
@@ -36,6 +37,10 @@ told_text header = codes ", told by the header " ++ decimal (count_of header)
 unfoldable pub counts_text : ℕ → ℕ → List ℕ
 counts_text header there = header_text Sop header ++ (codes " | objects there " ++ (decimal there ++ told_text header))
 
+-- a packet whose supplies are a kernel's words
+unfoldable pub supplies_text : Contents → List ℕ
+supplies_text p = packet_text p ++ codes " (as the log's words tell it)"
+
 -- a packet that was read as bytes
 unfoldable pub bytes_text : Contents → List ℕ
 bytes_text p = packet_text p ++ codes " (as bytes, low first)"
@@ -47,6 +52,7 @@ either_text p q = packet_text p ++ (codes "; or as bytes, low first: " ++ packet
 unfoldable pub said : Answer → List ℕ
 said Nothing = []
 said (Packet p mark) = packet_text p ++ mark_text mark
+said (Supplies p) = supplies_text p
 said (Bytes p) = bytes_text p
 said (Either p q) = either_text p q
 said (Fault fault at mark) = fault_text fault at ++ mark_text mark
@@ -55,7 +61,12 @@ said (Header header) = counts_text header 0
 said (Miscounted header there) = counts_text header there
 said Unknown = codes "unknown form"
 
--- behind the number of the line; a line that says nothing has none
-unfoldable pub line_text : ℕ → Answer → List ℕ
-line_text n Nothing = []
-line_text n answer = decimal n ++ (codes ": " ++ (said answer ++ 10 ∷ []))
+-- a log's own time
+unfoldable pub time_text : Option (List ℕ) → List ℕ
+time_text None = []
+time_text (Some time) = 91 ∷ (time ++ codes "] ")
+
+-- behind the number of the line, and the log's own time; a line that says nothing has none
+unfoldable pub line_text : ℕ → Option (List ℕ) → Answer → List ℕ
+line_text n time Nothing = []
+line_text n time answer = decimal n ++ (codes ": " ++ (time_text time ++ (said answer ++ 10 ∷ [])))

@@ -1,5 +1,5 @@
 -- What a line of a log says, as a JSON object: this product's own keys.
-use Rattle.std.specs.Prelude.{ℕ, List, [], ◌∷◌, ◌++◌, codes, decimal}
+use Rattle.std.specs.Prelude.{ℕ, List, [], ◌∷◌, ◌++◌, codes, decimal, Option, Some, None}
 use Rattle.pd_symbols.specs.declared.channel.Channel.TheVariants.{Sop}
 use Rattle.pd_header.specs.Header.{count_of}
 use Rattle.pd_packet.specs.declared.fault.PacketFault.{PacketFault}
@@ -8,7 +8,8 @@ use Rattle.pd_packet.specs.Reading.{number_of}
 use Rattle.pd_log.specs.declared.mark.Mark.{Mark}
 use Rattle.pd_log.specs.declared.mark.Mark.TheVariants.{Whole, Lost, Damaged}
 use Rattle.pd_log.specs.declared.answer.Answer.{Answer}
-use Rattle.pd_log.specs.declared.answer.Answer.TheVariants.{Nothing, Packet, Bytes, Either, Fault, HardReset, Header, Miscounted, Unknown}
+use Rattle.pd_log.specs.declared.answer.Answer.TheVariants.{Nothing, Packet, Supplies, Bytes, Either, Fault, HardReset}
+use Rattle.pd_log.specs.declared.answer.Answer.TheVariants.{Header, Miscounted, Unknown}
 use Rattle.pd_content.specs.Members.{header_members, packet_members}
 use Rattle.pd_log.specs.Lines.{fault_words}
 
@@ -37,6 +38,10 @@ counts_members header there =
 unfoldable pub reset_members : Mark → List ℕ
 reset_members mark = codes "\"hard_reset\"" ++ mark_member mark
 
+-- a packet whose supplies are a kernel's words
+unfoldable pub supplies_members : Contents → List ℕ
+supplies_members p = codes "\"packet\",\"mark\":\"whole\",\"read_as\":\"words\"," ++ packet_members p
+
 -- a packet that was read as bytes
 unfoldable pub bytes_members : Contents → List ℕ
 bytes_members p = codes "\"packet\",\"mark\":\"whole\",\"read_as\":\"bytes\"," ++ packet_members p
@@ -50,6 +55,7 @@ either_members p q =
 unfoldable pub members : Answer → List ℕ
 members Nothing = codes "\"nothing\""
 members (Packet p mark) = codes "\"packet\"" ++ (mark_member mark ++ 44 ∷ packet_members p)
+members (Supplies p) = supplies_members p
 members (Bytes p) = bytes_members p
 members (Either p q) = either_members p q
 members (Fault fault at mark) = fault_members fault at ++ mark_member mark
@@ -58,6 +64,12 @@ members (Header header) = counts_members header 0
 members (Miscounted header there) = counts_members header there
 members Unknown = codes "\"unknown\""
 
-unfoldable pub json_text : ℕ → Answer → List ℕ
-json_text n Nothing = []
-json_text n answer = codes "{\"line\":" ++ (decimal n ++ (codes ",\"kind\":" ++ (members answer ++ codes "}\n")))
+-- a log's own time, which has nothing that a string escapes
+unfoldable pub time_member : Option (List ℕ) → List ℕ
+time_member None = []
+time_member (Some time) = codes ",\"log_time\":\"" ++ (time ++ 34 ∷ [])
+
+unfoldable pub json_text : ℕ → Option (List ℕ) → Answer → List ℕ
+json_text n time Nothing = []
+json_text n time answer =
+    codes "{\"line\":" ++ (decimal n ++ (time_member time ++ (codes ",\"kind\":" ++ (members answer ++ codes "}\n"))))

@@ -5,6 +5,8 @@ use Rattle.std.specs.List.{list_all}
 use Rattle.std.specs.Char.{is_ascii_hexdigit}
 use Rattle.pd_header.specs.Header.{count_of}
 use Rattle.pd_log.specs.Codes.{or_else, without_0x}
+use Rattle.pd_log.specs.declared.words.ObjectPart.{ObjectPart}
+use Rattle.pd_log.specs.declared.words.ObjectPart.TheVariants.{Index, Object}
 use Rattle.pd_log.specs.Parts.{Parts, ◌>>=◌, next}
 
 -- the value of a hexadecimal digit of either case
@@ -33,34 +35,35 @@ counted_of part = do
   header ← four_of (take 4 part)
   if bytes_eq (drop 4 part) (47 ∷ (48 + count_of header) ∷ []) then Some header else None
 
--- a header behind header: or RECV
-abbrev pub announced_of : List ℕ → Option ℕ
-announced_of part = or_else (short_of (without_0x part)) (counted_of part)
+-- what stands before a header in the log of an embedded controller, or of Zephyr
+abbrev pub is_sent_or_received : List ℕ → Bool
+is_sent_or_received word =
+    bytes_eq word (codes "RECV") || (bytes_eq word (codes "SEND") || (bytes_eq word (codes "RX") || bytes_eq word (codes "TX")))
 
--- header: stands before the header in the log of a kernel, RECV in that of an embedded controller
-abbrev pub announces : List ℕ → Bool
-announces part = bytes_eq part (codes "header:") || bytes_eq part (codes "RECV")
+-- the header that a part gives behind such a word, or behind header:, which a kernel writes
+abbrev pub announced_of : List ℕ → List ℕ → Option ℕ
+announced_of word part =
+    if bytes_eq word (codes "header:") then short_of (without_0x part)
+    else if is_sent_or_received word then or_else (four_of (without_0x part)) (counted_of part)
+    else None
 
--- what stands behind the first of these words
-abbrev pub behind_word : Parts → Option Parts
-behind_word [] = None
-behind_word (p ∷ ps) = if announces p then Some ps else behind_word ps
+-- an index in brackets, and what stands right behind it, as [0]0001912C: Zephyr and embedded controllers number objects so, and a kernel
+-- counts its contracts
+abbrev pub behind_index : List ℕ → Option (List ℕ)
+behind_index (a ∷ b ∷ c ∷ rest) = if a == 91 && c == 93 then Some rest else None
+behind_index _ = None
 
--- a number in brackets, as a kernel counts its contracts
-abbrev pub is_bracketed : List ℕ → Bool
-is_bracketed (a ∷ b ∷ c ∷ []) = a == 91 && c == 93
-is_bracketed _ = false
-
-abbrev pub without_bracketed : Parts → Parts
-without_bracketed [] = []
-without_bracketed (p ∷ ps) = if is_bracketed p then ps else p ∷ ps
-
--- the header that a word announces, and what stands behind it
-abbrev pub announced_at : Parts → Option (ℕ × Parts)
-announced_at ps = do
+-- the header behind a word, and what stands behind it
+abbrev pub announced_at : List ℕ → Parts → Option (ℕ × Parts)
+announced_at word ps = do
   found ← next ps
-  header ← announced_of found.0
-  Some (header, without_bracketed found.1)
+  header ← announced_of word found.0
+  Some (header, found.1)
+
+-- the first header that a word announces
+abbrev pub announced_in : Parts → Option (ℕ × Parts)
+announced_in [] = None
+announced_in (p ∷ ps) = or_else (announced_at p ps) (announced_in ps)
 
 -- the header that a line begins with, and what stands behind it
 abbrev pub plain_at : Parts → Option (ℕ × Parts)
@@ -70,19 +73,28 @@ plain_at ps = do
   Some (header, found.1)
 
 abbrev pub header_at : Parts → Option (ℕ × Parts)
-header_at ps = by_word (behind_word ps)
-  where
-    by_word : Option Parts → Option (ℕ × Parts)
-    by_word (Some rest) = announced_at rest
-    by_word None = plain_at ps
+header_at ps = or_else (announced_in ps) (plain_at ps)
 
--- the objects of the parts, each part one
+-- what a part gives of the objects: an index alone none, and else one, behind an index or not
+abbrev pub given_in : List ℕ → Option ObjectPart
+given_in part = by_index part (behind_index part)
+  where
+    by_index : List ℕ → Option (List ℕ) → Option ObjectPart
+    by_index part (Some []) = Some Index
+    by_index part (Some (c ∷ cs)) = option_map (λ object. Object object) (object_of (c ∷ cs))
+    by_index part None = option_map (λ object. Object object) (object_of part)
+
+abbrev pub objects_given : ObjectPart → List ℕ
+objects_given Index = []
+objects_given (Object object) = object ∷ []
+
+-- the objects of the parts
 abbrev pub objects_in : Parts → Option (List ℕ)
 objects_in [] = Some []
 objects_in (p ∷ ps) = do
-  object ← object_of p
+  given ← given_in p
   others ← objects_in ps
-  Some (object ∷ others)
+  Some (objects_given given ++ others)
 
 -- the header and the objects of a line, as many as there are
 abbrev pub given_words : Parts → Option (ℕ × List ℕ)

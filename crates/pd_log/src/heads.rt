@@ -58,7 +58,7 @@ fn behind_set(line: &[u8]) -> Option<&[u8]>
 }
 
 /// What stands behind the head of a line of a transcript.
-fn behind_head(line: &[u8]) -> Option<&[u8]>
+pub(crate) fn behind_head(line: &[u8]) -> Option<&[u8]>
     ensures { option_map (λ rest. parts rest.now) result ≡ behind_head (parts line.now) }
 {
     let (time, line) = next(line)?;

@@ -1,8 +1,8 @@
 //! What a line of a log says, as a JSON object.
 
-ghost use Rattle.std.specs.Prelude.{◌≡◌, ◌++◌, OnOk};
+ghost use Rattle.std.specs.Prelude.{◌≡◌, ◌++◌, OnOk, option_map};
 ghost use Rattle.pd_log.specs.Objects.{bytes_members, counts_members, either_members, fault_members, json_text, mark_member};
-ghost use Rattle.pd_log.specs.Objects.{mark_name, members, reason_member, reset_members, told_member};
+ghost use Rattle.pd_log.specs.Objects.{mark_name, members, reason_member, reset_members, supplies_members, time_member, told_member};
 
 use crate::line::fault_words;
 use crate::{Answer, Mark};
@@ -90,6 +90,16 @@ fn push_reset(text: &mut Vec<u8>, mark: Mark) -> Result<(), AllocError>
     Ok(())
 }
 
+/// Writes a packet whose supplies are a kernel's words, as members.
+#[tactic(auto, unfolding(crate::specs::Objects::supplies_members))]
+fn push_supplies(text: &mut Vec<u8>, packet: &Packet) -> Result<(), AllocError>
+    ensures { OnOk result (text.new.items ≡ text.old.items ++ supplies_members packet.now) }
+{
+    text.extend_from_slice(b"\"packet\",\"mark\":\"whole\",\"read_as\":\"words\",")?;
+    push_packet_members(text, packet)?;
+    Ok(())
+}
+
 /// Writes a packet that was read as bytes, as members.
 #[tactic(auto, unfolding(crate::specs::Objects::bytes_members))]
 fn push_bytes(text: &mut Vec<u8>, packet: &Packet) -> Result<(), AllocError>
@@ -126,6 +136,7 @@ fn push_members(text: &mut Vec<u8>, answer: &Answer) -> Result<(), AllocError>
             text.push(b',')?;
             push_packet_members(text, packet)
         }
+        Answer::Supplies(packet) => push_supplies(text, packet),
         Answer::Bytes(packet) => push_bytes(text, packet),
         Answer::Either(packet, bytes) => push_either(text, packet, bytes),
         Answer::Fault { fault, at, mark } => {
@@ -139,19 +150,41 @@ fn push_members(text: &mut Vec<u8>, answer: &Answer) -> Result<(), AllocError>
     }
 }
 
-/// Writes what the line of a number says, as a JSON object and a line feed. For a line that says nothing there is none.
+/// Writes a log's own time, as a member behind a comma.
+#[tactic(auto, unfolding(crate::specs::Objects::time_member))]
+fn push_time(text: &mut Vec<u8>, time: Option<&[u8]>) -> Result<(), AllocError>
+    ensures { OnOk result (text.new.items ≡ text.old.items ++ time_member (option_map (λ bytes. bytes.now) time.entry)) }
+{
+    let Some(time) = time else {
+        return Ok(());
+    };
+    text.extend_from_slice(b",\"log_time\":\"")?;
+    text.extend_from_slice(time)?;
+    text.push(b'"')?;
+    Ok(())
+}
+
+/// Writes what the line of a number says, as a JSON object with the log's own time of that line, and a line feed. For a line that says
+/// nothing there is none.
 ///
 /// # Errors
 /// There is no memory for it; some of it may stand in the text.
 #[tactic(auto, unfolding(crate::specs::Objects::json_text))]
-pub fn push_json(text: &mut Vec<u8>, number: u64, answer: &Answer) -> Result<(), AllocError>
-    ensures { OnOk result (text.new.items ≡ text.old.items ++ json_text number answer.now) }
+pub fn push_json(
+    text: &mut Vec<u8>,
+    number: u64,
+    time: Option<&[u8]>,
+    answer: &Answer,
+) -> Result<(), AllocError>
+    ensures { OnOk result (text.new.items ≡ text.old.items
+        ++ json_text number (option_map (λ bytes. bytes.now) time.entry) answer.now) }
 {
     if matches!(answer, Answer::Nothing) {
         return Ok(());
     }
     text.extend_from_slice(b"{\"line\":")?;
     push_number(text, number)?;
+    push_time(text, time)?;
     text.extend_from_slice(b",\"kind\":")?;
     push_members(text, answer)?;
     text.extend_from_slice(b"}\n")

@@ -1,7 +1,8 @@
 //! What a line of a log says, as a line of text.
 
-ghost use Rattle.std.specs.Prelude.{◌≡◌, ◌++◌, OnOk};
-ghost use Rattle.pd_log.specs.Lines.{bytes_text, counts_text, either_text, fault_text, fault_words, line_text, mark_text, said, told_text};
+ghost use Rattle.std.specs.Prelude.{◌≡◌, ◌++◌, OnOk, option_map};
+ghost use Rattle.pd_log.specs.Lines.{bytes_text, counts_text, either_text, fault_text, fault_words, line_text, mark_text, said};
+ghost use Rattle.pd_log.specs.Lines.{supplies_text, time_text, told_text};
 
 use crate::{Answer, Mark};
 use pd_content::{push_header, push_number, push_packet};
@@ -68,6 +69,15 @@ fn push_counts(text: &mut Vec<u8>, header: u16, there: usize) -> Result<(), Allo
     push_told(text, header)
 }
 
+/// Writes a packet whose supplies are a kernel's words.
+#[tactic(auto, unfolding(crate::specs::Lines::supplies_text))]
+fn push_supplies(text: &mut Vec<u8>, packet: &Packet) -> Result<(), AllocError>
+    ensures { OnOk result (text.new.items ≡ text.old.items ++ supplies_text packet.now) }
+{
+    push_packet(text, packet)?;
+    text.extend_from_slice(b" (as the log's words tell it)")
+}
+
 /// Writes a packet that was read as bytes.
 #[tactic(auto, unfolding(crate::specs::Lines::bytes_text))]
 fn push_bytes(text: &mut Vec<u8>, packet: &Packet) -> Result<(), AllocError>
@@ -99,6 +109,7 @@ fn push_said(text: &mut Vec<u8>, answer: &Answer) -> Result<(), AllocError>
             push_packet(text, packet)?;
             text.extend_from_slice(mark_text(*mark).as_bytes())
         }
+        Answer::Supplies(packet) => push_supplies(text, packet),
         Answer::Bytes(packet) => push_bytes(text, packet),
         Answer::Either(packet, bytes) => push_either(text, packet, bytes),
         Answer::Fault { fault, at, mark } => {
@@ -115,19 +126,40 @@ fn push_said(text: &mut Vec<u8>, answer: &Answer) -> Result<(), AllocError>
     }
 }
 
-/// Writes what the line of a number says, as a line of text behind that number. For a line that says nothing there is none.
+/// Writes a log's own time, in brackets.
+#[tactic(auto, unfolding(crate::specs::Lines::time_text))]
+fn push_time(text: &mut Vec<u8>, time: Option<&[u8]>) -> Result<(), AllocError>
+    ensures { OnOk result (text.new.items ≡ text.old.items ++ time_text (option_map (λ bytes. bytes.now) time.entry)) }
+{
+    let Some(time) = time else {
+        return Ok(());
+    };
+    text.push(b'[')?;
+    text.extend_from_slice(time)?;
+    text.extend_from_slice(b"] ")
+}
+
+/// Writes what the line of a number says, as a line of text behind that number and the log's own time of that line. For a line that says
+/// nothing there is none.
 ///
 /// # Errors
 /// There is no memory for it; some of it may stand in the text.
 #[tactic(auto, unfolding(crate::specs::Lines::line_text))]
-pub fn push_line(text: &mut Vec<u8>, number: u64, answer: &Answer) -> Result<(), AllocError>
-    ensures { OnOk result (text.new.items ≡ text.old.items ++ line_text number answer.now) }
+pub fn push_line(
+    text: &mut Vec<u8>,
+    number: u64,
+    time: Option<&[u8]>,
+    answer: &Answer,
+) -> Result<(), AllocError>
+    ensures { OnOk result (text.new.items ≡ text.old.items
+        ++ line_text number (option_map (λ bytes. bytes.now) time.entry) answer.now) }
 {
     if matches!(answer, Answer::Nothing) {
         return Ok(());
     }
     push_number(text, number)?;
     text.extend_from_slice(b": ")?;
+    push_time(text, time)?;
     push_said(text, answer)?;
     text.push(b'\n')?;
     Ok(())

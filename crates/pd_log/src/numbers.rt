@@ -2,7 +2,7 @@
 
 ghost use Rattle.std.specs.Prelude.{◌≡◌, ◌<◌, ◌≤◌, ◌^◌, IfSome, length, true};
 ghost use Rattle.std.specs.Char.{is_ascii_hexdigit};
-ghost use Rattle.pd_log.specs.Words.{announced_of, counted_of, four_of, number_of, object_of, short_of, value_of};
+ghost use Rattle.pd_log.specs.Words.{announced_of, counted_of, four_of, is_sent_or_received, number_of, object_of, short_of, value_of};
 
 use crate::codes::without_0x;
 use pd_header::header_count;
@@ -84,12 +84,27 @@ fn counted_of(part: &[u8]) -> Option<u16>
     None
 }
 
-/// The header behind a word that announces it.
-pub(crate) fn announced_of(part: &[u8]) -> Option<u16>
-    ensures { result ≡ announced_of part.now }
+fn is_sent_or_received(word: &[u8]) -> bool
+    ensures { result ≡ is_sent_or_received word.now }
 {
-    if let Some(header) = short_of(without_0x(part)) {
-        return Some(header);
+    word == b"RECV".as_slice()
+        || word == b"SEND".as_slice()
+        || word == b"RX".as_slice()
+        || word == b"TX".as_slice()
+}
+
+/// The header of a part behind a word that announces it.
+pub(crate) fn announced_of(word: &[u8], part: &[u8]) -> Option<u16>
+    ensures { result ≡ announced_of word.now part.now }
+{
+    if word == b"header:".as_slice() {
+        return short_of(without_0x(part));
     }
-    counted_of(part)
+    if !is_sent_or_received(word) {
+        return None;
+    }
+    match four_of(without_0x(part)) {
+        Some(header) => Some(header),
+        None => counted_of(part),
+    }
 }

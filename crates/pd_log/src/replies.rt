@@ -9,7 +9,7 @@ use crate::heads::is_heading;
 use crate::parts::next;
 
 /// What stands behind a word, where the line goes on with it.
-fn behind_the<'a>(word: &[u8], line: &'a [u8]) -> Option<&'a [u8]>
+pub(crate) fn behind_the<'a>(word: &[u8], line: &'a [u8]) -> Option<&'a [u8]>
     ensures { option_map (λ rest. parts rest.now) result ≡ behind_the word.now (parts line.now) }
 {
     let (part, rest) = next(line)?;

@@ -1,9 +1,9 @@
 //! The header and the objects that a line gives.
 
-ghost use Rattle.std.specs.Prelude.{◌≡◌, IfOk, option_map};
+ghost use Rattle.std.specs.Prelude.{◌≡◌, ◌++◌, IfOk, OnOk, option_map};
 ghost use Rattle.pd_log.specs.Parts.{parts};
-ghost use Rattle.pd_log.specs.Words.{announced_at, announces, behind_word, given_words, header_at, is_bracketed, objects_in, plain_at};
-ghost use Rattle.pd_log.specs.Words.{without_bracketed};
+ghost use Rattle.pd_log.specs.Words.{announced_at, announced_in, behind_index, given_in, given_words, header_at};
+ghost use Rattle.pd_log.specs.Words.{objects_given, objects_in, plain_at};
 
 use crate::codes::without_0x;
 use crate::numbers::{announced_of, four_of, object_of};
@@ -17,48 +17,36 @@ pub(crate) struct Words {
     pub(crate) objects: Vec<u32>,
 }
 
-/// Whether a header stands behind this word.
-fn announces(part: &[u8]) -> bool
-    ensures { result ≡ announces part.now }
+/// What stands right behind an index in brackets.
+pub(crate) fn behind_index(part: &[u8]) -> Option<&[u8]>
+    ensures { option_map (λ rest. rest.now) result ≡ behind_index part.now }
 {
-    part == b"header:".as_slice() || part == b"RECV".as_slice()
+    match part {
+        [b'[', _, b']', rest @ ..] => Some(rest),
+        _ => None,
+    }
 }
 
-/// What stands behind the first word that announces a header.
-fn behind_word(line: &[u8]) -> Option<&[u8]>
-    ensures { option_map (λ rest. parts rest.now) result ≡ behind_word (parts line.now) }
+/// The header behind a word, and what stands behind it.
+fn announced_at<'a>(word: &[u8], line: &'a [u8]) -> Option<(u16, &'a [u8])>
+    ensures { option_map (λ x. (x.0, parts x.1.now)) result ≡ announced_at word.now (parts line.now) }
+{
+    let (part, rest) = next(line)?;
+    Some((announced_of(word, part)?, rest))
+}
+
+/// The first header that a word announces, and what stands behind it.
+fn announced_in(line: &[u8]) -> Option<(u16, &[u8])>
+    ensures { option_map (λ x. (x.0, parts x.1.now)) result ≡ announced_in (parts line.now) }
 {
     let mut line = line;
     while let Some((part, rest)) = next(line) {
-        if announces(part) {
-            return Some(rest);
+        if let Some(found) = announced_at(part, rest) {
+            return Some(found);
         }
         line = rest;
     }
     None
-}
-
-fn is_bracketed(part: &[u8]) -> bool
-    ensures { result ≡ is_bracketed part.now }
-{
-    matches!(part, [b'[', _, b']'])
-}
-
-fn without_bracketed(line: &[u8]) -> &[u8]
-    ensures { parts result.now ≡ without_bracketed (parts line.now) }
-{
-    match next(line) {
-        Some((part, rest)) if is_bracketed(part) => rest,
-        _ => line,
-    }
-}
-
-/// The header that a word announced, and what stands behind it.
-fn announced_at(line: &[u8]) -> Option<(u16, &[u8])>
-    ensures { option_map (λ x. (x.0, parts x.1.now)) result ≡ announced_at (parts line.now) }
-{
-    let (part, rest) = next(line)?;
-    Some((announced_of(part)?, without_bracketed(rest)))
 }
 
 /// The header that a line begins with, and what stands behind it.
@@ -72,23 +60,55 @@ fn plain_at(line: &[u8]) -> Option<(u16, &[u8])>
 fn header_at(line: &[u8]) -> Option<(u16, &[u8])>
     ensures { option_map (λ x. (x.0, parts x.1.now)) result ≡ header_at (parts line.now) }
 {
-    match behind_word(line) {
-        Some(rest) => announced_at(rest),
+    match announced_in(line) {
+        Some(found) => Some(found),
         None => plain_at(line),
     }
 }
 
+/// What a part gives of a packet's objects.
+#[derive(Clone, Copy, Debug, PartialEq, Eq)]
+pub(crate) enum ObjectPart {
+    /// The index of one, alone.
+    Index,
+    Object(u32),
+}
+
+/// The object that a part gives, behind an index or alone; or nothing, where it is an index.
+fn given_in(part: &[u8]) -> Option<ObjectPart>
+    ensures { result ≡ given_in part.now }
+{
+    match behind_index(part) {
+        Some([]) => Some(ObjectPart::Index),
+        Some(rest) => Some(ObjectPart::Object(object_of(rest)?)),
+        None => Some(ObjectPart::Object(object_of(part)?)),
+    }
+}
+
+/// Appends the object that a part gives, if it gives one.
+fn push_given(objects: &mut Vec<u32>, given: ObjectPart) -> Result<(), AllocError>
+    ensures { OnOk result (objects.new.items ≡ objects.old.items ++ objects_given given) }
+{
+    match given {
+        ObjectPart::Index => Ok(()),
+        ObjectPart::Object(object) => {
+            objects.push(object)?;
+            Ok(())
+        }
+    }
+}
+
 /// The objects to the end of a line.
-fn objects_in(alloc: Global, line: &[u8]) -> Result<Option<Vec<u32>>, AllocError>
+pub(crate) fn objects_in(alloc: Global, line: &[u8]) -> Result<Option<Vec<u32>>, AllocError>
     ensures { IfOk result (λ given. option_map (λ objects. objects.items) given ≡ objects_in (parts line.now)) }
 {
     let mut objects = Vec::new(alloc);
     let mut line = line;
     while let Some((part, rest)) = next(line) {
-        let Some(object) = object_of(part) else {
+        let Some(given) = given_in(part) else {
             return Ok(None);
         };
-        objects.push(object)?;
+        push_given(&mut objects, given)?;
         line = rest;
     }
     Ok(Some(objects))

@@ -1,10 +1,13 @@
 -- The lines of a log, one after the other.
 use Rattle.std.proofs.Common.{◌≡◌, ℕ, ◌+◌, List, [], ◌∷◌, ◌++◌, Some, None, refl, sym, ap, subst, ◌∙◌, append_assoc}
 use Rattle.std.proofs.lemmas.List.{append-nil}
+use Rattle.std.specs.Prelude.{Option}
 use Rattle.std.specs.Str.Lines.{lines}
 use Rattle.pd_edit_lines.specs.Words.{next}
 use Rattle.pd_log.specs.Answers.{Says}
+use Rattle.pd_log.specs.Begun.{BegunData}
 use Rattle.pd_log.specs.Objects.{json_text}
+use Rattle.pd_log.specs.Stamps.{log_time}
 use Rattle.pd_log.specs.declared.answer.Answer.{Answer}
 use Rattle.pd_page.specs.Logs.{TellsLog}
 
@@ -18,30 +21,35 @@ next_none [] e = refl
 next_none (w ∷ ws) e = absurd (cc)
 
 -- What is still to be told makes the whole, whatever it is.
-abbrev pub GoesOn : List (List ℕ) → ℕ → List ℕ → List (List ℕ) → Type 0
-GoesOn all number text rest = (more : List ℕ) → TellsLog number rest more → TellsLog 1 all (text ++ more)
+abbrev pub GoesOn : List (List ℕ) → ℕ → Option BegunData → List ℕ → List (List ℕ) → Type 0
+GoesOn all number begun text rest = (more : List ℕ) → TellsLog number begun rest more → TellsLog 1 None all (text ++ more)
 
-tells_more : (number : ℕ) (line : List ℕ) (ls : List (List ℕ)) (answer : Answer) (rest : List ℕ) → Says line answer →
-    TellsLog (number + 1) ls rest → TellsLog number (line ∷ ls) (json_text number answer ++ rest)
+-- what is told of a line
+abbrev pub told : ℕ → List ℕ → Answer → List ℕ
+told number line answer = json_text number (log_time line) answer
+
+tells_more : (number : ℕ) (begun behind : Option BegunData) (line : List ℕ) (ls : List (List ℕ)) (answer : Answer) (rest : List ℕ) →
+    Says begun line answer behind → TellsLog (number + 1) behind ls rest →
+    TellsLog number begun (line ∷ ls) (told number line answer ++ rest)
 unfolding TellsLog
-tells_more number line ls answer rest says others = (answer, rest, says, refl, others)
+tells_more number begun behind line ls answer rest says others = (answer, behind, rest, says, refl, others)
 
-tells_none : (number : ℕ) → TellsLog number [] []
+tells_none : (number : ℕ) (begun : Option BegunData) → TellsLog number begun [] []
 unfolding TellsLog
-tells_none number = refl
+tells_none number begun = refl
 
-pub line_on : (all : List (List ℕ)) (number : ℕ) (text text' line rest : List ℕ) (ls : List (List ℕ)) (answer : Answer) →
-    GoesOn all number text (lines rest) → Some (line, ls) ≡ next (lines rest) → Says line answer →
-    text' ≡ text ++ json_text number answer → GoesOn all (number + 1) text' ls
-line_on all number text text' line rest ls answer so_far is says longer more others =
+pub line_on : (all : List (List ℕ)) (number : ℕ) (begun behind : Option BegunData) (text text' line rest : List ℕ) (ls : List (List ℕ))
+    (answer : Answer) → GoesOn all number begun text (lines rest) → Some (line, ls) ≡ next (lines rest) → Says begun line answer behind →
+    text' ≡ text ++ told number line answer → GoesOn all (number + 1) behind text' ls
+line_on all number begun behind text text' line rest ls answer so_far is says longer more others =
     let whole =
-    so_far (json_text number answer ++ more)
-    (subst (λ l. TellsLog number l (json_text number answer ++ more)) (sym (next_some (lines rest) line ls is))
-    (tells_more number line ls answer more says others)) in
-    subst (λ t. TellsLog 1 all t) (sym (append_assoc text (json_text number answer) more) ∙ ap (λ t. t ++ more) (sym longer)) whole
+    so_far (told number line answer ++ more)
+    (subst (λ l. TellsLog number begun l (told number line answer ++ more)) (sym (next_some (lines rest) line ls is))
+    (tells_more number begun behind line ls answer more says others)) in
+    subst (λ t. TellsLog 1 None all t) (sym (append_assoc text (told number line answer) more) ∙ ap (λ t. t ++ more) (sym longer)) whole
 
-pub ends : (all : List (List ℕ)) (number : ℕ) (text rest : List ℕ) → GoesOn all number text (lines rest) → None ≡ next (lines rest) →
-    TellsLog 1 all text
-ends all number text rest so_far is =
-    let last = subst (λ l. TellsLog number l []) (sym (next_none (lines rest) is)) (tells_none number) in
-    subst (λ t. TellsLog 1 all t) (append-nil text) (so_far [] last)
+pub ends : (all : List (List ℕ)) (number : ℕ) (begun : Option BegunData) (text rest : List ℕ) → GoesOn all number begun text (lines rest) →
+    None ≡ next (lines rest) → TellsLog 1 None all text
+ends all number begun text rest so_far is =
+    let last = subst (λ l. TellsLog number begun l []) (sym (next_none (lines rest) is)) (tells_none number begun) in
+    subst (λ t. TellsLog 1 None all t) (append-nil text) (so_far [] last)

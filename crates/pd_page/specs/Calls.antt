@@ -100,6 +100,6 @@ TestsScript name script = Tells [] None (TellsTests name script)
 -- ---- what the lines of a log say
 
 abbrev pub Decodes : List ℕ → Ending → List ℕ → Type 0
-Decodes log Done out = TellsLog 1 (lines log) out
+Decodes log Done out = TellsLog 1 None (lines log) out
 Decodes log NoMemory out = out ≡ []
 Decodes log _ out = ⊥

@@ -1,6 +1,6 @@
 //! Logs that are read.
 
-ghost use Rattle.std.specs.Prelude.{IfOk};
+ghost use Rattle.std.specs.Prelude.{IfOk, None};
 ghost use Rattle.std.specs.Str.Lines.{lines};
 ghost use Rattle.pd_page.specs.Answers.{Answers};
 ghost use Rattle.pd_page.specs.Calls.{Decodes};
@@ -8,20 +8,22 @@ ghost use Rattle.pd_page.specs.Logs.{TellsLog};
 
 use crate::Ending;
 use crate::answer::Answer;
-use pd_log::{push_json, read};
+use pd_log::{Begun, log_time, push_json, read};
 use pd_scene::first_line;
 use std::alloc::{AllocError, Global};
 
 /// What the lines of a log say, a JSON object for each that says something.
 fn log_text(alloc: Global, log: &[u8]) -> Result<Vec<u8>, AllocError>
-    ensures { IfOk result (λ text. TellsLog 1 (lines log.now) text.items) }
+    ensures { IfOk result (λ text. TellsLog 1 None (lines log.now) text.items) }
 {
     let mut text = Vec::new(alloc);
     let mut rest = log;
     let mut number = 1;
+    let mut begun: Option<Begun> = None;
     while let Some((line, others)) = first_line(rest) {
-        let answer = read(alloc, line)?;
-        push_json(&mut text, number, &answer)?;
+        let told = read(alloc, line, begun)?;
+        push_json(&mut text, number, log_time(line), &told.answer)?;
+        begun = told.begun;
         rest = others;
         number += 1;
     }

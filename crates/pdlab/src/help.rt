@@ -340,11 +340,14 @@ A line may hold
                  EOP by their names; or five binary digits, 11000 11000 ..
   a transcript   a line of pdbench's show transcript, with lost or damaged
   words          a header and objects: 11A1 0001912C; PD RX, header: 0x161 [1];
-                 RECV 11a1/1 0001912C
+                 RECV 11a1/1 0001912C, as SEND, RX and TX; [0]0001912C
   bytes          low byte first: A1 11 2C 91 01 00, a1112c910100, or behind their
                  count, as a port's registers have them
-Codes that spell no packet, and are none as bytes, are told with the first fault and
-the place of the code. A line that begins with # or =, an empty one, and what pdbench answers to an
+Objects may follow their header in lines of their own, as [0]0001912C or, in a
+kernel's log, PDO 0: type 0, 5000 mV, 3000 mA [E]; the last one tells the packet.
+A log's own time, as [   12.345678], stands before what its line tells. Codes that
+spell no packet, and are none as bytes, are told with the first fault and the place
+of the code. Lines of a log on other things are passed over. A line that begins with # or =, an empty one, and what pdbench answers to an
 edit, as ok, tell nothing. Any other line is told to be of unknown form, as those of
 pdlab show, which tell what packets say themselves.
 

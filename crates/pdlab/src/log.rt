@@ -4,7 +4,7 @@ use crate::Ending;
 use crate::answers::Counted;
 use crate::fault::{output, tell, tell_no_file, tell_unwritten};
 use pd_device::{BenchFault, Output, write_all};
-use pd_log::{Answer, push_json, push_line, read};
+use pd_log::{Answer, Begun, log_time, push_json, push_line, read};
 use std::alloc::{AllocError, Global};
 use std::fs::File;
 use std::io::{BufRead, BufReader, Printer};
@@ -38,9 +38,11 @@ fn is_read(answer: &Answer) -> bool {
         answer,
         Answer::Nothing
             | Answer::Packet(_, _)
+            | Answer::Supplies(_)
             | Answer::Bytes(_)
             | Answer::Either(_, _)
             | Answer::HardReset(_)
+            | Answer::Header(_)
     )
 }
 
@@ -56,6 +58,7 @@ fn decode_lines<R: Print + Alloc<A = Global>, E: Print, I: BufRead + Drop>(
     let mut writer = output(rt);
     let mut line = Vec::new(rt.alloc());
     let mut ending = Ending::Done;
+    let mut begun = None;
     for number in 1..u64::MAX {
         line.clear();
         match reader.read_until(b'\n', &mut line) {
@@ -63,42 +66,69 @@ fn decode_lines<R: Print + Alloc<A = Global>, E: Print, I: BufRead + Drop>(
             Ok(_) => {}
             Err(_) => return tell_no_file(errors, file),
         }
-        match decode_line(rt.alloc(), &mut writer, number, line.as_slice(), is_json) {
-            Ok(true) => {}
-            Ok(false) => ending = Ending::Refused,
+        match decode_line(
+            rt.alloc(),
+            &mut writer,
+            number,
+            line.as_slice(),
+            begun,
+            is_json,
+        ) {
+            Ok(told) => {
+                ending = if told.is_read {
+                    ending
+                } else {
+                    Ending::Refused
+                };
+                begun = told.begun;
+            }
             Err(fault) => return tell_unwritten(errors, &writer, fault),
         }
     }
     ending
 }
 
-/// Tells one line, with its line feed or without; whether it holds what the desk can read.
+/// What is told of a line: its text, whether it holds what the desk can read, and the packet that has begun behind it.
+#[derive(Drop)]
+struct Told {
+    text: Vec<u8>,
+    is_read: bool,
+    begun: Option<Begun>,
+}
+
+/// Tells one line, with its line feed or without.
 fn decode_line<P: Print>(
     alloc: Global,
     writer: &mut Output<Counted<Printer<'_, P>>>,
     number: u64,
     line: &[u8],
+    begun: Option<Begun>,
     is_json: bool,
-) -> Result<bool, BenchFault> {
-    let (text, is_read) = line_text(alloc, number, line, is_json).map_err(|_| BenchFault::Memory)?;
-    write_all(writer, text.as_slice())?;
-    Ok(is_read)
+) -> Result<Told, BenchFault> {
+    let told = line_text(alloc, number, line, begun, is_json).map_err(|_| BenchFault::Memory)?;
+    write_all(writer, told.text.as_slice())?;
+    Ok(told)
 }
 
-/// What is told of a line, and whether it holds what the desk can read.
+/// What is told of a line.
 fn line_text(
     alloc: Global,
     number: u64,
     line: &[u8],
+    begun: Option<Begun>,
     is_json: bool,
-) -> Result<(Vec<u8>, bool), AllocError> {
+) -> Result<Told, AllocError> {
     let line = line.strip_suffix(b"\n").unwrap_or(line);
-    let answer = read(alloc, line)?;
-    let mut text = Vec::new(alloc);
+    let read = read(alloc, line, begun)?;
+    let (mut text, time) = (Vec::new(alloc), log_time(line));
     if is_json {
-        push_json(&mut text, number, &answer)?;
+        push_json(&mut text, number, time, &read.answer)?;
     } else {
-        push_line(&mut text, number, &answer)?;
+        push_line(&mut text, number, time, &read.answer)?;
     }
-    Ok((text, is_read(&answer)))
+    Ok(Told {
+        text,
+        is_read: is_read(&read.answer),
+        begun: read.begun,
+    })
 }

@@ -5,6 +5,6 @@ use Rattle.pd_log.proofs.words.objects_in.Goals as goal
 
 pub loop-part-preserved : goal.loop-part-preserved
 loop-part-preserved c =
-    rw c.in_ok-push.ensures.items
+    rw c.in_ok-push_given.ensures
     (one_more c.loop-part.objects.items (parts c.loop-part.line.now) c.in-Some.part.now (parts c.in-Some.rest.now)
-    c.in-Some-object_of.object c.in-Some.ensures c.in-Some-object_of.ensures ∙ c.loop-part.invariant)
+    c.in-Some-given_in.given c.in-Some.ensures c.in-Some-given_in.ensures ∙ c.loop-part.invariant)

@@ -5,7 +5,7 @@ use Rattle.pd_page.proofs.decode.log_text.Given as goal
 
 abbrev pub invariant-loop-line : goal.invariant-loop-line
 invariant-loop-line l = record {
-  text : GoesOn (lines l.log) l.number l.text.items (lines l.rest);
+  text : GoesOn (lines l.log) l.number l.begun l.text.items (lines l.rest);
   count : l.number + length l.rest ≤ length l.log + 1;
 }
 

@@ -1,10 +1,10 @@
 use Rattle.std.proofs.Common.{◌≡◌, length}
 use Rattle.pd_log.specs.Parts.{parts}
-use Rattle.pd_log.specs.Words.{behind_word}
-use Rattle.pd_log.proofs.words.behind_word.Given as goal
+use Rattle.pd_log.specs.Begun.{numbered_in}
+use Rattle.pd_log.proofs.begun.numbered_in.Given as goal
 
 abbrev pub invariant-loop-part : goal.invariant-loop-part
-invariant-loop-part l = behind_word (parts l.line) ≡ behind_word (parts l.initial.line)
+invariant-loop-part l = numbered_in (parts l.line) ≡ numbered_in (parts l.initial.line)
 
 abbrev pub decreases-loop-part : goal.decreases-loop-part
 decreases-loop-part l = length (parts l.line)
