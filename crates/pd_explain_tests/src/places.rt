@@ -38,17 +38,17 @@ mw = 4999
 ";
 
 const MANY_SAID: &[u8] =
-    b"a.toml: refused 2: `colour` is no key of this table; there are version end budget port cable sink event
-a.toml: refused 5: cable 2: `plug` is `wide`, not one of none, ack, nak, busy, silent
-a.toml: refused 5: event 2 (id 1, budget): `at` is -1, not 0 to 120000000 us
-a.toml: refused 7: cable 2: `name` is `thin`, as of cable 1
-a.toml: refused 7: event 2: `id` is 1, as of event 1
-a.toml: refused 8: port 1: `supplies` is a list whose supply 1 is [9000, 3000], not 1 to 7 pairs, the first of 5000 mV, \
+    b"a.toml:4: refused 2: `colour` is no key of this table; there are version end budget port cable sink event
+a.toml:18: refused 5: cable 2: `plug` is `wide`, not one of none, ack, nak, busy, silent
+a.toml:29: refused 5: event 2 (id 1, budget): `at` is -1, not 0 to 120000000 us
+a.toml:17: refused 7: cable 2: `name` is `thin`, as of cable 1
+a.toml:28: refused 7: event 2: `id` is 1, as of event 1
+a.toml:8: refused 8: port 1: `supplies` is a list whose supply 1 is [9000, 3000], not 1 to 7 pairs, the first of 5000 mV, \
 each voltage above the one before
-a.toml: refused 9: `budget` is 3000, below 5000 mW, what the floors add to
-a.toml: refused 9: event 2 (id 1, budget): `mw` is 4999, below 5000 mW, what the floors add to
-a.toml: refused 10: event 1 (id 1, port 1, attach): `cable` is `thick`, the name of no cable; there are `thin` `thin`
-a.toml: refused 10: event 1 (id 1, port 1, attach): `sink` is `phone`, the name of no sink; there are none
+a.toml:3: refused 9: `budget` is 3000, below 5000 mW, what the floors add to
+a.toml:31: refused 9: event 2 (id 1, budget): `mw` is 4999, below 5000 mW, what the floors add to
+a.toml:25: refused 10: event 1 (id 1, port 1, attach): `cable` is `thick`, the name of no cable; there are `thin` `thin`
+a.toml:26: refused 10: event 1 (id 1, port 1, attach): `sink` is `phone`, the name of no sink; there are none
 ";
 
 /// Places of each refusal, the least first.
@@ -68,7 +68,7 @@ fn nine_ports(rt: HostRuntime) -> Result<(), Fail> {
     assert_eq!(rt;
         said.as_slice(),
         b"a?b: refused 11: there are 9 ports, not 1 to 8
-a?b: refused 2: `colour` is no key of this table; there are version end budget port cable sink event
+a?b:1: refused 2: `colour` is no key of this table; there are version end budget port cable sink event
 a?b: refused 4: `version` is missing
 a?b: refused 4: `end` is missing
 a?b: refused 4: `budget` is missing
@@ -78,7 +78,7 @@ a?b: refused 4: `budget` is missing
     Ok(())
 }
 
-/// The same as objects: the name of the file, the key, the hint, and what is known of an event.
+/// The same as objects: the name of the file, the line, the key, the hint, and what is known of an event.
 #[test]
 fn objects(rt: HostRuntime) -> Result<(), Fail> {
     let text =
@@ -87,10 +87,10 @@ fn objects(rt: HostRuntime) -> Result<(), Fail> {
     let said = explain_places(rt.alloc(), Form::Json, b"a\n\"b", text)?;
     assert_eq!(rt;
         said.as_slice(),
-        b"{\"file\":\"a\\u000a\\\"b\",\"refusal\":2,\"table\":\"port\",\"number\":1,\"key\":\"flor\",\
+        b"{\"file\":\"a\\u000a\\\"b\",\"line\":5,\"refusal\":2,\"table\":\"port\",\"number\":1,\"key\":\"flor\",\
 \"sentence\":\"`flor` is no key of this table; there are floor supplies identity_tries unconstrained\",\
 \"hint\":\"did you mean `floor`?\"}
-{\"file\":\"a\\u000a\\\"b\",\"refusal\":5,\"table\":\"event\",\"number\":1,\"id\":-7,\"kind\":\"budget\",\"key\":\"id\",\
+{\"file\":\"a\\u000a\\\"b\",\"line\":9,\"refusal\":5,\"table\":\"event\",\"number\":1,\"id\":-7,\"kind\":\"budget\",\"key\":\"id\",\
 \"sentence\":\"`id` is -7, not 1 to 1000000\"}
 "
             .as_slice()

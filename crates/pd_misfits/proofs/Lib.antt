@@ -4,3 +4,5 @@ mod Pairs
 mod Joined
 mod Outs
 mod Whole
+pub mod Found
+mod NextLine

@@ -1,7 +1,9 @@
 pub mod Hints
 pub mod Laws
 pub mod Lines
+pub mod Marks
 pub mod Sentences
+pub mod Spots
 pub mod Supplies
 pub mod Texts
 pub mod Values

@@ -4,7 +4,7 @@ use Rattle.std.specs.List.{flat_map}
 use Rattle.pd_text.specs.declared.piece.Unit.TheVariants.{Plain}
 use Rattle.pd_text.specs.Pieces.{PieceData}
 use Rattle.pd_text.specs.Pieces as piece
-use Rattle.pd_text.specs.Fronts.{FrontData, front_with, line_with, refusal_pieces, said}
+use Rattle.pd_text.specs.Fronts.{line_with, said}
 use Rattle.toml.specs.Data.{Data, Members, string, integer}
 use Rattle.pd_scenario_tables.specs.declared.schema.Version.{Version}
 use Rattle.pd_scenario_tables.specs.declared.schema.EventName.{EventName}
@@ -15,36 +15,40 @@ use Rattle.pd_scenario_tables.specs.declared.schema.TableKind.TheVariants.{Top, 
 use Rattle.pd_scenario_tables.specs.declared.schema.Rule.{Rule}
 use Rattle.pd_scenario_tables.specs.declared.fault.ScenarioFault.{ScenarioFault}
 use Rattle.pd_scenario_tables.specs.declared.fault.ScenarioFault.TheVariants as fault
-use Rattle.pd_scenario_tables.specs.Numbers.{number_of}
 use Rattle.pd_scenario_tables.specs.Schema.{text_of, rules_of}
 use Rattle.pd_scenario_tables.specs.Tables.{value_at, event_at, keys_of, has_key, is_required}
 use Rattle.pd_scenario_tables.specs.Values.{passes}
 use Rattle.pd_scenario_text.specs.FileTables.{Tables}
+use Rattle.pd_misfits.specs.Spots.{FileData, SpotData, file_spot, spot_front, spot_in}
 use Rattle.pd_misfits.specs.Hints.{key_hint, value_hint}
 use Rattle.pd_misfits.specs.Values.{shown}
 use Rattle.pd_misfits.specs.Sentences.{value_sentence, missing_sentence, unknown_sentence}
 
--- a sentence of a key behind what is told first, with what is likelier meant, where these are known
-unfoldable pub line : FrontData → List ℕ → List ℕ → List ℕ → List ℕ
-line front word sentence hint = line_with front (said word sentence hint)
+-- a sentence of a key behind what is told first of its line, with what is likelier meant, where these are known
+unfoldable pub line : SpotData → List ℕ → List ℕ → List ℕ → List ℕ
+line spot word sentence hint = line_with (spot_front spot word) (said word sentence hint)
+
+-- a sentence of a key that isn't there, behind what is told first of the table's head
+unfoldable pub head_line : SpotData → List ℕ → List ℕ → List ℕ
+head_line spot word sentence = line_with (spot_front spot []) (said word sentence [])
 
 -- ---- one key
 
 -- a value is told where it is one to which the refusal applies
-abbrev pub value_part : FrontData → ScenarioFault → Version → ℕ → Rule → Option Data → List ℕ
-value_part front refusal version ports r None = []
-value_part front refusal version ports r (Some d) =
+abbrev pub value_part : SpotData → ScenarioFault → Version → ℕ → Rule → Option Data → List ℕ
+value_part spot refusal version ports r None = []
+value_part spot refusal version ports r (Some d) =
     if passes refusal version ports r.form d then []
-    else line front (text_of r.key) (value_sentence refusal ports r.key r.form d) (value_hint refusal version r.key r.form d)
+    else line spot (text_of r.key) (value_sentence refusal ports r.key r.form d) (value_hint refusal version r.key r.form d)
 
 -- a key is told where it is absent and nothing stands for it
-abbrev pub missing_part : FrontData → Rule → Option Data → List ℕ
-missing_part front r None = if is_required r.need then line front (text_of r.key) (missing_sentence r.key) [] else []
-missing_part front r (Some d) = []
+abbrev pub missing_part : SpotData → Rule → Option Data → List ℕ
+missing_part spot r None = if is_required r.need then head_line spot (text_of r.key) (missing_sentence r.key) else []
+missing_part spot r (Some d) = []
 
-abbrev pub rule_part : FrontData → ScenarioFault → Version → ℕ → Members → Rule → List ℕ
-rule_part front fault.MissingKey version ports t r = missing_part front r (value_at r.key t)
-rule_part front refusal version ports t r = value_part front refusal version ports r (value_at r.key t)
+abbrev pub rule_part : SpotData → ScenarioFault → Version → ℕ → Members → Rule → List ℕ
+rule_part spot fault.MissingKey version ports t r = missing_part spot r (value_at r.key t)
+rule_part spot refusal version ports t r = value_part spot refusal version ports r (value_at r.key t)
 
 -- the keys that a table may have, each behind a space
 unfoldable pub key_word : Rule → List ℕ
@@ -53,32 +57,28 @@ key_word r = 32 ∷ text_of r.key
 unfoldable pub known_keys : Version → TableKind → List ℕ
 known_keys version kind = flat_map key_word (rules_of version kind)
 
-unfoldable pub unknown_line : FrontData → Version → TableKind → List ℕ → List ℕ
-unknown_line front version kind k = line front (shown k) (unknown_sentence k ++ known_keys version kind) (key_hint version kind k)
+unfoldable pub unknown_line : SpotData → Version → TableKind → List ℕ → List ℕ
+unknown_line spot version kind k = line spot (shown k) (unknown_sentence k ++ known_keys version kind) (key_hint version kind k)
 
 -- a key is told that no rule has
-abbrev pub key_part : FrontData → Version → TableKind → List ℕ → List ℕ
-key_part front version kind k = if has_key (rules_of version kind) k then [] else unknown_line front version kind k
+abbrev pub key_part : SpotData → Version → TableKind → List ℕ → List ℕ
+key_part spot version kind k = if has_key (rules_of version kind) k then [] else unknown_line spot version kind k
 
 -- ---- one table
 
-abbrev pub table_text : FrontData → ScenarioFault → Version → ℕ → TableKind → Members → List ℕ
-table_text front fault.UnknownKey version ports kind t = flat_map (key_part front version kind) (keys_of t)
-table_text front refusal version ports kind t = flat_map (rule_part front refusal version ports t) (rules_of version kind)
+abbrev pub table_text : SpotData → ScenarioFault → Version → ℕ → TableKind → Members → List ℕ
+table_text spot fault.UnknownKey version ports kind t = flat_map (key_part spot version kind) (keys_of t)
+table_text spot refusal version ports kind t = flat_map (rule_part spot refusal version ports t) (rules_of version kind)
 
 -- ---- a whole file
 
--- the file and the number of the refusal
-unfoldable pub file_front : FrontData → ScenarioFault → FrontData
-file_front file refusal = front_with file (refusal_pieces (number_of refusal))
-
--- that, and a table by its place among those of its kind, from 1
+-- a table by its place among those of its kind, from 1
 abbrev pub table_pieces : List ℕ → ℕ → List PieceData
 table_pieces word number =
     piece.name word (codes "table") word ∷ piece.number (codes " ") (codes "number") Plain number ∷ piece.line_words (codes ": ") ∷ []
 
-unfoldable pub table_front : FrontData → List ℕ → ℕ → FrontData
-table_front front word number = front_with front (table_pieces word number)
+abbrev pub table_spot : SpotData → List ℕ → ℕ → SpotData
+table_spot spot word number = spot_in spot word number (table_pieces word number)
 
 -- ---- an event by its place, and by its id, its port and its kind where these can be read
 
@@ -121,37 +121,37 @@ event_pieces version number t =
     told_pieces number (whole_of (value_at key.Id t)) (whole_of (value_at key.Port t))
     (known_word (event_at version t) (value_at key.Kind t))
 
-unfoldable pub event_front : FrontData → Version → ℕ → Members → FrontData
-event_front front version number t = front_with front (event_pieces version number t)
+abbrev pub event_spot : SpotData → Version → ℕ → Members → SpotData
+event_spot spot version number t = spot_in spot (codes "event") number (event_pieces version number t)
 
 -- the tables of a kind, the first of which has this number
-unfoldable pub list_text : FrontData → List ℕ → ScenarioFault → Version → ℕ → TableKind → ℕ → List Members → List ℕ
-list_text front word refusal version ports kind number [] = []
-list_text front word refusal version ports kind number (t ∷ ts) =
-    table_text (table_front front word number) refusal version ports kind t
-    ++ list_text front word refusal version ports kind (number + 1) ts
+unfoldable pub list_text : SpotData → List ℕ → ScenarioFault → Version → ℕ → TableKind → ℕ → List Members → List ℕ
+list_text spot word refusal version ports kind number [] = []
+list_text spot word refusal version ports kind number (t ∷ ts) =
+    table_text (table_spot spot word number) refusal version ports kind t
+    ++ list_text spot word refusal version ports kind (number + 1) ts
 
 -- the events, by what the kind of each says
-unfoldable pub events_text : FrontData → ScenarioFault → Version → ℕ → ℕ → List Members → List ℕ
-events_text front refusal version ports number [] = []
-events_text front refusal version ports number (t ∷ ts) =
-    table_text (event_front front version number t) refusal version ports (Event (event_at version t)) t
-    ++ events_text front refusal version ports (number + 1) ts
+unfoldable pub events_text : SpotData → ScenarioFault → Version → ℕ → ℕ → List Members → List ℕ
+events_text spot refusal version ports number [] = []
+events_text spot refusal version ports number (t ∷ ts) =
+    table_text (event_spot spot version number t) refusal version ports (Event (event_at version t)) t
+    ++ events_text spot refusal version ports (number + 1) ts
 
-unfoldable pub lists_text : FrontData → ScenarioFault → Version → ℕ → Tables → List ℕ
-lists_text front refusal version ports d =
-    list_text front (codes "port") refusal version ports Port 1 d.ports
-    ++ (list_text front (codes "cable") refusal version ports Cable 1 d.cables
-    ++ (list_text front (codes "sink") refusal version ports Sink 1 d.sinks ++ events_text front refusal version ports 1 d.events))
+unfoldable pub lists_text : SpotData → ScenarioFault → Version → ℕ → Tables → List ℕ
+lists_text spot refusal version ports d =
+    list_text spot (codes "port") refusal version ports Port 1 d.ports
+    ++ (list_text spot (codes "cable") refusal version ports Cable 1 d.cables
+    ++ (list_text spot (codes "sink") refusal version ports Sink 1 d.sinks ++ events_text spot refusal version ports 1 d.events))
 
-unfoldable pub tables_text : FrontData → ScenarioFault → ℕ → Tables → List ℕ
-tables_text front refusal ports d =
-    table_text front refusal d.version ports Top d.top ++ lists_text front refusal d.version ports d
+unfoldable pub tables_text : SpotData → ScenarioFault → ℕ → Tables → List ℕ
+tables_text spot refusal ports d =
+    table_text spot refusal d.version ports Top d.top ++ lists_text spot refusal d.version ports d
 
 -- each place of a file at which the rule of a refusal of single tables is broken, in the order of the file's tables
-abbrev pub file_text : FrontData → ScenarioFault → Tables → List ℕ
-file_text file refusal d = tables_text (file_front file refusal) refusal (length d.ports) d
+abbrev pub file_text : FileData → ScenarioFault → Tables → List ℕ
+file_text file refusal d = tables_text (file_spot file refusal) refusal (length d.ports) d
 
 -- the same of its top table alone, whose rules need no count of the ports
-abbrev pub top_text : FrontData → ScenarioFault → Tables → List ℕ
-top_text file refusal d = table_text (file_front file refusal) refusal d.version (length d.ports) Top d.top
+abbrev pub top_text : FileData → ScenarioFault → Tables → List ℕ
+top_text file refusal d = table_text (file_spot file refusal) refusal d.version (length d.ports) Top d.top

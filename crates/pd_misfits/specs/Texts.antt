@@ -4,12 +4,11 @@ use Rattle.std.specs.Prelude.{length, take, unwrap_or}
 use Rattle.std.specs.List.{position_from}
 use Rattle.pd_text.specs.declared.piece.Unit.TheVariants.{Plain}
 use Rattle.pd_text.specs.Pieces as piece
-use Rattle.pd_text.specs.Fronts.{FrontData, front_with, refusal_pieces}
+use Rattle.pd_text.specs.Fronts.{FrontData, front_with, line_with, refusal_pieces, said}
 use Rattle.toml.specs.Data.{Members}
 use Rattle.toml.specs.Errors.{IsMemory, IsWithin, span_start}
 use Rattle.toml.specs.declared.de.error.Error.{Error}
 use Rattle.pd_scenario_text.specs.Reading.{IsTextOf}
-use Rattle.pd_misfits.specs.Lines.{line}
 use Rattle.pd_misfits.specs.Values.{quoted}
 
 abbrev pub ends_line : ℕ → Bool
@@ -64,11 +63,11 @@ IsEarlier text start hint = (hint ≡ []) ⊎ StandsEarlier text start hint
 
 -- what is said of an error of the TOML library in a text: the line in which it begins, and words; and of a key that stands there in
 -- which line it stands before, where that is told
-pub record TellsError (file : FrontData) (text : List ℕ) (e : Error) (said : List ℕ) : Type 0 where
+pub record TellsError (file : FrontData) (text : List ℕ) (e : Error) (told : List ℕ) : Type 0 where
   pub message : List ℕ
   pub hint : List ℕ
   pub earlier : IsEarlier text (span_start e) hint
-  pub said_is : said ≡ line (syntax_front file (line_at text (span_start e))) [] message hint
+  pub said_is : told ≡ line_with (syntax_front file (line_at text (span_start e))) (said [] message hint)
 
 -- a text that is no TOML is told by an error of the library, of a place in it
 abbrev pub TellsSyntax : FrontData → List ℕ → List ℕ → Type 0

@@ -77,7 +77,7 @@ fn without_front(bytes: &[u8]) -> &[u8]
 
 /// The name that stands first.
 #[tactic(auto, unfolding(crate::specs::Texts::name_of))]
-fn name_of(bytes: &[u8]) -> &[u8]
+pub(crate) fn name_of(bytes: &[u8]) -> &[u8]
     ensures { result.now ≡ name_of bytes.now }
 {
     let bytes = without_front(bytes);

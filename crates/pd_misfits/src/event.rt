@@ -1,14 +1,15 @@
 //! What is told first of an event.
 
-ghost use Rattle.std.specs.Prelude.{◌≡◌, IfOk};
+ghost use Rattle.std.specs.Prelude.{◌≡◌, IfOk, codes};
 ghost use Rattle.toml.specs.View.{table_view};
 ghost use Rattle.pd_scenario_tables.specs.Tables.{event_at, value_at};
-ghost use Rattle.pd_misfits.specs.Lines.{end_words, event_front, kind_words, known_word, port_words, told_pieces, whole_of, word_of};
-ghost use Rattle.pd_text.specs.Fronts.{front_with};
+ghost use Rattle.pd_misfits.specs.Lines.{end_words, event_spot, kind_words, known_word, port_words, told_pieces, whole_of, word_of};
+ghost use Rattle.pd_misfits.specs.Spots.{spot_in};
 
+use crate::spot::Spot;
 use pd_scenario_tables::{EventName, Key, Version, event_at, value_at};
 use pd_text::Piece::{LineWords, Name, Number, Text, Whole};
-use pd_text::{Front, Unit};
+use pd_text::Unit;
 use std::alloc::{AllocError, Global};
 use toml::{Table, Value};
 
@@ -69,19 +70,21 @@ fn end_words(id: Option<i64>, port: Option<i64>, kind: &[u8]) -> &'static [u8]
     }
 }
 
-/// What is told first of an event of which this is known.
-fn told_front(
+/// An event of which this is known.
+fn told_spot<'a>(
     alloc: Global,
-    front: &Front,
+    spot: &Spot<'a>,
     number: u64,
     id: Option<i64>,
     port: Option<i64>,
-    kind: &[u8],
-) -> Result<Front, AllocError>
-    ensures { IfOk result (λ own. own ≡ front_with front.now (told_pieces number id port kind.now)) }
+    kind: &'a [u8],
+) -> Result<Spot<'a>, AllocError>
+    ensures { IfOk result (λ own. own ≡ spot_in spot.now (codes "event") number (told_pieces number id port kind.now)) }
 {
-    front.with(
+    spot.table(
         alloc,
+        "event",
+        number,
         &[
             Name(b"event", b"table", b"event"),
             Number(b" ", b"number", Unit::Plain, number),
@@ -93,22 +96,20 @@ fn told_front(
     )
 }
 
-/// What is told first of an event: what is told before it, the event by its place among the events, from 1, and its id, its port and
-/// its kind, where these can be read.
+/// An event by its place among the events, from 1, and its id, its port and its kind, where these can be read.
 ///
 /// # Errors
 /// There is no memory.
-#[tactic(auto, unfolding(crate::specs::Lines::event_front))]
-pub fn event_front(
+pub fn event_spot<'a>(
     alloc: Global,
-    front: &Front,
+    spot: &Spot<'a>,
     version: Version,
     number: u64,
-    table: &Table,
-) -> Result<Front, AllocError>
-    ensures { IfOk result (λ own. own ≡ event_front front.now version number (table_view table.now)) }
+    table: &'a Table,
+) -> Result<Spot<'a>, AllocError>
+    ensures { IfOk result (λ own. own ≡ event_spot spot.now version number (table_view table.now)) }
 {
     let id = whole_at(table, Key::Id);
     let port = whole_at(table, Key::Port);
-    told_front(alloc, front, number, id, port, known_kind(version, table))
+    told_spot(alloc, spot, number, id, port, known_kind(version, table))
 }

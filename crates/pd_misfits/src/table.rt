@@ -6,20 +6,19 @@ ghost use Rattle.toml.specs.View.{view, table_view};
 ghost use Rattle.pd_scenario_tables.specs.Schema.{text_of, rules_of};
 ghost use Rattle.pd_scenario_tables.specs.Tables.{value_at, keys_of};
 ghost use Rattle.pd_misfits.specs.Sentences.{shown_text, value_sentence, missing_sentence, unknown_sentence};
-ghost use Rattle.pd_misfits.specs.Lines.{line, value_part, missing_part, rule_part, key_word, known_keys, unknown_line};
+ghost use Rattle.pd_misfits.specs.Lines.{head_line, line, value_part, missing_part, rule_part, key_word, known_keys, unknown_line};
 ghost use Rattle.pd_misfits.specs.Lines.{key_part, table_text};
 ghost use Rattle.pd_misfits.specs.Hints.{value_hint};
 
 use crate::hints::{push_key_hint, push_value_hint};
+use crate::spot::Spot;
 use crate::supplies::push_supplies;
-use crate::text::push_line;
 use crate::values::{push_printable, push_quoted, push_value};
 use crate::wanted::push_wanted;
 use pd_scenario_tables::{
     Form, Key, Rule, ScenarioFault, TableKind, Version, has_key, is_required, passes, rules_of,
     value_at,
 };
-use pd_text::Front;
 use std::alloc::{AllocError, Global};
 use toml::{Table, Value};
 
@@ -67,13 +66,13 @@ fn push_value_sentence(
 fn push_value_line(
     alloc: Global,
     text: &mut Vec<u8>,
-    front: &Front,
+    spot: &Spot<'_>,
     refused: Refused,
     rule: &Rule,
     value: &Value,
 ) -> Result<(), AllocError>
     ensures { OnOk result (text.new.items ≡ text.old.items
-        ++ line front.now (text_of rule.now.key) (value_sentence refused.fault refused.ports rule.now.key rule.now.form (view value.now))
+        ++ line spot.now (text_of rule.now.key) (value_sentence refused.fault refused.ports rule.now.key rule.now.form (view value.now))
         (value_hint refused.fault refused.version rule.now.key rule.now.form (view value.now))) }
 {
     let mut sentence = Vec::new(alloc);
@@ -89,20 +88,20 @@ fn push_value_line(
         value,
     )?;
     let key = rule.key.text().as_bytes();
-    push_line(text, front, key, sentence.as_slice(), hint.as_slice())
+    spot.push_line(alloc, text, key, sentence.as_slice(), hint.as_slice())
 }
 
 /// Writes a line where what stands at a rule's key is a value to which the refusal applies.
 fn push_value_part(
     alloc: Global,
     text: &mut Vec<u8>,
-    front: &Front,
+    spot: &Spot<'_>,
     refused: Refused,
     table: &Table,
     rule: &Rule,
 ) -> Result<(), AllocError>
     ensures { OnOk result (text.new.items ≡ text.old.items
-        ++ value_part front.now refused.fault refused.version refused.ports rule.now (value_at rule.now.key (table_view table.now))) }
+        ++ value_part spot.now refused.fault refused.version refused.ports rule.now (value_at rule.now.key (table_view table.now))) }
 {
     match value_at(table, rule.key) {
         Some(value)
@@ -112,7 +111,7 @@ fn push_value_part(
                 refused.ports,
                 rule.form,
                 value,
-            ) => { push_value_line(alloc, text, front, refused, rule, value) }
+            ) => { push_value_line(alloc, text, spot, refused, rule, value) }
         _ => Ok(()),
     }
 }
@@ -128,29 +127,29 @@ fn push_missing(text: &mut Vec<u8>, key: Key) -> Result<(), AllocError>
 fn push_missing_line(
     alloc: Global,
     text: &mut Vec<u8>,
-    front: &Front,
+    spot: &Spot<'_>,
     key: Key,
 ) -> Result<(), AllocError>
-    ensures { OnOk result (text.new.items ≡ text.old.items ++ line front.now (text_of key) (missing_sentence key) []) }
+    ensures { OnOk result (text.new.items ≡ text.old.items ++ head_line spot.now (text_of key) (missing_sentence key)) }
 {
     let mut sentence = Vec::new(alloc);
     push_missing(&mut sentence, key)?;
-    push_line(text, front, key.text().as_bytes(), sentence.as_slice(), b"")
+    spot.push_head_line(alloc, text, key.text().as_bytes(), sentence.as_slice())
 }
 
 /// Writes a line where a rule's key is absent and nothing stands for it.
 fn push_missing_part(
     alloc: Global,
     text: &mut Vec<u8>,
-    front: &Front,
+    spot: &Spot<'_>,
     table: &Table,
     rule: &Rule,
 ) -> Result<(), AllocError>
     ensures { OnOk result (text.new.items
-        ≡ text.old.items ++ missing_part front.now rule.now (value_at rule.now.key (table_view table.now))) }
+        ≡ text.old.items ++ missing_part spot.now rule.now (value_at rule.now.key (table_view table.now))) }
 {
     match value_at(table, rule.key) {
-        None if is_required(rule.need) => push_missing_line(alloc, text, front, rule.key),
+        None if is_required(rule.need) => push_missing_line(alloc, text, spot, rule.key),
         _ => Ok(()),
     }
 }
@@ -159,33 +158,33 @@ fn push_missing_part(
 fn push_rule(
     alloc: Global,
     text: &mut Vec<u8>,
-    front: &Front,
+    spot: &Spot<'_>,
     refused: Refused,
     table: &Table,
     rule: &Rule,
 ) -> Result<(), AllocError>
     ensures { OnOk result (text.new.items
-        ≡ text.old.items ++ rule_part front.now refused.fault refused.version refused.ports (table_view table.now) rule.now) }
+        ≡ text.old.items ++ rule_part spot.now refused.fault refused.version refused.ports (table_view table.now) rule.now) }
 {
     match refused.fault {
-        ScenarioFault::MissingKey => push_missing_part(alloc, text, front, table, rule),
-        _ => push_value_part(alloc, text, front, refused, table, rule),
+        ScenarioFault::MissingKey => push_missing_part(alloc, text, spot, table, rule),
+        _ => push_value_part(alloc, text, spot, refused, table, rule),
     }
 }
 
 fn push_rules(
     alloc: Global,
     text: &mut Vec<u8>,
-    front: &Front,
+    spot: &Spot<'_>,
     refused: Refused,
     table: &Table,
     rules: &[Rule],
 ) -> Result<(), AllocError>
     ensures { OnOk result (text.new.items ≡ text.old.items
-        ++ flat_map (rule_part front.now refused.fault refused.version refused.ports (table_view table.now)) rules.now) }
+        ++ flat_map (rule_part spot.now refused.fault refused.version refused.ports (table_view table.now)) rules.now) }
 {
     for rule in rules {
-        push_rule(alloc, text, front, refused, table, rule)?;
+        push_rule(alloc, text, spot, refused, table, rule)?;
     }
     Ok(())
 }
@@ -228,12 +227,12 @@ fn push_known_keys(text: &mut Vec<u8>, version: Version, kind: TableKind) -> Res
 fn push_unknown_line(
     alloc: Global,
     text: &mut Vec<u8>,
-    front: &Front,
+    spot: &Spot<'_>,
     version: Version,
     kind: TableKind,
     key: &str,
 ) -> Result<(), AllocError>
-    ensures { OnOk result (text.new.items ≡ text.old.items ++ unknown_line front.now version kind key.now) }
+    ensures { OnOk result (text.new.items ≡ text.old.items ++ unknown_line spot.now version kind key.now) }
 {
     let mut shown = Vec::new(alloc);
     push_printable(&mut shown, key.as_bytes())?;
@@ -242,9 +241,9 @@ fn push_unknown_line(
     push_known_keys(&mut sentence, version, kind)?;
     let mut hint = Vec::new(alloc);
     push_key_hint(&mut hint, version, kind, key)?;
-    push_line(
+    spot.push_line(
+        alloc,
         text,
-        front,
         shown.as_slice(),
         sentence.as_slice(),
         hint.as_slice(),
@@ -255,32 +254,32 @@ fn push_unknown_line(
 fn push_key(
     alloc: Global,
     text: &mut Vec<u8>,
-    front: &Front,
+    spot: &Spot<'_>,
     version: Version,
     kind: TableKind,
     key: &str,
 ) -> Result<(), AllocError>
-    ensures { OnOk result (text.new.items ≡ text.old.items ++ key_part front.now version kind key.now) }
+    ensures { OnOk result (text.new.items ≡ text.old.items ++ key_part spot.now version kind key.now) }
 {
     if has_key(rules_of(version, kind), key) {
         return Ok(());
     }
-    push_unknown_line(alloc, text, front, version, kind, key)
+    push_unknown_line(alloc, text, spot, version, kind, key)
 }
 
 fn push_keys(
     alloc: Global,
     text: &mut Vec<u8>,
-    front: &Front,
+    spot: &Spot<'_>,
     version: Version,
     kind: TableKind,
     table: &Table,
 ) -> Result<(), AllocError>
     ensures { OnOk result (text.new.items
-        ≡ text.old.items ++ flat_map (key_part front.now version kind) (keys_of (table_view table.now))) }
+        ≡ text.old.items ++ flat_map (key_part spot.now version kind) (keys_of (table_view table.now))) }
 {
     for key in table.keys() {
-        push_key(alloc, text, front, version, kind, key.as_str())?;
+        push_key(alloc, text, spot, version, kind, key.as_str())?;
     }
     Ok(())
 }
@@ -289,20 +288,20 @@ fn push_keys(
 pub fn push_table(
     alloc: Global,
     text: &mut Vec<u8>,
-    front: &Front,
+    spot: &Spot<'_>,
     refused: Refused,
     kind: TableKind,
     table: &Table,
 ) -> Result<(), AllocError>
     ensures { OnOk result (text.new.items
-        ≡ text.old.items ++ table_text front.now refused.fault refused.version refused.ports kind (table_view table.now)) }
+        ≡ text.old.items ++ table_text spot.now refused.fault refused.version refused.ports kind (table_view table.now)) }
 {
     match refused.fault {
-        ScenarioFault::UnknownKey => push_keys(alloc, text, front, refused.version, kind, table),
+        ScenarioFault::UnknownKey => push_keys(alloc, text, spot, refused.version, kind, table),
         _ => push_rules(
             alloc,
             text,
-            front,
+            spot,
             refused,
             table,
             rules_of(refused.version, kind),

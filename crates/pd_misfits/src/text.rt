@@ -1,7 +1,6 @@
 //! Where the text of a scenario file breaks a rule.
 
-ghost use Rattle.std.specs.Prelude.{◌≡◌, ◌≤◌, ◌++◌, OnOk, IfOk, length};
-ghost use Rattle.pd_misfits.specs.Lines.{line};
+ghost use Rattle.std.specs.Prelude.{◌≡◌, ◌≤◌, IfOk, length};
 ghost use Rattle.pd_misfits.specs.Texts.{IsEarlier, line_at, syntax_front, TellsError};
 ghost use Rattle.toml.specs.Errors.{IsMemory, IsWithin};
 
@@ -39,24 +38,6 @@ fn syntax_front(alloc: Global, file: &Front, line: u64) -> Result<Front, AllocEr
     )
 }
 
-/// Writes a sentence behind what is told first, on a line of its own: the key that it is of, and behind it what is likelier meant,
-/// each where it isn't empty.
-///
-/// # Errors
-/// There is no memory; some of the line may stand there.
-#[tactic(auto, unfolding(crate::specs::Lines::line))]
-pub fn push_line(
-    text: &mut Vec<u8>,
-    front: &Front,
-    key: &[u8],
-    sentence: &[u8],
-    hint: &[u8],
-) -> Result<(), AllocError>
-    ensures { OnOk result (text.new.items ≡ text.old.items ++ line front.now key.now sentence.now hint.now) }
-{
-    front.say(text, key, sentence, hint)
-}
-
 /// Where the text has a key twice, in which line it stands before the error, as far as that is found; else nothing.
 fn hint_of(alloc: Global, text: &[u8], error: &Error, start: usize) -> Result<Vec<u8>, AllocError>
     requires { start ≤ length text.now }
@@ -89,6 +70,6 @@ pub fn explain_error(
     let hint = hint_of(alloc, text, error, span.start)?;
     let mut said = Vec::new(alloc);
     let message = error.message().as_bytes();
-    push_line(&mut said, &front, b"", message, hint.as_slice())?;
+    front.say(&mut said, b"", message, hint.as_slice())?;
     Ok(said)
 }

@@ -1,8 +1,8 @@
 -- What is told of a text begins with the number that it is answered by.
 use Rattle.std.proofs.Common.{◌≡◌, ◌⊎◌, ℕ, ◌+◌, ◌-◌, ◌<◌, ◌≤◌, ◌^◌, ◌/◌, ◌%◌, Bool, true, false, ◌==◌, List, [], ◌∷◌, ◌++◌, codes}
 use Rattle.std.proofs.Common.{decimal, length}
-use Rattle.std.proofs.Common.{nat_lt, take, drop, refl, sym, ap, ◌∙◌, subst, arith, inl, inr, Ok, Err, append_assoc}
-use Rattle.std.specs.Prelude.{Result, filter, if◌then◌else◌}
+use Rattle.std.proofs.Common.{nat_lt, take, drop, refl, sym, ap, ◌∙◌, subst, arith, inl, inr, Ok, Err, Some, None, append_assoc}
+use Rattle.std.specs.Prelude.{Result, Option, filter, if◌then◌else◌}
 use Rattle.std.specs.List.{flat_map}
 use Rattle.std.specs.Str.{is_utf8}
 use Rattle.std.proofs.lemmas.Bool.{cases_Bool, cases_lt}
@@ -24,11 +24,14 @@ use Rattle.pd_scenario_tables.specs.declared.fault.ScenarioFault.TheVariants.{Du
 use Rattle.pd_scenario_tables.specs.Numbers.{number_of}
 use Rattle.pd_scenario_tables.specs.Ports.{counted}
 use Rattle.pd_scenario_text.specs.Reading.{reading, IsTextOf}
-use Rattle.pd_misfits.specs.Lines.{line, file_front}
+use Rattle.pd_misfits.specs.Marks.{AreMarks, LinesData, line_of}
+use Rattle.pd_misfits.specs.Spots.{line_pieces, refused_front}
+use Rattle.pd_misfits.proofs.Found.{lines_are_right}
 use Rattle.pd_misfits.specs.Texts.{ends_line, line_at, syntax_front, TellsSyntax}
 use Rattle.pd_places.specs.FirstLines.{line_count, most_places}
 use Rattle.pd_places.specs.Places.{IsCut, IsShort, more_text, one_line_byte, one_line, file_of, places_text, TellsPlaces}
-use Rattle.pd_places.specs.First.{Begins, BeginsWith, IsRefusedFor, IsAnswered, TellsFirst}
+use Rattle.pd_places.specs.Places.{file_with, TellsTables}
+use Rattle.pd_places.specs.First.{BeginsWith, IsRefusedFor, IsAnswered, TellsFirst}
 use Rattle.pd_places.proofs.LeastFirst.{least_first}
 
 -- ---- no line ends in what stands before a sentence
@@ -145,14 +148,45 @@ none_in_refusal Json k =
     none_in_both (codes ",\"refusal\":" ++ decimal (number_of k)) []
     (none_in_both (codes ",\"refusal\":") (decimal (number_of k)) refl (none_in_number_of k)) refl
 
-none_in_front : (form : Form) (name : List ℕ) (k : ScenarioFault) → filter ends_line (file_front (file_of form name) k).text ≡ []
-unfolding file_front
-none_in_front Words name k =
-    none_in_both (file_of Words name).text (text_of_all Words (refusal_pieces (number_of k)))
-    (none_in_file Words name) (none_in_refusal Words k)
-none_in_front Json name k =
-    none_in_both (file_of Json name).text (text_of_all Json (refusal_pieces (number_of k)))
-    (none_in_file Json name) (none_in_refusal Json k)
+-- a number that a line has, where one is found
+abbrev Fits : Option ℕ → Type 0
+Fits line = (n : ℕ) → line ≡ Some n → n < 2 ^ 64
+
+none_in_line : (form : Form) (line : Option ℕ) → Fits line → filter ends_line (text_of_all form (line_pieces line)) ≡ []
+unfolding text_of_all key_text
+none_in_line Words None fits = refl
+none_in_line Json None fits = refl
+none_in_line Words (Some n) fits =
+    none_in_both (codes ":" ++ decimal n) [] (none_in_both (codes ":") (decimal n) refl (none_in_number n (fits n refl))) refl
+none_in_line Json (Some n) fits =
+    none_in_both (codes ",\"line\":" ++ decimal n) []
+    (none_in_both (codes ",\"line\":") (decimal n) refl (none_in_number n (fits n refl))) refl
+
+none_in_words : (name : List ℕ) (line : Option ℕ) (k : ScenarioFault) → Fits line
+    → filter ends_line (refused_front (file_of Words name) line k).text ≡ []
+none_in_words name line k fits =
+    none_in_both ((file_of Words name).text ++ text_of_all Words (line_pieces line)) (text_of_all Words (refusal_pieces (number_of k)))
+    (none_in_both (file_of Words name).text (text_of_all Words (line_pieces line)) (none_in_file Words name) (none_in_line Words line fits))
+    (none_in_refusal Words k)
+
+none_in_object : (name : List ℕ) (line : Option ℕ) (k : ScenarioFault) → Fits line
+    → filter ends_line (refused_front (file_of Json name) line k).text ≡ []
+none_in_object name line k fits =
+    none_in_both ((file_of Json name).text ++ text_of_all Json (line_pieces line)) (text_of_all Json (refusal_pieces (number_of k)))
+    (none_in_both (file_of Json name).text (text_of_all Json (line_pieces line)) (none_in_file Json name) (none_in_line Json line fits))
+    (none_in_refusal Json k)
+
+none_in_front : (form : Form) (name : List ℕ) (line : Option ℕ) (k : ScenarioFault) → Fits line
+    → filter ends_line (refused_front (file_of form name) line k).text ≡ []
+none_in_front Words name line k fits = none_in_words name line k fits
+none_in_front Json name line k fits = none_in_object name line k fits
+
+-- the line that is found has such a number
+line_fits : (text : List ℕ) (lines : LinesData) (table : List ℕ) (number : ℕ) (key : List ℕ) → AreMarks text lines
+    → Fits (line_of lines table number key)
+line_fits text lines table number key right n is =
+    let (m, mark, same, named) = lines_are_right text lines table number key n right is in
+    subst (λ x. x < 2 ^ 64) same mark.fits
 
 -- ---- the first lines of a text begin with it
 
@@ -176,8 +210,8 @@ cut_begins front rest cut past =
     let whole : cut ≡ length front + left = omega (arith, past) in
     (take left rest, ap (λ n. take n (front ++ rest)) whole ∙ take-append-add front rest left)
 
-short_begins : (front file : FrontData) (text said : List ℕ) → filter ends_line front.text ≡ [] → Begins front text
-    → IsShort most_places file text said → Begins front said
+short_begins : (front file : FrontData) (text said : List ℕ) → filter ends_line front.text ≡ [] → BeginsWith front.text text
+    → IsShort most_places file text said → BeginsWith front.text said
 short_begins front file text said none (rest, is) (cut, is_cut, says) =
     let past = cut_past front.text rest cut none (subst (λ v. IsCut most_places v cut) is is_cut) in
     let (some, part) = cut_begins front.text rest cut past in
@@ -215,12 +249,23 @@ some_table : (k : ScenarioFault) (text : List ℕ) → RefusedFor k text → ((t
 some_table k text (inl (s, of, uncounted)) none = none s of
 some_table k text (inr (ports, (s, of, counts), more)) none = none s of
 
-tables_first : (form : Form) (name text said : List ℕ) (k : ScenarioFault) → RefusedFor k text → TellsPlaces (file_of form name) text said
-    → Begins (file_front (file_of form name) k) said
-tables_first form name text said k refused (inl (t, is, short)) =
+-- what is told of tables begins with the number of their refusal, behind some line
+told_first : (form : Form) (name text said : List ℕ) (k : ScenarioFault) (t : Members) → IsRefusedFor k t
+    → TellsTables (file_of form name) text t said
+    → (line : Option ℕ) × BeginsWith (refused_front (file_of form name) line k).text said
+told_first form name text said k t refused (lines, right, short) =
     let file = file_of form name in
-    short_begins (file_front file k) file (places_text file t) said (none_in_front form name k)
-    (least_first file k t (refused_table k text t is refused)) short
+    let (table, number, key, begins) = least_first (file_with file lines) k t refused in
+    let line = line_of lines table number key in
+    let none = none_in_front form name line k (line_fits text lines table number key right) in (
+      line,
+      short_begins (refused_front file line k) file (places_text (file_with file lines) t) said none begins short,
+    )
+
+tables_first : (form : Form) (name text said : List ℕ) (k : ScenarioFault) → RefusedFor k text → TellsPlaces (file_of form name) text said
+    → (line : Option ℕ) × BeginsWith (refused_front (file_of form name) line k).text said
+tables_first form name text said k refused (inl (t, is, told)) =
+    told_first form name text said k t (refused_table k text t is refused) told
 tables_first form name text said k refused (inr told) = absurd (some_table k text refused told.0)
 
 -- ---- no TOML
@@ -230,14 +275,14 @@ no_table text (inl none) t is = none t is
 no_table text (inr (ports, counts, none)) t is = none t is
 
 syntax_begins : (file : FrontData) (text told : List ℕ) → TellsSyntax file text told → TellsFirst file Toml told
-unfolding line line_with
+unfolding line_with
 syntax_begins file text told (none, e, some, within, is) =
     let number = line_at text (span_start e) in
     let front = syntax_front file number in
     (number, (text_of_all front.form (said [] is.message is.hint) ++ line_end front.form, is.said_is))
 
 syntax_first : (file : FrontData) (text told : List ℕ) → IsAnswered Toml text → TellsPlaces file text told → TellsFirst file Toml told
-syntax_first file text told answered (inl (t, is, short)) = absurd (no_table text answered t is)
+syntax_first file text told answered (inl (t, is, tables)) = absurd (no_table text answered t is)
 syntax_first file text told answered (inr syntax) = syntax_begins file text told syntax
 
 pub answer_first : (form : Form) (name text said : List ℕ) (k : ScenarioFault) → IsAnswered k text

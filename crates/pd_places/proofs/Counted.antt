@@ -5,7 +5,6 @@ use Rattle.std.specs.Prelude.{Option, Result, nat_lt, is_none}
 use Rattle.std.specs.List.{list_all, filter_map}
 use Rattle.std.proofs.lemmas.Bool.{false≢true, or_left}
 use Rattle.std.proofs.lemmas.List.Folds.{list_any_at}
-use Rattle.pd_text.specs.Fronts.{FrontData}
 use Rattle.toml.specs.Data.{Data, string, integer, float, boolean, datetime, array, table, Items, Members, as_table}
 use Rattle.pd_scenario_tables.specs.declared.schema.Key.TheVariants as key
 use Rattle.pd_scenario_tables.specs.declared.schema.Need.TheVariants.{Required}
@@ -20,7 +19,7 @@ use Rattle.pd_scenario_tables.specs.Tables.{value_at, value_fails, elements_in, 
 use Rattle.pd_scenario_tables.specs.Ports.{count_in, counted}
 use Rattle.pd_scenario_text.specs.FileTables.{Tables, tables_of}
 use Rattle.pd_scenario_text.specs.Refusals.{fails_somewhere}
-use Rattle.pd_misfits.specs.Lines.{file_front}
+use Rattle.pd_misfits.specs.Spots.{FileData, file_spot}
 use Rattle.pd_places.specs.Places.{refusal_text}
 use Rattle.pd_places.specs.First.{Begins}
 use Rattle.pd_places.proofs.Told.{begins_of}
@@ -135,17 +134,17 @@ mistypes_ports ports d h =
     or_left _ _ (list_any_at (λ (r : Rule). value_fails (passes WrongType d.version ports r.form) (value_at r.key d.top)) top_rules 3
     (rule key.Port Required form.Tables) (lit< tt) h)
 
-by_cause : (file : FrontData) (t : Members) (k : ScenarioFault) → Cause k (value_at key.Port t)
-    → Begins (file_front file k) (refusal_text file k (tables_of t))
+by_cause : (file : FileData) (t : Members) (k : ScenarioFault) → Cause k (value_at key.Port t)
+    → Begins (file_spot file k) (refusal_text file k (tables_of t))
 by_cause file t Toml h = absurd h
 by_cause file t UnknownKey h = absurd h
 by_cause file t WrongType h =
     let d = tables_of t in
-    begins_of (file_front file WrongType) _ _ (tables_told (file_front file WrongType) WrongType (length d.ports) d)
+    begins_of (file_spot file WrongType) _ _ (tables_told (file_spot file WrongType) WrongType (length d.ports) d)
     (mistypes_ports (length d.ports) d h)
 by_cause file t MissingKey h =
     let d = tables_of t in
-    begins_of (file_front file MissingKey) _ _ (tables_told (file_front file MissingKey) MissingKey (length d.ports) d)
+    begins_of (file_spot file MissingKey) _ _ (tables_told (file_spot file MissingKey) MissingKey (length d.ports) d)
     (lacks_ports (length d.ports) d h)
 by_cause file t Range h = absurd h
 by_cause file t Name h = absurd h
@@ -153,9 +152,9 @@ by_cause file t Duplicate h = absurd h
 by_cause file t Supplies h = absurd h
 by_cause file t Floors h = absurd h
 by_cause file t UnknownName h = absurd h
-by_cause file t Limit h = too_many_told (file_front file Limit) (tables_of t) h
+by_cause file t Limit h = too_many_told (file_spot file Limit) (tables_of t) h
 by_cause file t Memory h = absurd h
 
-pub uncounted_told : (file : FrontData) (t : Members) (k : ScenarioFault) → counted t ≡ Err k
-    → Begins (file_front file k) (refusal_text file k (tables_of t))
+pub uncounted_told : (file : FileData) (t : Members) (k : ScenarioFault) → counted t ≡ Err k
+    → Begins (file_spot file k) (refusal_text file k (tables_of t))
 uncounted_told file t k h = by_cause file t k (cause_of (value_at key.Port t) k h)

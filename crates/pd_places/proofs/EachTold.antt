@@ -4,7 +4,6 @@ use Rattle.std.specs.Prelude.{nat_lt, All}
 use Rattle.std.specs.List.{list_any}
 use Rattle.std.proofs.lemmas.Bool.{or_parts}
 use Rattle.std.proofs.lemmas.List.Elements.{All-nil, All-cons}
-use Rattle.pd_text.specs.Fronts.{FrontData}
 use Rattle.toml.specs.Data.{Members}
 use Rattle.pd_scenario_tables.specs.declared.fault.ScenarioFault.{ScenarioFault}
 use Rattle.pd_scenario_tables.specs.declared.fault.ScenarioFault.TheVariants.{UnknownKey, WrongType, MissingKey, Range, Name}
@@ -13,7 +12,7 @@ use Rattle.pd_scenario_tables.specs.Ports.{counted}
 use Rattle.pd_scenario_text.specs.FileTables.{Tables, tables_of}
 use Rattle.pd_scenario_text.specs.Refusals.{applies, refusals}
 use Rattle.pd_scenario_text.proofs.Decided.{Clean}
-use Rattle.pd_misfits.specs.Lines.{file_front}
+use Rattle.pd_misfits.specs.Spots.{FileData, SpotData, file_spot}
 use Rattle.pd_places.specs.Places.{refusal_text}
 use Rattle.pd_places.specs.First.{Begins, IsToldOf, ArePlain, always_told}
 use Rattle.pd_places.proofs.Told.{Told}
@@ -25,42 +24,42 @@ use Rattle.pd_places.proofs.LimitsTold.{limits_told}
 use Rattle.pd_places.proofs.Counted.{counted_ports}
 use Rattle.pd_places.proofs.LeastFirst.{few_ports}
 
-either : (front : FrontData) (b : Bool) (text : List ℕ) → Told front b text
-    → ((b ≡ true) × Begins front text) ⊎ ((b ≡ false) × (text ≡ []))
-either front true text told = inl (refl, told)
-either front false text told = inr (refl, told)
+either : (spot : SpotData) (b : Bool) (text : List ℕ) → Told spot b text
+    → ((b ≡ true) × Begins spot text) ⊎ ((b ≡ false) × (text ≡ []))
+either spot true text told = inl (refl, told)
+either spot false text told = inr (refl, told)
 
-one : (file : FrontData) (d : Tables) (f : ScenarioFault)
-    → Told (file_front file f) (applies f (length d.ports) d) (refusal_text file f d) → IsToldOf file (length d.ports) d f
-one file d f told = either (file_front file f) (applies f (length d.ports) d) (refusal_text file f d) told
+one : (file : FileData) (d : Tables) (f : ScenarioFault)
+    → Told (file_spot file f) (applies f (length d.ports) d) (refusal_text file f d) → IsToldOf file (length d.ports) d f
+one file d f told = either (file_spot file f) (applies f (length d.ports) d) (refusal_text file f d) told
 
-more : (file : FrontData) (d : Tables) (f : ScenarioFault) (faults : List ScenarioFault)
-    → Told (file_front file f) (applies f (length d.ports) d) (refusal_text file f d)
+more : (file : FileData) (d : Tables) (f : ScenarioFault) (faults : List ScenarioFault)
+    → Told (file_spot file f) (applies f (length d.ports) d) (refusal_text file f d)
     → All (IsToldOf file (length d.ports) d) faults → All (IsToldOf file (length d.ports) d) (f ∷ faults)
 more file d f faults told others = All-cons (IsToldOf file (length d.ports) d) f faults (one file d f told) others
 
-none : (file : FrontData) (d : Tables) → All (IsToldOf file (length d.ports) d) []
+none : (file : FileData) (d : Tables) → All (IsToldOf file (length d.ports) d) []
 none file d = All-nil (IsToldOf file (length d.ports) d)
 
 -- the refusals up to the names, before others
-tables_too : (file : FrontData) (d : Tables) (faults : List ScenarioFault) → All (IsToldOf file (length d.ports) d) faults
+tables_too : (file : FileData) (d : Tables) (faults : List ScenarioFault) → All (IsToldOf file (length d.ports) d) faults
     → All (IsToldOf file (length d.ports) d) (UnknownKey ∷ WrongType ∷ MissingKey ∷ Range ∷ Name ∷ faults)
 tables_too file d faults others =
     let n = length d.ports in
-    more file d UnknownKey (WrongType ∷ MissingKey ∷ Range ∷ Name ∷ faults) (tables_told (file_front file UnknownKey) UnknownKey n d)
-    (more file d WrongType (MissingKey ∷ Range ∷ Name ∷ faults) (tables_told (file_front file WrongType) WrongType n d)
-    (more file d MissingKey (Range ∷ Name ∷ faults) (tables_told (file_front file MissingKey) MissingKey n d)
-    (more file d Range (Name ∷ faults) (tables_told (file_front file Range) Range n d)
-    (more file d Name faults (tables_told (file_front file Name) Name n d) others))))
+    more file d UnknownKey (WrongType ∷ MissingKey ∷ Range ∷ Name ∷ faults) (tables_told (file_spot file UnknownKey) UnknownKey n d)
+    (more file d WrongType (MissingKey ∷ Range ∷ Name ∷ faults) (tables_told (file_spot file WrongType) WrongType n d)
+    (more file d MissingKey (Range ∷ Name ∷ faults) (tables_told (file_spot file MissingKey) MissingKey n d)
+    (more file d Range (Name ∷ faults) (tables_told (file_spot file Range) Range n d)
+    (more file d Name faults (tables_told (file_spot file Name) Name n d) others))))
 
 abbrev Within : ℕ → Type 0
 Within n = (nat_lt n 1 || nat_lt 8 n) ≡ false
 
-always : (file : FrontData) (d : Tables) → Within (length d.ports) → All (IsToldOf file (length d.ports) d) always_told
+always : (file : FileData) (d : Tables) → Within (length d.ports) → All (IsToldOf file (length d.ports) d) always_told
 always file d within =
     tables_too file d (Supplies ∷ Limit ∷ [])
-    (more file d Supplies (Limit ∷ []) (tables_told (file_front file Supplies) Supplies (length d.ports) d)
-    (more file d Limit [] (limits_told (file_front file Limit) d within) (none file d)))
+    (more file d Supplies (Limit ∷ []) (tables_told (file_spot file Supplies) Supplies (length d.ports) d)
+    (more file d Limit [] (limits_told (file_spot file Limit) d within) (none file d)))
 
 clean_of : (ports : ℕ) (d : Tables) → ArePlain ports d → Clean ports d
 clean_of ports d plain =
@@ -72,20 +71,20 @@ clean_of ports d plain =
     let f = or_parts (p Name) false e.1 in
     record { keys = a.0; types = b.0; complete = c.0; ranged = e.0; named = f.0 }
 
-plainly : (file : FrontData) (d : Tables) → Within (length d.ports) → Clean (length d.ports) d
+plainly : (file : FileData) (d : Tables) → Within (length d.ports) → Clean (length d.ports) d
     → All (IsToldOf file (length d.ports) d) refusals
 plainly file d within clean =
     let n = length d.ports in
     let few = (or_parts (nat_lt n 1) (nat_lt 8 n) within).1 in
     tables_too file d (Duplicate ∷ Supplies ∷ Floors ∷ UnknownName ∷ Limit ∷ [])
     (more file d Duplicate (Supplies ∷ Floors ∷ UnknownName ∷ Limit ∷ [])
-    (duplicates_told (file_front file Duplicate) n d (few_ports n few) clean)
-    (more file d Supplies (Floors ∷ UnknownName ∷ Limit ∷ []) (tables_told (file_front file Supplies) Supplies n d)
-    (more file d Floors (UnknownName ∷ Limit ∷ []) (funds_told (file_front file Floors) n d few clean)
-    (more file d UnknownName (Limit ∷ []) (known_told (file_front file UnknownName) n d clean)
-    (more file d Limit [] (limits_told (file_front file Limit) d within) (none file d))))))
+    (duplicates_told (file_spot file Duplicate) n d (few_ports n few) clean)
+    (more file d Supplies (Floors ∷ UnknownName ∷ Limit ∷ []) (tables_told (file_spot file Supplies) Supplies n d)
+    (more file d Floors (UnknownName ∷ Limit ∷ []) (funds_told (file_spot file Floors) n d few clean)
+    (more file d UnknownName (Limit ∷ []) (known_told (file_spot file UnknownName) n d clean)
+    (more file d Limit [] (limits_told (file_spot file Limit) d within) (none file d))))))
 
-pub told_exactly : (file : FrontData) (ports : ℕ) (t : Members) → counted t ≡ Ok ports
+pub told_exactly : (file : FileData) (ports : ℕ) (t : Members) → counted t ≡ Ok ports
     → All (IsToldOf file ports (tables_of t)) always_told
     × (ArePlain ports (tables_of t) → All (IsToldOf file ports (tables_of t)) refusals)
 told_exactly file ports t is =

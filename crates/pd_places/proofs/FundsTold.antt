@@ -6,7 +6,7 @@ use Rattle.std.specs.Prelude.{Option, nat_lt, nat_le, min}
 use Rattle.std.specs.List.{list_any, filter_map, cons_option}
 use Rattle.std.proofs.lemmas.Bool.{or_parts}
 use Rattle.std.proofs.lemmas.Bool.Decides.{nat_tests}
-use Rattle.pd_text.specs.Fronts.{FrontData}
+use Rattle.pd_misfits.specs.Spots.{SpotData}
 use Rattle.toml.specs.Data.{Members}
 use Rattle.pd_setup.specs.Settings.{SettingsData}
 use Rattle.pd_scenario.specs.Limits.{allows}
@@ -31,7 +31,7 @@ use Rattle.pd_scenario_text.specs.FileTables.{Tables, scenario_of}
 use Rattle.pd_scenario_text.specs.Refusals.{fails_somewhere, exceeds_budget}
 use Rattle.pd_scenario_text.proofs.Decided.{Clean}
 use Rattle.pd_scenario_text.proofs.Valid.{sound_events}
-use Rattle.pd_misfits.specs.Lines.{event_front}
+use Rattle.pd_misfits.specs.Lines.{event_spot}
 use Rattle.pd_places.specs.Funds.{floors_of, low_sentence, low_part, named_low_part, event_low_part, budgets_text, funds_text}
 use Rattle.pd_places.proofs.Told.{Told, or_told, if_told, each_told}
 use Rattle.pd_places.proofs.TablesTold.{event_told}
@@ -103,24 +103,24 @@ changes_are n version (t ∷ ts) =
 
 -- ---- a budget that is too low is told
 
-low_told : (front : FrontData) (k : Key) (mw floors : ℕ) → nat_lt 0 mw ≡ true → Told front (nat_lt mw floors) (low_part front k mw floors)
-low_told front k mw floors there =
-    subst (λ b. Told front b (low_part front k mw floors)) (ap (λ b. b && nat_lt mw floors) there)
-    (if_told front (nat_lt 0 mw && nat_lt mw floors) (text_of k) (low_sentence k mw floors) [])
+low_told : (spot : SpotData) (k : Key) (mw floors : ℕ) → nat_lt 0 mw ≡ true → Told spot (nat_lt mw floors) (low_part spot k mw floors)
+low_told spot k mw floors there =
+    subst (λ b. Told spot b (low_part spot k mw floors)) (ap (λ b. b && nat_lt mw floors) there)
+    (if_told spot (nat_lt 0 mw && nat_lt mw floors) (text_of k) (low_sentence k mw floors) [])
 
-named_told : (front : FrontData) (version : Version) (ports floors : ℕ) (name : EventName) (t : Members)
+named_told : (spot : SpotData) (version : Version) (ports floors : ℕ) (name : EventName) (t : Members)
     → is_sound version ports (Event name) t ≡ true
-    → Told front (lowers floors (budget_in (happening_of name t))) (named_low_part front floors name t)
-named_told front version ports floors (event.OnPort kind) t sound = refl
-named_told front version ports floors event.Budget t sound =
-    low_told front key.Mw _ floors (some_power _ (budget_allowed version ports t sound))
-named_told front version ports floors event.Unknown t sound = refl
+    → Told spot (lowers floors (budget_in (happening_of name t))) (named_low_part spot floors name t)
+named_told spot version ports floors (event.OnPort kind) t sound = refl
+named_told spot version ports floors event.Budget t sound =
+    low_told spot key.Mw _ floors (some_power _ (budget_allowed version ports t sound))
+named_told spot version ports floors event.Unknown t sound = refl
 
-top_told : (front : FrontData) (ports floors : ℕ) (d : Tables) → Clean ports d
-    → Told front (nat_lt (number_at top_rules key.Budget d.top) floors)
-    (low_part front key.Budget (number_at top_rules key.Budget d.top) floors)
-top_told front ports floors d clean =
-    low_told front key.Budget (number_at top_rules key.Budget d.top) floors
+top_told : (spot : SpotData) (ports floors : ℕ) (d : Tables) → Clean ports d
+    → Told spot (nat_lt (number_at top_rules key.Budget d.top) floors)
+    (low_part spot key.Budget (number_at top_rules key.Budget d.top) floors)
+top_told spot ports floors d clean =
+    low_told spot key.Budget (number_at top_rules key.Budget d.top) floors
     (some_power (number_at top_rules key.Budget d.top)
     (needed d.version ports key.Budget quantity.Budget d.top
     (holds d.version ports Top d.top (rule key.Budget Required (form.Number quantity.Budget)) (sound_top ports d clean)
@@ -136,18 +136,18 @@ budgets_are d =
     ap (λ b. nat_lt mw floors || b) (changes_are floors d.version d.events) ∙ below_least floors mw budgets
     ∙ ap (λ n. not (nat_le n (fold min mw budgets))) (sym (floors_from 0 d.ports))
 
-budgets_told : (front : FrontData) (ports : ℕ) (d : Tables) → Clean ports d
-    → Told front (exceeds_budget (scenario_of d)) (budgets_text front d)
+budgets_told : (spot : SpotData) (ports : ℕ) (d : Tables) → Clean ports d
+    → Told spot (exceeds_budget (scenario_of d)) (budgets_text spot d)
 unfolding budgets_text
-budgets_told front ports d clean =
+budgets_told spot ports d clean =
     let floors = floors_of d.ports in
-    subst (λ b. Told front b (budgets_text front d)) (budgets_are d)
-    (or_told front _ _ _ _ (top_told front ports floors d clean)
-    (each_told front (is_sound_event d.version ports) (changed floors d.version) (event_low_part front d.version floors)
-    (λ number t sound. event_told front d.version number t _ _
-    (named_told (event_front front d.version number t) d.version ports floors (event_at d.version t) t sound))
+    subst (λ b. Told spot b (budgets_text spot d)) (budgets_are d)
+    (or_told spot _ _ _ _ (top_told spot ports floors d clean)
+    (each_told spot (is_sound_event d.version ports) (changed floors d.version) (event_low_part spot d.version floors)
+    (λ number t sound. event_told spot d.version number t _ _
+    (named_told (event_spot spot d.version number t) d.version ports floors (event_at d.version t) t sound))
     1 d.events (sound_events ports d clean)))
 
-pub funds_told : (front : FrontData) (ports : ℕ) (d : Tables) → nat_lt 8 (length d.ports) ≡ false → Clean ports d
-    → Told front (exceeds_budget (scenario_of d)) (funds_text front d)
-funds_told front ports d few clean = rw few (budgets_told front ports d clean)
+pub funds_told : (spot : SpotData) (ports : ℕ) (d : Tables) → nat_lt 8 (length d.ports) ≡ false → Clean ports d
+    → Told spot (exceeds_budget (scenario_of d)) (funds_text spot d)
+funds_told spot ports d few clean = rw few (budgets_told spot ports d clean)

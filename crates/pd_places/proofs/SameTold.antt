@@ -8,7 +8,7 @@ use Rattle.std.proofs.lemmas.Bool.Decides.{nat_tests}
 use Rattle.std.proofs.lemmas.List.{append-nil}
 use Rattle.std.proofs.lemmas.Simd.{map-map}
 use Rattle.std.proofs.lemmas.Slice.Eq.{bytes_eq-Decides}
-use Rattle.pd_text.specs.Fronts.{FrontData}
+use Rattle.pd_misfits.specs.Spots.{SpotData}
 use Rattle.toml.specs.Data.{Members}
 use Rattle.pd_scenario.specs.Limits.{allows}
 use Rattle.pd_scenario.specs.Scenarios.{names_differ, ids_differ, happening_fits}
@@ -32,7 +32,7 @@ use Rattle.pd_scenario_text.proofs.Differing.{differ, differ-part, differ-last, 
 use Rattle.pd_scenario_text.proofs.Valid.{sound_cables, sound_sinks, sound_events}
 use Rattle.pd_scenario_tables.specs.Schema.{text_of}
 use Rattle.pd_misfits.specs.Values.{quoted}
-use Rattle.pd_misfits.specs.Lines.{table_front}
+use Rattle.pd_misfits.specs.Lines.{table_spot}
 use Rattle.pd_places.specs.Numbered.{numbered}
 use Rattle.pd_places.specs.Same.{same_sentence, same_part, same_names_text, same_ids_text, names_of, ids_of, same_text}
 use Rattle.pd_places.proofs.Told.{Told, begins_of, begins_on, or_told, if_told}
@@ -59,27 +59,27 @@ position_before p i (x ∷ xs) rest h =
 less_is : (a b : ℕ) → a < b → nat_lt a b ≡ true
 less_is a b h = grind (arith, nat_tests)
 
-same_told : (front : FrontData) (word : List ℕ) (k : Key) (value : List ℕ) (number j : ℕ)
-    → Told front (nat_lt (j + 1) number) (same_part front word k value number (Some j))
-same_told front word k value number j =
-    numbered_told front word number _ _
-    (if_told (table_front front word number) (nat_lt (j + 1) number) (text_of k) (same_sentence k value word (j + 1)) [])
+same_told : (spot : SpotData) (word : List ℕ) (k : Key) (value : List ℕ) (number j : ℕ)
+    → Told spot (nat_lt (j + 1) number) (same_part spot word k value number (Some j))
+same_told spot word k value number j =
+    numbered_told spot word number _ _
+    (if_told (table_spot spot word number) (nat_lt (j + 1) number) (text_of k) (same_sentence k value word (j + 1)) [])
 
-at_told : {V : Type 0} (front : FrontData) (word : List ℕ) (k : Key) (value : List ℕ) (p : V
+at_told : {V : Type 0} (spot : SpotData) (word : List ℕ) (k : Key) (value : List ℕ) (p : V
     → Bool) (before rest : List V) (x : V) → p x ≡ true
-    → Told front (list_any p before)
-    (same_part front word k value (length before + 1) (position_from p 0 (before ++ x ∷ rest)))
-at_told front word k value p before rest x own =
+    → Told spot (list_any p before)
+    (same_part spot word k value (length before + 1) (position_from p 0 (before ++ x ∷ rest)))
+at_told spot word k value p before rest x own =
     elim (cases_Bool (list_any p before)) [
       | inl there ↦
           let (j, is, less) = position_before p 0 before (x ∷ rest) there in
-          rw (there, is) (begins_of front _ _ (same_told front word k value (length before + 1) j)
+          rw (there, is) (begins_of spot _ _ (same_told spot word k value (length before + 1) j)
           (less_is (j + 1) (length before + 1) (omega (arith, less))))
       | inr none ↦
           let j = 0 + length before in
           rw (none, position_here p 0 before rest x none own)
-          (subst (λ b. Told front b (same_part front word k value (length before + 1) (Some j)))
-          (not_less (j + 1) (length before + 1) (omega arith)) (same_told front word k value (length before + 1) j))
+          (subst (λ b. Told spot b (same_part spot word k value (length before + 1) (Some j)))
+          (not_less (j + 1) (length before + 1) (omega arith)) (same_told spot word k value (length before + 1) j))
     ]
 
 one_more : {V : Type 0} (xs : List V) (x : V) → length (xs ++ x ∷ []) ≡ length xs + 1
@@ -88,38 +88,38 @@ one_more (y ∷ ys) x = let h = one_more ys x in omega (arith, h)
 
 -- ---- values that differ
 
-abbrev part_of : {V : Type 0} → (V → V → Bool) → (V → Bool) → (V → List ℕ) → FrontData → List ℕ → Key → List V → ℕ → V → List ℕ
-part_of eq good value front word k all number x =
-    cond (good x) (same_part front word k (value x) number (position_from (λ other. eq other x) 0 all)) []
+abbrev part_of : {V : Type 0} → (V → V → Bool) → (V → Bool) → (V → List ℕ) → SpotData → List ℕ → Key → List V → ℕ → V → List ℕ
+part_of eq good value spot word k all number x =
+    cond (good x) (same_part spot word k (value x) number (position_from (λ other. eq other x) 0 all)) []
 
 walk : {V : Type 0} (eq : V → V → Bool) (turn : (a b : V) → eq a b ≡ eq b a) (own : (a : V) → eq a a ≡ true) (good : V → Bool)
-    (value : V → List ℕ) (front : FrontData) (word : List ℕ) (k : Key) (before rest all : List V) → all ≡ before ++ rest
+    (value : V → List ℕ) (spot : SpotData) (word : List ℕ) (k : Key) (before rest all : List V) → all ≡ before ++ rest
     → differ eq before ≡ true
     → list_all good rest ≡ true
-    → Told front (not (differ eq all)) (numbered (part_of eq good value front word k all) (length before + 1) rest)
+    → Told spot (not (differ eq all)) (numbered (part_of eq good value spot word k all) (length before + 1) rest)
 unfolding numbered
-walk eq turn own good value front word k before [] all is alone each =
+walk eq turn own good value spot word k before [] all is alone each =
     let whole : false ≡ not (differ eq all) = sym (ap (λ v. not (differ eq v)) (is ∙ append-nil before) ∙ ap not alone) in
-    subst (λ b. Told front b []) whole refl
-walk {V} eq turn own good value front word k before (x ∷ xs) all is alone each =
+    subst (λ b. Told spot b []) whole refl
+walk {V} eq turn own good value spot word k before (x ∷ xs) all is alone each =
     let both = and_parts (good x) (list_all good xs) each in
     let there = list_any (λ other. eq other x) before in
-    let part = part_of eq good value front word k all in
+    let part = part_of eq good value spot word k all in
     let number = length before + 1 in
-    let here : Told front there (part number x) =
-    rw (is, both.0) (at_told front word k (value x) (λ other. eq other x) before xs x (own x)) in
+    let here : Told spot there (part number x) =
+    rw (is, both.0) (at_told spot word k (value x) (λ other. eq other x) before xs x (own x)) in
     let split : all ≡ (before ++ x ∷ []) ++ xs = is ∙ sym (append_assoc before (x ∷ []) xs) in
     let last : differ eq (before ++ x ∷ []) ≡ not there = differ-last eq turn before x ∙ ap (λ b. b && not there) alone in
     elim (cases_Bool there) [
       | inl again ↦
           let whole : differ eq all ≡ false = ap (λ v. differ eq v) split ∙ differ-part eq (before ++ x ∷ []) xs (last ∙ ap not again) in
-          subst (λ b. Told front b (part number x ++ numbered part (number + 1) xs)) (sym (ap not whole))
-          (begins_on front (part number x) (numbered part (number + 1) xs) (begins_of front there (part number x) here again))
+          subst (λ b. Told spot b (part number x ++ numbered part (number + 1) xs)) (sym (ap not whole))
+          (begins_on spot (part number x) (numbered part (number + 1) xs) (begins_of spot there (part number x) here again))
       | inr new ↦
-          let none : part number x ≡ [] = subst (λ b. Told front b (part number x)) new here in
-          let more = walk eq turn own good value front word k (before ++ x ∷ []) xs all split (last ∙ ap not new) both.1 in
-          let next = subst (λ n. Told front (not (differ eq all)) (numbered part (n + 1) xs)) (one_more before x) more in
-          subst (λ v. Told front (not (differ eq all)) (v ++ numbered part (number + 1) xs)) (sym none) next
+          let none : part number x ≡ [] = subst (λ b. Told spot b (part number x)) new here in
+          let more = walk eq turn own good value spot word k (before ++ x ∷ []) xs all split (last ∙ ap not new) both.1 in
+          let next = subst (λ n. Told spot (not (differ eq all)) (numbered part (n + 1) xs)) (one_more before x) more in
+          subst (λ v. Told spot (not (differ eq all)) (v ++ numbered part (number + 1) xs)) (sym none) next
     ]
 
 -- ---- names
@@ -131,11 +131,11 @@ names_are (x ∷ xs) = ap (λ b. not (list_any (λ other. bytes_eq other x) xs) 
 abbrev some_text : List ℕ → Bool
 some_text name = nat_lt 0 (length name)
 
-names_told : (front : FrontData) (word : List ℕ) (names : List (List ℕ)) → list_all some_text names ≡ true
-    → Told front (not (names_differ names)) (same_names_text front word names)
-names_told front word names each =
-    subst (λ b. Told front (not b) (same_names_text front word names)) (names_are names)
-    (walk bytes_eq (λ a b. turn_from bytes_eq bytes_eq-Decides a b) (λ a. (bytes_eq-Decides a a).1 refl) some_text quoted front word
+names_told : (spot : SpotData) (word : List ℕ) (names : List (List ℕ)) → list_all some_text names ≡ true
+    → Told spot (not (names_differ names)) (same_names_text spot word names)
+names_told spot word names each =
+    subst (λ b. Told spot (not b) (same_names_text spot word names)) (names_are names)
+    (walk bytes_eq (λ a b. turn_from bytes_eq bytes_eq-Decides a b) (λ a. (bytes_eq-Decides a a).1 refl) some_text quoted spot word
     key.Name [] names names refl refl each)
 
 -- ---- ids
@@ -156,10 +156,10 @@ own_number a = grind (arith, nat_tests)
 abbrev some_number : ℕ → Bool
 some_number id = nat_lt 0 id
 
-ids_told : (front : FrontData) (ids : List ℕ) → list_all some_number ids ≡ true
-    → Told front (not (differ same_number ids)) (same_ids_text front ids)
-ids_told front ids each =
-    walk same_number turn_numbers own_number some_number decimal front (codes "event") key.Id [] ids ids refl refl each
+ids_told : (spot : SpotData) (ids : List ℕ) → list_all some_number ids ≡ true
+    → Told spot (not (differ same_number ids)) (same_ids_text spot ids)
+ids_told spot ids each =
+    walk same_number turn_numbers own_number some_number decimal spot (codes "event") key.Id [] ids ids refl refl each
 
 -- ---- a file
 
@@ -181,37 +181,37 @@ id_there version ports t few sound =
     let numbers = and_parts (allows quantity.EventId e.id && allows quantity.Time e.at) (happening_fits ports e.happening) fits in
     some_id e.id ((and_parts (allows quantity.EventId e.id) (allows quantity.Time e.at) numbers.0).0)
 
-cables_told : (front : FrontData) (ports : ℕ) (d : Tables) → Clean ports d
-    → Told front (not (names_differ (map (λ (cable : NamedCable). cable.name) (map cable_of d.cables))))
-    (same_names_text front (codes "cable") (names_of d.cables))
-cables_told front ports d clean =
+cables_told : (spot : SpotData) (ports : ℕ) (d : Tables) → Clean ports d
+    → Told spot (not (names_differ (map (λ (cable : NamedCable). cable.name) (map cable_of d.cables))))
+    (same_names_text spot (codes "cable") (names_of d.cables))
+cables_told spot ports d clean =
     rw (map-map (λ (cable : NamedCable). cable.name) cable_of d.cables)
-    (names_told front (codes "cable") (names_of d.cables)
+    (names_told spot (codes "cable") (names_of d.cables)
     (all_of (is_sound d.version ports Cable) some_text (word_at key.Name)
     (λ t s. name_there (word_at key.Name t) (cable_named d.version ports t s)) d.cables (sound_cables ports d clean)))
 
-sinks_told : (front : FrontData) (ports : ℕ) (d : Tables) → Clean ports d
-    → Told front (not (names_differ (map (λ (sink : NamedSink). sink.name) (map sink_of d.sinks))))
-    (same_names_text front (codes "sink") (names_of d.sinks))
-sinks_told front ports d clean =
+sinks_told : (spot : SpotData) (ports : ℕ) (d : Tables) → Clean ports d
+    → Told spot (not (names_differ (map (λ (sink : NamedSink). sink.name) (map sink_of d.sinks))))
+    (same_names_text spot (codes "sink") (names_of d.sinks))
+sinks_told spot ports d clean =
     rw (map-map (λ (sink : NamedSink). sink.name) sink_of d.sinks)
-    (names_told front (codes "sink") (names_of d.sinks)
+    (names_told spot (codes "sink") (names_of d.sinks)
     (all_of (is_sound d.version ports Sink) some_text (word_at key.Name)
     (λ t s. name_there (word_at key.Name t) (sink_named d.version ports t s)) d.sinks (sound_sinks ports d clean)))
 
-events_told : (front : FrontData) (ports : ℕ) (d : Tables) → ports ≤ 8 → Clean ports d
-    → Told front (not (ids_differ (map (event_of d.version) d.events))) (same_ids_text front (ids_of d.events))
-events_told front ports d few clean =
+events_told : (spot : SpotData) (ports : ℕ) (d : Tables) → ports ≤ 8 → Clean ports d
+    → Told spot (not (ids_differ (map (event_of d.version) d.events))) (same_ids_text spot (ids_of d.events))
+events_told spot ports d few clean =
     let ids = map-map (λ (e : ScenarioEvent). e.id) (event_of d.version) d.events in
-    subst (λ b. Told front (not b) (same_ids_text front (ids_of d.events)))
+    subst (λ b. Told spot (not b) (same_ids_text spot (ids_of d.events)))
     (ap (differ same_number) (sym ids) ∙ ids_are (map (event_of d.version) d.events))
-    (ids_told front (ids_of d.events)
+    (ids_told spot (ids_of d.events)
     (all_of (is_sound_event d.version ports) some_number (λ t. (event_of d.version t).id)
     (λ t s. id_there d.version ports t few s) d.events (sound_events ports d clean)))
 
-pub duplicates_told : (front : FrontData) (ports : ℕ) (d : Tables) → ports ≤ 8 → Clean ports d
-    → Told front (has_duplicate (scenario_of d)) (same_text front d)
+pub duplicates_told : (spot : SpotData) (ports : ℕ) (d : Tables) → ports ≤ 8 → Clean ports d
+    → Told spot (has_duplicate (scenario_of d)) (same_text spot d)
 unfolding has_duplicate same_text
-duplicates_told front ports d few clean =
-    or_told front _ _ _ _ (cables_told front ports d clean)
-    (or_told front _ _ _ _ (sinks_told front ports d clean) (events_told front ports d few clean))
+duplicates_told spot ports d few clean =
+    or_told spot _ _ _ _ (cables_told spot ports d clean)
+    (or_told spot _ _ _ _ (sinks_told spot ports d clean) (events_told spot ports d few clean))

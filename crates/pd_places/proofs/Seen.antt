@@ -12,7 +12,7 @@ use Rattle.std.proofs.lemmas.Bool.Decides.{nat_tests}
 use Rattle.std.proofs.lemmas.List.{at_drop_more, length-take-le, take-append-drop}
 use Rattle.std.proofs.lemmas.Map.Text.{is_eq-slice_cmp}
 use Rattle.std.proofs.lemmas.Slice.Eq.{bytes_eq-Decides}
-use Rattle.pd_text.specs.Fronts.{FrontData}
+use Rattle.pd_misfits.specs.Spots.{SpotData}
 use Rattle.pd_scenario_tables.specs.declared.schema.Key.{Key}
 use Rattle.pd_scenario_tables.specs.declared.schema.Key.TheVariants as key
 use Rattle.pd_scenario_text.specs.Names.{texts}
@@ -52,25 +52,25 @@ none_there false h = refl
 pub not_less : (a b : ℕ) → b ≤ a → nat_lt a b ≡ false
 not_less a b h = grind (arith, nat_tests)
 
-new_part : (front : FrontData) (word : List ℕ) (k : Key) (value : List ℕ) (number : ℕ) (before : Option ℕ) → 1 ≤ number
+new_part : (spot : SpotData) (word : List ℕ) (k : Key) (value : List ℕ) (number : ℕ) (before : Option ℕ) → 1 ≤ number
     → before ≡ Some (number - 1)
-    → same_part front word k value number before ≡ []
-new_part front word k value number before one is = rw (is, not_less ((number - 1) + 1) number (omega (arith, one))) refl
+    → same_part spot word k value number before ≡ []
+new_part spot word k value number before one is = rw (is, not_less ((number - 1) + 1) number (omega (arith, one))) refl
 
 none_if : (b : Bool) (xs : List ℕ) → xs ≡ [] → cond b xs [] ≡ []
 none_if true xs is = is
 none_if false xs is = refl
 
-pub new_name : (told : List ℕ) (front : FrontData) (word : List ℕ) (names : List (List ℕ)) (number : ℕ) (name : List ℕ) → 1 ≤ number
-    → first_name names name ≡ Some (number - 1) → told ≡ added told (same_name_part front word names number name)
-new_name told front word names number name one first =
-    sym (ap (added told) (none_if (nat_lt 0 (length name)) _ (new_part front word key.Name (quoted name) number _ one first))
+pub new_name : (told : List ℕ) (spot : SpotData) (word : List ℕ) (names : List (List ℕ)) (number : ℕ) (name : List ℕ) → 1 ≤ number
+    → first_name names name ≡ Some (number - 1) → told ≡ added told (same_name_part spot word names number name)
+new_name told spot word names number name one first =
+    sym (ap (added told) (none_if (nat_lt 0 (length name)) _ (new_part spot word key.Name (quoted name) number _ one first))
     ∙ added_none told)
 
-pub new_id : (told : List ℕ) (front : FrontData) (ids : List ℕ) (number id : ℕ) → 1 ≤ number → first_id ids id ≡ Some (number - 1)
-    → told ≡ added told (same_id_part front ids number id)
-new_id told front ids number id one first =
-    sym (ap (added told) (none_if (nat_lt 0 id) _ (new_part front (codes "event") key.Id (decimal id) number _ one first))
+pub new_id : (told : List ℕ) (spot : SpotData) (ids : List ℕ) (number id : ℕ) → 1 ≤ number → first_id ids id ≡ Some (number - 1)
+    → told ≡ added told (same_id_part spot ids number id)
+new_id told spot ids number id one first =
+    sym (ap (added told) (none_if (nat_lt 0 id) _ (new_part spot (codes "event") key.Id (decimal id) number _ one first))
     ∙ added_none told)
 
 -- ---- names

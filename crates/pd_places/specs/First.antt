@@ -1,5 +1,5 @@
 -- What the first line of a file's places tells: the number that `check` answers.
-use Rattle.std.specs.Prelude.{◌≡◌, ◌⊎◌, ℕ, true, false, List, [], ◌∷◌, ◌++◌, Ok, Err, All}
+use Rattle.std.specs.Prelude.{◌≡◌, ◌⊎◌, ℕ, true, false, List, [], ◌∷◌, ◌++◌, Ok, Err, Option, All}
 use Rattle.std.specs.List.{list_any}
 use Rattle.pd_text.specs.declared.piece.Form.{Form}
 use Rattle.pd_text.specs.Fronts.{FrontData}
@@ -11,7 +11,8 @@ use Rattle.pd_scenario_tables.specs.Ports.{counted}
 use Rattle.pd_scenario_text.specs.FileTables.{Tables, tables_of}
 use Rattle.pd_scenario_text.specs.Refusals.{applies, refusals, table_refusals}
 use Rattle.pd_scenario_text.specs.Reading.{reading, Counts, Reads}
-use Rattle.pd_misfits.specs.Lines.{file_front}
+use Rattle.pd_misfits.specs.Marks.{line_of}
+use Rattle.pd_misfits.specs.Spots.{FileData, SpotData, file_spot, refused_front}
 use Rattle.pd_misfits.specs.Texts.{syntax_front}
 use Rattle.pd_places.specs.Places.{refusal_text, places_text, file_of, TellsPlaces}
 
@@ -19,16 +20,18 @@ use Rattle.pd_places.specs.Places.{refusal_text, places_text, file_of, TellsPlac
 abbrev pub BeginsWith : List ℕ → List ℕ → Type 0
 BeginsWith front text = (rest : List ℕ) × (text ≡ front ++ rest)
 
--- what is told begins so
-abbrev pub Begins : FrontData → List ℕ → Type 0
-Begins front text = BeginsWith front.text text
+-- what is told begins with the file, a line of it where one is found, and the number of the refusal
+abbrev pub Begins : SpotData → List ℕ → Type 0
+Begins spot text =
+    (table : List ℕ) × (number : ℕ) × (key : List ℕ)
+    × BeginsWith ((refused_front spot.file.front (line_of spot.file.lines table number key) spot.refusal).text) text
 
 -- ---- of each refusal
 
 -- where a refusal applies there are places, and the first of them tells its number; where it doesn't, there are none
-abbrev pub IsToldOf : FrontData → ℕ → Tables → ScenarioFault → Type 0
+abbrev pub IsToldOf : FileData → ℕ → Tables → ScenarioFault → Type 0
 IsToldOf file ports d refusal =
-    ((applies refusal ports d ≡ true) × Begins (file_front file refusal) (refusal_text file refusal d))
+    ((applies refusal ports d ≡ true) × Begins (file_spot file refusal) (refusal_text file refusal d))
     ⊎ ((applies refusal ports d ≡ false) × (refusal_text file refusal d ≡ []))
 
 -- none of the refusals up to the names, 2 to 6, applies
@@ -43,7 +46,7 @@ always_told = UnknownKey ∷ WrongType ∷ MissingKey ∷ Range ∷ Name ∷ Sup
 -- where none up to 6 applies.
 abbrev pub ToldWhereItApplies : Type 0
 ToldWhereItApplies =
-    (file : FrontData) (ports : ℕ) (t : Members) → counted t ≡ Ok ports
+    (file : FileData) (ports : ℕ) (t : Members) → counted t ≡ Ok ports
     → All (IsToldOf file ports (tables_of t)) always_told
     × (ArePlain ports (tables_of t) → All (IsToldOf file ports (tables_of t)) refusals)
 
@@ -57,8 +60,8 @@ IsRefusedFor refusal t =
 -- Then there is a place, and the first line tells the number of that refusal.
 abbrev pub TheLeastIsFirst : Type 0
 TheLeastIsFirst =
-    (file : FrontData) (refusal : ScenarioFault) (t : Members) → IsRefusedFor refusal t
-    → Begins (file_front file refusal) (places_text file t)
+    (file : FileData) (refusal : ScenarioFault) (t : Members) → IsRefusedFor refusal t
+    → Begins (file_spot file refusal) (places_text file t)
 
 -- ---- of the text of a file
 
@@ -68,12 +71,12 @@ abbrev pub IsAnswered : ScenarioFault → List ℕ → Type 0
 IsAnswered refusal text =
     Counts text (Err refusal) ⊎ ((ports : ℕ) × Counts text (Ok ports) × Reads ports text (Err refusal))
 
--- What is said begins with the number of a refusal, behind the file; that of no TOML, behind the number of a line
--- too. Nothing is said of want of memory.
+-- What is said begins with the number of a refusal, behind the file and the number of a line where one is found; that of no TOML
+-- always behind the number of a line. Nothing is said of want of memory.
 abbrev pub TellsFirst : FrontData → ScenarioFault → List ℕ → Type 0
 TellsFirst file Memory said = Unit {0}
-TellsFirst file Toml said = (number : ℕ) × Begins (syntax_front file number) said
-TellsFirst file refusal said = Begins (file_front file refusal) said
+TellsFirst file Toml said = (number : ℕ) × BeginsWith ((syntax_front file number).text) said
+TellsFirst file refusal said = (line : Option ℕ) × BeginsWith ((refused_front file line refusal).text) said
 
 -- What is told of a text begins with the number of the refusal that it is answered by.
 abbrev pub TheAnswerIsFirst : Type 0

@@ -1,6 +1,5 @@
 -- Refusal 9: budgets below what the floors add to.
 use Rattle.std.specs.Prelude.{ℕ, ◌&&◌, nat_lt, List, [], ◌++◌, length, codes, decimal, sum_by, if◌then◌else◌}
-use Rattle.pd_text.specs.Fronts.{FrontData}
 use Rattle.toml.specs.Data.{Members}
 use Rattle.pd_scenario.specs.Limits.{most_ports}
 use Rattle.pd_scenario_tables.specs.declared.schema.Version.{Version}
@@ -12,7 +11,8 @@ use Rattle.pd_scenario_tables.specs.Schema.{text_of, top_rules, port_rules, even
 use Rattle.pd_scenario_tables.specs.Tables.{number_at, event_at}
 use Rattle.pd_scenario_text.specs.FileTables.{Tables}
 use Rattle.pd_misfits.specs.Values.{quoted}
-use Rattle.pd_misfits.specs.Lines.{line, event_front}
+use Rattle.pd_misfits.specs.Spots.{SpotData}
+use Rattle.pd_misfits.specs.Lines.{line, event_spot}
 use Rattle.pd_places.specs.Numbered.{numbered}
 
 -- what the floors of ports add to, in mW
@@ -24,25 +24,25 @@ low_sentence k mw floors =
     quoted (text_of k) ++ (codes " is " ++ (decimal mw ++ (codes ", below " ++ (decimal floors ++ codes " mW, what the floors add to"))))
 
 -- a budget that is too low; one that is 0, or doesn't stand there, is told for another refusal
-abbrev pub low_part : FrontData → Key → ℕ → ℕ → List ℕ
-low_part front k mw floors = if nat_lt 0 mw && nat_lt mw floors then line front (text_of k) (low_sentence k mw floors) [] else []
+abbrev pub low_part : SpotData → Key → ℕ → ℕ → List ℕ
+low_part spot k mw floors = if nat_lt 0 mw && nat_lt mw floors then line spot (text_of k) (low_sentence k mw floors) [] else []
 
 -- an event may change the budget
-abbrev pub named_low_part : FrontData → ℕ → EventName → Members → List ℕ
-named_low_part front floors event.Budget t = low_part front key.Mw (number_at (event_rules event.Budget) key.Mw t) floors
-named_low_part front floors (event.OnPort kind) t = []
-named_low_part front floors event.Unknown t = []
+abbrev pub named_low_part : SpotData → ℕ → EventName → Members → List ℕ
+named_low_part spot floors event.Budget t = low_part spot key.Mw (number_at (event_rules event.Budget) key.Mw t) floors
+named_low_part spot floors (event.OnPort kind) t = []
+named_low_part spot floors event.Unknown t = []
 
-abbrev pub event_low_part : FrontData → Version → ℕ → ℕ → Members → List ℕ
-event_low_part front version floors number t =
-    named_low_part (event_front front version number t) floors (event_at version t) t
+abbrev pub event_low_part : SpotData → Version → ℕ → ℕ → Members → List ℕ
+event_low_part spot version floors number t =
+    named_low_part (event_spot spot version number t) floors (event_at version t) t
 
 -- ---- a file; where it has more ports than there may be, that is told instead
 
-unfoldable pub budgets_text : FrontData → Tables → List ℕ
-budgets_text front d =
-    low_part front key.Budget (number_at top_rules key.Budget d.top) (floors_of d.ports)
-    ++ numbered (event_low_part front d.version (floors_of d.ports)) 1 d.events
+unfoldable pub budgets_text : SpotData → Tables → List ℕ
+budgets_text spot d =
+    low_part spot key.Budget (number_at top_rules key.Budget d.top) (floors_of d.ports)
+    ++ numbered (event_low_part spot d.version (floors_of d.ports)) 1 d.events
 
-abbrev pub funds_text : FrontData → Tables → List ℕ
-funds_text front d = if nat_lt most_ports (length d.ports) then [] else budgets_text front d
+abbrev pub funds_text : SpotData → Tables → List ℕ
+funds_text spot d = if nat_lt most_ports (length d.ports) then [] else budgets_text spot d

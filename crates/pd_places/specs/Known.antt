@@ -1,7 +1,6 @@
 -- Refusal 10: an attach by a name that no cable, or no sink, has.
 use Rattle.std.specs.Prelude.{ℕ, ◌-◌, ◌&&◌, ◌==◌, not, nat_lt, List, [], ◌∷◌, ◌++◌, length, take, codes, decimal, bytes_eq, if◌then◌else◌}
 use Rattle.std.specs.List.{list_any, flat_map}
-use Rattle.pd_text.specs.Fronts.{FrontData}
 use Rattle.toml.specs.Data.{Members}
 use Rattle.pd_hints.specs.Slips.{meant_text, nearest}
 use Rattle.pd_setup.specs.Events.{KindWord}
@@ -15,7 +14,8 @@ use Rattle.pd_scenario_tables.specs.Schema.{text_of}
 use Rattle.pd_scenario_tables.specs.Tables.{word_at, event_at}
 use Rattle.pd_scenario_text.specs.FileTables.{Tables}
 use Rattle.pd_misfits.specs.Values.{quoted}
-use Rattle.pd_misfits.specs.Lines.{line, event_front}
+use Rattle.pd_misfits.specs.Spots.{SpotData}
+use Rattle.pd_misfits.specs.Lines.{line, event_spot}
 use Rattle.pd_places.specs.Numbered.{numbered}
 use Rattle.pd_places.specs.Same.{names_of}
 
@@ -42,30 +42,30 @@ stranger_sentence k names name = quoted (text_of k) ++ (codes " is " ++ (quoted 
 
 -- a name that isn't there, and the first of the names of which it is a slip, where it is one; a name that is empty, or doesn't
 -- stand there, is told for another refusal
-abbrev pub stranger_part : FrontData → Key → List (List ℕ) → List ℕ → List ℕ
-stranger_part front k names name =
+abbrev pub stranger_part : SpotData → Key → List (List ℕ) → List ℕ → List ℕ
+stranger_part spot k names name =
     if nat_lt 0 (length name) && not (list_any (λ other. bytes_eq other name) names)
-    then line front (text_of k) (stranger_sentence k names name) (meant_text (nearest name names))
+    then line spot (text_of k) (stranger_sentence k names name) (meant_text (nearest name names))
     else []
 
-unfoldable pub attach_part : FrontData → List (List ℕ) → List (List ℕ) → Members → List ℕ
-attach_part front cables sinks t =
-    stranger_part front key.Cable cables (word_at key.Cable t) ++ stranger_part front key.Sink sinks (word_at key.Sink t)
+unfoldable pub attach_part : SpotData → List (List ℕ) → List (List ℕ) → Members → List ℕ
+attach_part spot cables sinks t =
+    stranger_part spot key.Cable cables (word_at key.Cable t) ++ stranger_part spot key.Sink sinks (word_at key.Sink t)
 
-abbrev pub kind_part : FrontData → List (List ℕ) → List (List ℕ) → KindWord → Members → List ℕ
-kind_part front cables sinks (Attach cable sink) t = attach_part front cables sinks t
-kind_part front cables sinks _ t = []
+abbrev pub kind_part : SpotData → List (List ℕ) → List (List ℕ) → KindWord → Members → List ℕ
+kind_part spot cables sinks (Attach cable sink) t = attach_part spot cables sinks t
+kind_part spot cables sinks _ t = []
 
-abbrev pub named_part : FrontData → List (List ℕ) → List (List ℕ) → EventName → Members → List ℕ
-named_part front cables sinks (event.OnPort kind) t = kind_part front cables sinks kind t
-named_part front cables sinks event.Budget t = []
-named_part front cables sinks event.Unknown t = []
+abbrev pub named_part : SpotData → List (List ℕ) → List (List ℕ) → EventName → Members → List ℕ
+named_part spot cables sinks (event.OnPort kind) t = kind_part spot cables sinks kind t
+named_part spot cables sinks event.Budget t = []
+named_part spot cables sinks event.Unknown t = []
 
-abbrev pub event_known_part : FrontData → Version → List (List ℕ) → List (List ℕ) → ℕ → Members → List ℕ
-event_known_part front version cables sinks number t =
-    named_part (event_front front version number t) cables sinks (event_at version t) t
+abbrev pub event_known_part : SpotData → Version → List (List ℕ) → List (List ℕ) → ℕ → Members → List ℕ
+event_known_part spot version cables sinks number t =
+    named_part (event_spot spot version number t) cables sinks (event_at version t) t
 
 -- ---- a file
 
-abbrev pub known_text : FrontData → Tables → List ℕ
-known_text front d = numbered (event_known_part front d.version (names_of d.cables) (names_of d.sinks)) 1 d.events
+abbrev pub known_text : SpotData → Tables → List ℕ
+known_text spot d = numbered (event_known_part spot d.version (names_of d.cables) (names_of d.sinks)) 1 d.events

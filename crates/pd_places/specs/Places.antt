@@ -14,7 +14,9 @@ use Rattle.pd_scenario_tables.specs.Ports.{counted}
 use Rattle.pd_scenario_text.specs.FileTables.{Tables, tables_of}
 use Rattle.pd_scenario_text.specs.Reading.{IsTextOf}
 use Rattle.pd_scenario_text.specs.Refusals.{refusals}
-use Rattle.pd_misfits.specs.Lines.{file_front, file_text, top_text}
+use Rattle.pd_misfits.specs.Lines.{file_text, top_text}
+use Rattle.pd_misfits.specs.Marks.{LinesData, AreMarks}
+use Rattle.pd_misfits.specs.Spots.{FileData, file_spot}
 use Rattle.pd_misfits.specs.Texts.{TellsSyntax}
 use Rattle.pd_places.specs.FirstLines.{line_count, most_places}
 use Rattle.pd_places.specs.Same.{same_text}
@@ -25,11 +27,11 @@ use Rattle.pd_places.specs.Counts.{counts_text}
 -- ---- a line for each place
 
 -- the places at which a refusal applies
-abbrev pub refusal_text : FrontData → ScenarioFault → Tables → List ℕ
-refusal_text file fault.Duplicate d = same_text (file_front file fault.Duplicate) d
-refusal_text file fault.Floors d = funds_text (file_front file fault.Floors) d
-refusal_text file fault.UnknownName d = known_text (file_front file fault.UnknownName) d
-refusal_text file fault.Limit d = counts_text (file_front file fault.Limit) d
+abbrev pub refusal_text : FileData → ScenarioFault → Tables → List ℕ
+refusal_text file fault.Duplicate d = same_text (file_spot file fault.Duplicate) d
+refusal_text file fault.Floors d = funds_text (file_spot file fault.Floors) d
+refusal_text file fault.UnknownName d = known_text (file_spot file fault.UnknownName) d
+refusal_text file fault.Limit d = counts_text (file_spot file fault.Limit) d
 refusal_text file refusal d = file_text file refusal d
 
 -- the refusals whose rules the top table has, and which need no count of the ports
@@ -37,16 +39,16 @@ abbrev pub top_refusals : List ScenarioFault
 top_refusals = fault.UnknownKey ∷ fault.WrongType ∷ fault.MissingKey ∷ fault.Range ∷ []
 
 -- the places of the top table at which one of them applies, but for the refusal that is told already
-abbrev pub other_text : FrontData → ScenarioFault → Tables → ScenarioFault → List ℕ
+abbrev pub other_text : FileData → ScenarioFault → Tables → ScenarioFault → List ℕ
 other_text file refusal d other = if number_of other == number_of refusal then [] else top_text file other d
 
 -- where the ports can't be counted, that is told first, and of the others what is in the top table
-abbrev pub counted_text : FrontData → Tables → Result ℕ ScenarioFault → List ℕ
+abbrev pub counted_text : FileData → Tables → Result ℕ ScenarioFault → List ℕ
 counted_text file d (Ok ports) = flat_map (λ refusal. refusal_text file refusal d) refusals
 counted_text file d (Err refusal) = refusal_text file refusal d ++ flat_map (other_text file refusal d) top_refusals
 
 -- the least refusal first, then in the order of the file's tables
-abbrev pub places_text : FrontData → Members → List ℕ
+abbrev pub places_text : FileData → Members → List ℕ
 places_text file t = counted_text file (tables_of t) (counted t)
 
 -- ---- twenty of them
@@ -82,7 +84,16 @@ abbrev pub file_of : Form → List ℕ → FrontData
 file_of Words name = front_of_file Words (one_line name)
 file_of Json name = front_of_file Json name
 
+-- a file, and lines of its text
+abbrev pub file_with : FrontData → LinesData → FileData
+file_with file lines = record { front = file; lines = lines }
+
+-- twenty of the places of tables, told with lines of the text
+abbrev pub TellsTables : FrontData → List ℕ → Members → List ℕ → Type 0
+TellsTables file text t said =
+    (lines : LinesData) × AreMarks text lines × IsShort most_places file (places_text (file_with file lines) t) said
+
 -- twenty of the places of the tables that the text is; where it is no TOML, where that begins
 abbrev pub TellsPlaces : FrontData → List ℕ → List ℕ → Type 0
 TellsPlaces file text said =
-    ((t : Members) × IsTextOf text t × IsShort most_places file (places_text file t) said) ⊎ TellsSyntax file text said
+    ((t : Members) × IsTextOf text t × TellsTables file text t said) ⊎ TellsSyntax file text said

@@ -4,8 +4,7 @@ ghost use Rattle.std.specs.Prelude.{◌≡◌, ◌++◌, OnOk};
 ghost use Rattle.pd_misfits.specs.Lines.{line};
 ghost use Rattle.pd_places.specs.Counts.{count_sentence, count_part};
 
-use pd_misfits::{push_line, push_number};
-use pd_text::Front;
+use pd_misfits::{Spot, push_number};
 use std::alloc::{AllocError, Global};
 
 /// Writes how many there are, and how many there may be.
@@ -33,18 +32,18 @@ fn push_count_sentence(
 pub fn push_count(
     alloc: Global,
     text: &mut Vec<u8>,
-    front: &Front,
+    spot: &Spot<'_>,
     noun: &str,
     low: u64,
     high: u64,
     count: u64,
 ) -> Result<(), AllocError>
-    ensures { OnOk result (text.new.items ≡ text.old.items ++ count_part front.now noun.now low high count) }
+    ensures { OnOk result (text.new.items ≡ text.old.items ++ count_part spot.now noun.now low high count) }
 {
     if count >= low && count <= high {
         return Ok(());
     }
     let mut sentence = Vec::new(alloc);
     push_count_sentence(&mut sentence, noun, low, high, count)?;
-    push_line(text, front, b"", sentence.as_slice(), b"")
+    spot.push_line(alloc, text, b"", sentence.as_slice(), b"")
 }

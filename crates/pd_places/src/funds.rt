@@ -7,9 +7,8 @@ ghost use Rattle.pd_misfits.specs.Lines.{line};
 ghost use Rattle.pd_places.specs.Numbered.{numbered};
 ghost use Rattle.pd_places.specs.Funds.{low_sentence, low_part, event_low_part};
 
-use pd_misfits::{event_front, push_line, push_number, push_quoted};
+use pd_misfits::{Spot, event_spot, push_number, push_quoted};
 use pd_scenario_tables::{EventName, Key, Version, event_at, number_at};
-use pd_text::Front;
 use std::alloc::{AllocError, Global};
 use toml::Table;
 
@@ -30,12 +29,12 @@ fn push_low_sentence(text: &mut Vec<u8>, key: Key, mw: u64, floors: u64) -> Resu
 pub fn push_low(
     alloc: Global,
     text: &mut Vec<u8>,
-    front: &Front,
+    spot: &Spot<'_>,
     key: Key,
     mw: u64,
     floors: u64,
 ) -> Result<(), AllocError>
-    ensures { OnOk result (text.new.items ≡ text.old.items ++ low_part front.now key mw floors) }
+    ensures { OnOk result (text.new.items ≡ text.old.items ++ low_part spot.now key mw floors) }
 {
     if mw == 0 || mw >= floors {
         return Ok(());
@@ -43,24 +42,24 @@ pub fn push_low(
     let mut sentence = Vec::new(alloc);
     push_low_sentence(&mut sentence, key, mw, floors)?;
     let word = key.text().as_bytes();
-    push_line(text, front, word, sentence.as_slice(), b"")
+    spot.push_line(alloc, text, word, sentence.as_slice(), b"")
 }
 
 /// Writes a line for an event that changes the budget to one that is too low.
-fn push_event_low(
+fn push_event_low<'a>(
     alloc: Global,
     text: &mut Vec<u8>,
-    front: &Front,
+    spot: &Spot<'a>,
     version: Version,
     floors: u64,
     number: u64,
-    table: &Table,
+    table: &'a Table,
 ) -> Result<(), AllocError>
-    ensures { OnOk result (text.new.items ≡ text.old.items ++ event_low_part front.now version floors number (table_view table.now)) }
+    ensures { OnOk result (text.new.items ≡ text.old.items ++ event_low_part spot.now version floors number (table_view table.now)) }
 {
     match event_at(version, table) {
         EventName::Budget => {
-            let own = event_front(alloc, front, version, number, table)?;
+            let own = event_spot(alloc, spot, version, number, table)?;
             let mw = u64::from(number_at(table, Key::Mw));
             push_low(alloc, text, &own, Key::Mw, mw, floors)
         }
@@ -69,19 +68,19 @@ fn push_event_low(
 }
 
 /// Writes a line for each event that changes the budget to one that is too low.
-pub fn push_events_low(
+pub fn push_events_low<'a>(
     alloc: Global,
     text: &mut Vec<u8>,
-    front: &Front,
+    spot: &Spot<'a>,
     version: Version,
     floors: u64,
-    tables: &[&Table],
+    tables: &[&'a Table],
 ) -> Result<(), AllocError>
-    ensures { OnOk result (text.new.items ≡ text.old.items ++ numbered (event_low_part front.now version floors) 1 (views tables.now)) }
+    ensures { OnOk result (text.new.items ≡ text.old.items ++ numbered (event_low_part spot.now version floors) 1 (views tables.now)) }
 {
     let mut number = 1;
     for table in tables {
-        push_event_low(alloc, text, front, version, floors, number, table)?;
+        push_event_low(alloc, text, spot, version, floors, number, table)?;
         number += 1;
     }
     Ok(())

@@ -14,10 +14,9 @@ ghost use Rattle.pd_places.specs.Known.{event_known_part, stranger_part, attach_
 use crate::collect::word_at;
 use crate::first_lines::FirstLines;
 use pd_hints::{nearest, push_meant};
-use pd_misfits::{event_front, push_line, push_number, push_quoted};
+use pd_misfits::{Spot, event_spot, push_number, push_quoted};
 use pd_scenario_tables::{EventName, Key, Version, event_at};
 use pd_setup::EventKind;
-use pd_text::Front;
 use std::alloc::{AllocError, Global};
 use toml::Table;
 
@@ -123,12 +122,12 @@ fn has_name(names: &[&str], name: &str) -> bool
 fn push_stranger(
     alloc: Global,
     told: &mut FirstLines,
-    front: &Front,
+    spot: &Spot<'_>,
     key: Key,
     names: &[&str],
     name: &str,
 ) -> Result<(), AllocError>
-    ensures { OnOk result (told.new ≡ added told.old (stranger_part front.now key (texts names.now) name.now)) }
+    ensures { OnOk result (told.new ≡ added told.old (stranger_part spot.now key (texts names.now) name.now)) }
 {
     if name.is_empty() || has_name(names, name) {
         return Ok(());
@@ -139,7 +138,7 @@ fn push_stranger(
     push_meant(&mut hint, nearest(name.as_bytes(), names))?;
     let word = key.text().as_bytes();
     let mut line = Vec::new(alloc);
-    push_line(&mut line, front, word, sentence.as_slice(), hint.as_slice())?;
+    spot.push_line(alloc, &mut line, word, sentence.as_slice(), hint.as_slice())?;
     told.add(line.as_slice())
 }
 
@@ -148,18 +147,18 @@ fn push_stranger(
 fn push_attach(
     alloc: Global,
     told: &mut FirstLines,
-    front: &Front,
+    spot: &Spot<'_>,
     cables: &[&str],
     sinks: &[&str],
     table: &Table,
 ) -> Result<(), AllocError>
     ensures { OnOk result (told.new
-        ≡ added told.old (attach_part front.now (texts cables.now) (texts sinks.now) (table_view table.now))) }
+        ≡ added told.old (attach_part spot.now (texts cables.now) (texts sinks.now) (table_view table.now))) }
 {
     push_stranger(
         alloc,
         told,
-        front,
+        spot,
         Key::Cable,
         cables,
         word_at(table, Key::Cable),
@@ -167,7 +166,7 @@ fn push_attach(
     push_stranger(
         alloc,
         told,
-        front,
+        spot,
         Key::Sink,
         sinks,
         word_at(table, Key::Sink),
@@ -176,22 +175,22 @@ fn push_attach(
 
 /// Writes a line for each name of an event that no table has.
 #[tactic(auto, unfolding(crate::specs::FirstLines::added))]
-fn push_event_known(
+fn push_event_known<'a>(
     alloc: Global,
     told: &mut FirstLines,
-    front: &Front,
+    spot: &Spot<'a>,
     version: Version,
     names: (&[&str], &[&str]),
     number: u64,
-    table: &Table,
+    table: &'a Table,
 ) -> Result<(), AllocError>
     ensures { OnOk result (told.new
         ≡ added told.old
-        (event_known_part front.now version (texts names.entry.0.now) (texts names.entry.1.now) number (table_view table.now))) }
+        (event_known_part spot.now version (texts names.entry.0.now) (texts names.entry.1.now) number (table_view table.now))) }
 {
     match event_at(version, table) {
         EventName::OnPort(EventKind::Attach { .. }) => {
-            let own = event_front(alloc, front, version, number, table)?;
+            let own = event_spot(alloc, spot, version, number, table)?;
             push_attach(alloc, told, &own, names.0, names.1, table)
         }
         _ => Ok(()),
@@ -200,24 +199,24 @@ fn push_event_known(
 
 /// Writes a line for each name of the events that no table has, up to as many as are told: the names of the cables, and of the
 /// sinks.
-pub fn push_events_known(
+pub fn push_events_known<'a>(
     alloc: Global,
     told: &mut FirstLines,
-    front: &Front,
+    spot: &Spot<'a>,
     version: Version,
     names: (&[&str], &[&str]),
-    tables: &[&Table],
+    tables: &[&'a Table],
 ) -> Result<(), AllocError>
     ensures { OnOk result (told.new
         ≡ added told.old
-        (numbered (event_known_part front.now version (texts names.entry.0.now) (texts names.entry.1.now)) 1 (views tables.now))) }
+        (numbered (event_known_part spot.now version (texts names.entry.0.now) (texts names.entry.1.now)) 1 (views tables.now))) }
 {
     let mut number = 1;
     for table in tables {
         if told.is_full() {
             return Ok(());
         }
-        push_event_known(alloc, told, front, version, names, number, table)?;
+        push_event_known(alloc, told, spot, version, names, number, table)?;
         number += 1;
     }
     Ok(())

@@ -7,7 +7,8 @@ ghost use Rattle.pd_scenario_tables.specs.Seen.{views};
 ghost use Rattle.pd_scenario_tables.specs.Ports.{counted};
 ghost use Rattle.pd_scenario_text.specs.FileTables.{tables_of};
 ghost use Rattle.pd_scenario_text.specs.Refusals.{refusals};
-ghost use Rattle.pd_misfits.specs.Lines.{file_front, file_text};
+ghost use Rattle.pd_misfits.specs.Lines.{file_text};
+ghost use Rattle.pd_misfits.specs.Spots.{file_spot};
 ghost use Rattle.pd_places.specs.FirstLines.{added};
 ghost use Rattle.pd_places.specs.Same.{same_text};
 ghost use Rattle.pd_places.specs.Funds.{budgets_text, funds_text};
@@ -21,9 +22,8 @@ use crate::first_lines::FirstLines;
 use crate::funds::{push_events_low, push_low};
 use crate::known::push_events_known;
 use crate::same::push_same_values;
-use pd_misfits::{explain_tables, explain_top, file_front};
+use pd_misfits::{File, Spot, explain_tables, explain_top, file_spot};
 use pd_scenario_tables::{Key, ScenarioFault, counted, number_at, tables_at, version_at};
-use pd_text::Front;
 use std::alloc::{AllocError, Global};
 use toml::Table;
 
@@ -51,13 +51,13 @@ const REFUSALS: [ScenarioFault; 10] = [
 
 /// Writes where names and ids stand twice, up to as many as are told.
 #[tactic(auto, unfolding(crate::specs::Same::same_text))]
-fn push_duplicates(
+fn push_duplicates<'a>(
     alloc: Global,
     told: &mut FirstLines,
-    front: &Front,
-    top: &Table,
+    spot: &Spot<'a>,
+    top: &'a Table,
 ) -> Result<(), AllocError>
-    ensures { OnOk result (told.new ≡ added told.old (same_text front.now (tables_of (table_view top.now)))) }
+    ensures { OnOk result (told.new ≡ added told.old (same_text spot.now (tables_of (table_view top.now)))) }
 {
     let cables = tables_at(alloc, top, Key::Cable)?;
     let cable_names = names_of(alloc, &cables)?;
@@ -65,53 +65,53 @@ fn push_duplicates(
     let sink_names = names_of(alloc, &sinks)?;
     let events = tables_at(alloc, top, Key::Event)?;
     let ids = ids_of(alloc, &events)?;
-    push_same_values(alloc, told, front, &cable_names, &sink_names, &ids)
+    push_same_values(alloc, told, spot, &cable_names, &sink_names, &ids)
 }
 
 /// Writes which budgets are too low for the floors of at most eight ports.
 #[tactic(auto, unfolding(crate::specs::Funds::budgets_text))]
-fn push_budgets(
+fn push_budgets<'a>(
     alloc: Global,
     text: &mut Vec<u8>,
-    front: &Front,
+    spot: &Spot<'a>,
     ports: &[&Table],
-    top: &Table,
+    top: &'a Table,
 ) -> Result<(), AllocError>
     requires ports { views ports.now ≡ (tables_of (table_view top.now)).ports }
     requires few { length ports.now ≤ 8 }
-    ensures { OnOk result (text.new.items ≡ text.old.items ++ budgets_text front.now (tables_of (table_view top.now))) }
+    ensures { OnOk result (text.new.items ≡ text.old.items ++ budgets_text spot.now (tables_of (table_view top.now))) }
 {
     let floors = floors_of(ports);
     let events = tables_at(alloc, top, Key::Event)?;
     let mw = u64::from(number_at(top, Key::Budget));
-    push_low(alloc, text, front, Key::Budget, mw, floors)?;
-    push_events_low(alloc, text, front, version_at(top), floors, &events)
+    push_low(alloc, text, spot, Key::Budget, mw, floors)?;
+    push_events_low(alloc, text, spot, version_at(top), floors, &events)
 }
 
 /// Writes which budgets are too low, where there are no more ports than there may be.
-fn push_funds(
+fn push_funds<'a>(
     alloc: Global,
     text: &mut Vec<u8>,
-    front: &Front,
-    top: &Table,
+    spot: &Spot<'a>,
+    top: &'a Table,
 ) -> Result<(), AllocError>
-    ensures { OnOk result (text.new.items ≡ text.old.items ++ funds_text front.now (tables_of (table_view top.now))) }
+    ensures { OnOk result (text.new.items ≡ text.old.items ++ funds_text spot.now (tables_of (table_view top.now))) }
 {
     let ports = tables_at(alloc, top, Key::Port)?;
     if ports.len() > 8 {
         return Ok(());
     }
-    push_budgets(alloc, text, front, &ports, top)
+    push_budgets(alloc, text, spot, &ports, top)
 }
 
 /// Writes which names of events no table has, up to as many as are told.
-fn push_known(
+fn push_known<'a>(
     alloc: Global,
     told: &mut FirstLines,
-    front: &Front,
-    top: &Table,
+    spot: &Spot<'a>,
+    top: &'a Table,
 ) -> Result<(), AllocError>
-    ensures { OnOk result (told.new ≡ added told.old (known_text front.now (tables_of (table_view top.now)))) }
+    ensures { OnOk result (told.new ≡ added told.old (known_text spot.now (tables_of (table_view top.now)))) }
 {
     let cables = tables_at(alloc, top, Key::Cable)?;
     let cable_names = names_of(alloc, &cables)?;
@@ -119,7 +119,7 @@ fn push_known(
     let sink_names = names_of(alloc, &sinks)?;
     let events = tables_at(alloc, top, Key::Event)?;
     let names = (cable_names.as_slice(), sink_names.as_slice());
-    push_events_known(alloc, told, front, version_at(top), names, &events)
+    push_events_known(alloc, told, spot, version_at(top), names, &events)
 }
 
 /// Writes of which tables there are too many, or too few.
@@ -127,28 +127,28 @@ fn push_known(
 fn push_counts(
     alloc: Global,
     text: &mut Vec<u8>,
-    front: &Front,
+    spot: &Spot<'_>,
     top: &Table,
 ) -> Result<(), AllocError>
-    ensures { OnOk result (text.new.items ≡ text.old.items ++ counts_text front.now (tables_of (table_view top.now))) }
+    ensures { OnOk result (text.new.items ≡ text.old.items ++ counts_text spot.now (tables_of (table_view top.now))) }
 {
     let ports = tables_at(alloc, top, Key::Port)?;
     let cables = tables_at(alloc, top, Key::Cable)?;
     let sinks = tables_at(alloc, top, Key::Sink)?;
     let events = tables_at(alloc, top, Key::Event)?;
-    push_count(alloc, text, front, "ports", 1, 8, ports.len() as u64)?;
-    push_count(alloc, text, front, "cables", 0, 64, cables.len() as u64)?;
-    push_count(alloc, text, front, "sinks", 0, 64, sinks.len() as u64)?;
-    push_count(alloc, text, front, "events", 0, 4_096, events.len() as u64)
+    push_count(alloc, text, spot, "ports", 1, 8, ports.len() as u64)?;
+    push_count(alloc, text, spot, "cables", 0, 64, cables.len() as u64)?;
+    push_count(alloc, text, spot, "sinks", 0, 64, sinks.len() as u64)?;
+    push_count(alloc, text, spot, "events", 0, 4_096, events.len() as u64)
 }
 
 /// Writes where a refusal of single tables applies.
-fn push_misfits(
+fn push_misfits<'a>(
     alloc: Global,
     text: &mut Vec<u8>,
-    file: &Front,
+    file: &'a File,
     fault: ScenarioFault,
-    top: &Table,
+    top: &'a Table,
 ) -> Result<(), AllocError>
     ensures { OnOk result (text.new.items ≡ text.old.items ++ file_text file.now fault (tables_of (table_view top.now))) }
 {
@@ -157,34 +157,34 @@ fn push_misfits(
 }
 
 /// Writes where a refusal applies, up to as many lines as are told.
-fn push_refusal(
+fn push_refusal<'a>(
     alloc: Global,
     told: &mut FirstLines,
-    file: &Front,
+    file: &'a File,
     fault: ScenarioFault,
-    top: &Table,
+    top: &'a Table,
 ) -> Result<(), AllocError>
     ensures { OnOk result (told.new ≡ added told.old (refusal_text file.now fault (tables_of (table_view top.now)))) }
 {
-    let front = file_front(alloc, file, fault)?;
+    let spot = file_spot(alloc, file, fault);
     let mut text = Vec::new(alloc);
     match fault {
-        ScenarioFault::Duplicate => return push_duplicates(alloc, told, &front, top),
-        ScenarioFault::UnknownName => return push_known(alloc, told, &front, top),
-        ScenarioFault::Floors => push_funds(alloc, &mut text, &front, top)?,
-        ScenarioFault::Limit => push_counts(alloc, &mut text, &front, top)?,
+        ScenarioFault::Duplicate => return push_duplicates(alloc, told, &spot, top),
+        ScenarioFault::UnknownName => return push_known(alloc, told, &spot, top),
+        ScenarioFault::Floors => push_funds(alloc, &mut text, &spot, top)?,
+        ScenarioFault::Limit => push_counts(alloc, &mut text, &spot, top)?,
         _ => push_misfits(alloc, &mut text, file, fault, top)?,
     }
     told.add(text.as_slice())
 }
 
 /// Writes where each of some refusals applies, up to as many lines as are told.
-fn push_refusals(
+fn push_refusals<'a>(
     alloc: Global,
     told: &mut FirstLines,
-    file: &Front,
+    file: &'a File,
     faults: &[ScenarioFault],
-    top: &Table,
+    top: &'a Table,
 ) -> Result<(), AllocError>
     ensures { OnOk result (told.new
         ≡ added told.old (flat_map (λ refusal. refusal_text file.now refusal (tables_of (table_view top.now))) faults.now)) }
@@ -200,12 +200,12 @@ fn push_refusals(
 
 /// Writes where another refusal than one that is told already applies in the top table.
 #[tactic(auto, unfolding(crate::specs::FirstLines::added))]
-fn push_other(
+fn push_other<'a>(
     alloc: Global,
     told: &mut FirstLines,
-    file: &Front,
+    file: &'a File,
     fault: ScenarioFault,
-    top: &Table,
+    top: &'a Table,
     other: ScenarioFault,
 ) -> Result<(), AllocError>
     ensures { OnOk result (told.new ≡ added told.old (other_text file.now fault (tables_of (table_view top.now)) other)) }
@@ -218,12 +218,12 @@ fn push_other(
 }
 
 /// Writes where each of some refusals other than one that is told already applies in the top table.
-fn push_others(
+fn push_others<'a>(
     alloc: Global,
     told: &mut FirstLines,
-    file: &Front,
+    file: &'a File,
     fault: ScenarioFault,
-    top: &Table,
+    top: &'a Table,
     others: &[ScenarioFault],
 ) -> Result<(), AllocError>
     ensures { OnOk result (told.new
@@ -241,11 +241,11 @@ fn push_others(
 ///
 /// # Errors
 /// There is no memory; some of the lines may stand there.
-pub(crate) fn push_places(
+pub(crate) fn push_places<'a>(
     alloc: Global,
     told: &mut FirstLines,
-    file: &Front,
-    top: &Table,
+    file: &'a File,
+    top: &'a Table,
 ) -> Result<(), AllocError>
     ensures { OnOk result (told.new ≡ added told.old (places_text file.now (table_view top.now))) }
 {

@@ -10,9 +10,8 @@ ghost use Rattle.pd_places.specs.Same.{same_sentence, same_part, first_name, sam
 ghost use Rattle.pd_places.specs.Same.{first_id, same_id_part, same_ids_text};
 
 use crate::first_lines::FirstLines;
-use pd_misfits::{push_line, push_number, push_quoted, table_front};
+use pd_misfits::{Spot, push_number, push_quoted, table_spot};
 use pd_scenario_tables::Key;
-use pd_text::Front;
 use std::alloc::{AllocError, Global};
 use std::collections::BTreeSet;
 
@@ -37,25 +36,25 @@ fn push_same_sentence(
 }
 
 /// Writes a line for a table before which another stands that has its value.
-fn push_same(
+fn push_same<'a>(
     alloc: Global,
     text: &mut Vec<u8>,
-    front: &Front,
-    word: &str,
+    spot: &Spot<'a>,
+    word: &'a str,
     key: Key,
     value: &[u8],
     number: usize,
     before: Option<usize>,
 ) -> Result<(), AllocError>
-    ensures { OnOk result (text.new.items ≡ text.old.items ++ same_part front.now word.now key value.now number before) }
+    ensures { OnOk result (text.new.items ≡ text.old.items ++ same_part spot.now word.now key value.now number before) }
 {
     match before {
         Some(before) if before < number.saturating_sub(1) => {
-            let own = table_front(alloc, front, word, number as u64)?;
+            let own = table_spot(alloc, spot, word, number as u64)?;
             let mut sentence = Vec::new(alloc);
             push_same_sentence(&mut sentence, key, value, word, before as u64 + 1)?;
             let named = key.text().as_bytes();
-            push_line(text, &own, named, sentence.as_slice(), b"")
+            own.push_line(alloc, text, named, sentence.as_slice(), b"")
         }
         _ => Ok(()),
     }
@@ -77,11 +76,11 @@ fn first_name(names: &[&str], name: &str) -> Option<usize>
 
 /// Writes a line for a name that an earlier table has; a new one is the first of its kind.
 #[tactic(auto, unfolding(crate::specs::FirstLines::added))]
-fn push_same_name(
+fn push_same_name<'a>(
     alloc: Global,
     told: &mut FirstLines,
-    front: &Front,
-    word: &str,
+    spot: &Spot<'a>,
+    word: &'a str,
     names: &[&str],
     number: usize,
     name: &str,
@@ -89,7 +88,7 @@ fn push_same_name(
 ) -> Result<(), AllocError>
     requires from_one { 1 ≤ number }
     requires first { OnTrue is_new (first_name (texts names.now) name.now ≡ Some (number - 1)) }
-    ensures { OnOk result (told.new ≡ added told.old (same_name_part front.now word.now (texts names.now) number name.now)) }
+    ensures { OnOk result (told.new ≡ added told.old (same_name_part spot.now word.now (texts names.now) number name.now)) }
 {
     if is_new {
         return Ok(());
@@ -104,7 +103,7 @@ fn push_same_name(
     push_same(
         alloc,
         &mut line,
-        front,
+        spot,
         word,
         Key::Name,
         value.as_slice(),
@@ -116,14 +115,14 @@ fn push_same_name(
 
 /// Writes a line for each name that an earlier table has, up to as many as are told. The names that came before are kept in a set:
 /// the first of its kind is looked for only where there is one.
-fn push_same_names(
+fn push_same_names<'a>(
     alloc: Global,
     told: &mut FirstLines,
-    front: &Front,
-    word: &str,
+    spot: &Spot<'a>,
+    word: &'a str,
     names: &[&str],
 ) -> Result<(), AllocError>
-    ensures { OnOk result (told.new ≡ added told.old (same_names_text front.now word.now (texts names.now))) }
+    ensures { OnOk result (told.new ≡ added told.old (same_names_text spot.now word.now (texts names.now))) }
 {
     let mut seen = BTreeSet::new(alloc);
     let mut number = 1;
@@ -132,7 +131,7 @@ fn push_same_names(
             return Ok(());
         }
         let is_new = seen.insert(*name)?;
-        push_same_name(alloc, told, front, word, names, number, name, is_new)?;
+        push_same_name(alloc, told, spot, word, names, number, name, is_new)?;
         number += 1;
     }
     Ok(())
@@ -150,7 +149,7 @@ fn first_id(ids: &[u32], id: u32) -> Option<usize>
 fn push_same_id(
     alloc: Global,
     told: &mut FirstLines,
-    front: &Front,
+    spot: &Spot<'_>,
     ids: &[u32],
     number: usize,
     id: u32,
@@ -158,7 +157,7 @@ fn push_same_id(
 ) -> Result<(), AllocError>
     requires from_one { 1 ≤ number }
     requires first { OnTrue is_new (first_id ids.now id ≡ Some (number - 1)) }
-    ensures { OnOk result (told.new ≡ added told.old (same_id_part front.now ids.now number id)) }
+    ensures { OnOk result (told.new ≡ added told.old (same_id_part spot.now ids.now number id)) }
 {
     if is_new {
         return Ok(());
@@ -173,7 +172,7 @@ fn push_same_id(
     push_same(
         alloc,
         &mut line,
-        front,
+        spot,
         "event",
         Key::Id,
         value.as_slice(),
@@ -187,10 +186,10 @@ fn push_same_id(
 fn push_same_ids(
     alloc: Global,
     told: &mut FirstLines,
-    front: &Front,
+    spot: &Spot<'_>,
     ids: &[u32],
 ) -> Result<(), AllocError>
-    ensures { OnOk result (told.new ≡ added told.old (same_ids_text front.now ids.now)) }
+    ensures { OnOk result (told.new ≡ added told.old (same_ids_text spot.now ids.now)) }
 {
     let mut seen = BTreeSet::new(alloc);
     let mut number = 1;
@@ -199,7 +198,7 @@ fn push_same_ids(
             return Ok(());
         }
         let is_new = seen.insert(*id)?;
-        push_same_id(alloc, told, front, ids, number, *id, is_new)?;
+        push_same_id(alloc, told, spot, ids, number, *id, is_new)?;
         number += 1;
     }
     Ok(())
@@ -209,17 +208,17 @@ fn push_same_ids(
 pub fn push_same_values(
     alloc: Global,
     told: &mut FirstLines,
-    front: &Front,
+    spot: &Spot<'_>,
     cables: &[&str],
     sinks: &[&str],
     ids: &[u32],
 ) -> Result<(), AllocError>
     ensures { OnOk result (told.new
         ≡ added told.old
-        (same_names_text front.now (codes "cable") (texts cables.now)
-        ++ (same_names_text front.now (codes "sink") (texts sinks.now) ++ same_ids_text front.now ids.now))) }
+        (same_names_text spot.now (codes "cable") (texts cables.now)
+        ++ (same_names_text spot.now (codes "sink") (texts sinks.now) ++ same_ids_text spot.now ids.now))) }
 {
-    push_same_names(alloc, told, front, "cable", cables)?;
-    push_same_names(alloc, told, front, "sink", sinks)?;
-    push_same_ids(alloc, told, front, ids)
+    push_same_names(alloc, told, spot, "cable", cables)?;
+    push_same_names(alloc, told, spot, "sink", sinks)?;
+    push_same_ids(alloc, told, spot, ids)
 }

@@ -3,12 +3,12 @@
 ghost use Rattle.std.specs.Prelude.{◌≡◌, ◌++◌, map, IfOk, OnOk};
 ghost use Rattle.toml.specs.View.{table_view};
 ghost use Rattle.pd_places.specs.FirstLines.{most_places};
-ghost use Rattle.pd_places.specs.Places.{one_line_byte, one_line, file_of, places_text, IsShort, TellsPlaces};
+ghost use Rattle.pd_places.specs.Places.{one_line_byte, one_line, file_of, places_text, IsShort, TellsPlaces, TellsTables};
 
 use crate::cut::first_lines;
 use crate::first_lines::{FirstLines, MOST_PLACES};
 use crate::places::push_places;
-use pd_misfits::explain_error;
+use pd_misfits::{File, Lines, explain_error};
 use pd_text::{Form, Front};
 use std::alloc::{AllocError, Global};
 use toml::Table;
@@ -45,16 +45,26 @@ fn file_of(alloc: Global, form: Form, name: &[u8]) -> Result<Front, AllocError>
 }
 
 /// Twenty of the places of a file's tables, and that there are more.
-fn explain_table(alloc: Global, file: &Front, top: &Table) -> Result<Vec<u8>, AllocError>
-    ensures { IfOk result (λ v. IsShort most_places file.now (places_text file.now (table_view top.now)) v.items) }
+fn explain_table(alloc: Global, file: &File, top: &Table) -> Result<Vec<u8>, AllocError>
+    ensures { IfOk result (λ v. IsShort most_places file.now.front (places_text file.now (table_view top.now)) v.items) }
 {
     let mut told = FirstLines::new(alloc);
     push_places(alloc, &mut told, file, top)?;
-    first_lines(alloc, file, told.as_slice(), MOST_PLACES)
+    first_lines(alloc, file.front(), told.as_slice(), MOST_PLACES)
+}
+
+/// The same, with the lines of the text that the tables are.
+fn explain_read(alloc: Global, file: Front, text: &[u8], top: &Table) -> Result<Vec<u8>, AllocError>
+    ensures { IfOk result (λ v. TellsTables file text.now (table_view top.now) v.items) }
+{
+    let lines = Lines::of(alloc, text)?;
+    let file = File::new(file, lines);
+    explain_table(alloc, &file, top)
 }
 
 /// Where a scenario file breaks rules: a line for each place of its tables, of twenty at most, and a line where there are more; and
-/// where the text is no TOML, the line from which on it is none, and why. Places behind the twenty aren't looked for.
+/// where the text is no TOML, the line from which on it is none, and why. Places behind the twenty aren't looked for. A place is told
+/// with the line of its key, or of the head of its table, where that is found.
 ///
 /// # Errors
 /// There is no memory.
@@ -68,7 +78,7 @@ pub fn explain_places(
 {
     let file = file_of(alloc, form, name)?;
     match toml::table_from_slice(alloc, text) {
-        Ok(table) => explain_table(alloc, &file, &table),
+        Ok(table) => explain_read(alloc, file, text, &table),
         Err(error) => explain_error(alloc, &file, text, &error),
     }
 }

@@ -294,8 +294,9 @@ at most 1 MiB; one of them may be -, standard input), and tells of each line tha
 pdbench would refuse where it breaks the rule and what would be right there: a line
 for each place, behind the script's name and the number of its line. A line is held against the
 scenario as the lines before it left it. Where SCENARIO is refused, with EDITS or
-without, tells each place at which it breaks a rule, those of the least refusal
-first: 20 of them at most, and how many more there are.
+without, tells each place at which it breaks a rule, behind the file's name and the
+line of its key or of its table, where that can be told, those of the least refusal
+first: 20 of them at most, and that there are more.
 
 Else warns of what is surely not meant in the scenario, as EDITS leaves it: events
 after the end, events that do nothing and why, disturbances that meet no packet,
@@ -314,8 +315,8 @@ Numbers are those of pdbench: times in microseconds, voltages in mV, currents in
 mA, powers in mW.
 
 example: pdlab explain mine.toml
-  mine.toml: refused 5: event 3: `at` is 130000000, not 0 to 120000000 us
-  mine.toml: refused 10: event 1: `sink` is `fone`, the name of no sink; there are `phone`
+  mine.toml:34: refused 5: event 3: `at` is 130000000, not 0 to 120000000 us
+  mine.toml:24: refused 10: event 1: `sink` is `fone`, the name of no sink; there are `phone`
 example: pdlab explain mine.toml mine.edits
   mine.edits:4: refused 24: no cable is named `thic`; there are thick, c5; hint: did you mean `thick`?
   mine.edits:9: warning: event 12 at 3000000 is after the end, 2000000: it never happens

@@ -12,10 +12,10 @@ loop-table-preserved c =
     let told = c.args.refused in
     record {
       text =
-          more_events _ c.loop-table.text.items _ c.args.front.now _ told.fault told.version told.ports c.loop-table.number _ _
+          more_events _ c.loop-table.text.items _ c.args.spot.now _ told.fault told.version told.ports c.loop-table.number _ _
           (c.loop-table.invariant.text
           ∙ next_left
-          (λ ts. c.loop-table.text.items ++ events_text c.args.front.now told.fault told.version told.ports c.loop-table.number (views ts))
+          (λ ts. c.loop-table.text.items ++ events_text c.args.spot.now told.fault told.version told.ports c.loop-table.number (views ts))
           c.args.tables.now c.loop-table.table-index c.table-item.result c.loop-table-test.true c.table-item.is)
           c.in_ok-own.ensures
           (c.in_ok-push_table.ensures
@@ -29,8 +29,8 @@ loop-table-preserved c =
 pub returns : goal.returns
 returns c =
     let told = c.args.refused in
-    all_events _ c.loop-table.text.items c.args.front.now told.fault told.version told.ports c.loop-table.number
+    all_events _ c.loop-table.text.items c.args.spot.now told.fault told.version told.ports c.loop-table.number
     (c.loop-table.invariant.text
     ∙ at_drop_all
-    (λ ts. c.loop-table.text.items ++ events_text c.args.front.now told.fault told.version told.ports c.loop-table.number (views ts))
+    (λ ts. c.loop-table.text.items ++ events_text c.args.spot.now told.fault told.version told.ports c.loop-table.number (views ts))
     c.args.tables.now c.loop-table.table-index c.loop-table-test.false)

@@ -10,12 +10,12 @@ loop-table-preserved c =
     let told = c.args.refused in
     record {
       text =
-          more_listed _ c.loop-table.text.items _ c.args.front.now _ c.args.word.now told.fault told.version told.ports c.args.kind
+          more_listed _ c.loop-table.text.items _ c.args.spot.now _ c.args.word.now told.fault told.version told.ports c.args.kind
           c.loop-table.number _ _
           (c.loop-table.invariant.text
           ∙ next_left
           (λ ts. c.loop-table.text.items
-          ++ list_text c.args.front.now c.args.word.now told.fault told.version told.ports c.args.kind c.loop-table.number (views ts))
+          ++ list_text c.args.spot.now c.args.word.now told.fault told.version told.ports c.args.kind c.loop-table.number (views ts))
           c.args.tables.now c.loop-table.table-index c.table-item.result c.loop-table-test.true c.table-item.is)
           c.in_ok-own.ensures c.in_ok-push_table.ensures;
       count = omega (arith, c.loop-table.invariant.count);
@@ -24,9 +24,9 @@ loop-table-preserved c =
 pub returns : goal.returns
 returns c =
     let told = c.args.refused in
-    all_listed _ c.loop-table.text.items c.args.front.now c.args.word.now told.fault told.version told.ports c.args.kind c.loop-table.number
+    all_listed _ c.loop-table.text.items c.args.spot.now c.args.word.now told.fault told.version told.ports c.args.kind c.loop-table.number
     (c.loop-table.invariant.text
     ∙ at_drop_all
     (λ ts. c.loop-table.text.items
-    ++ list_text c.args.front.now c.args.word.now told.fault told.version told.ports c.args.kind c.loop-table.number (views ts))
+    ++ list_text c.args.spot.now c.args.word.now told.fault told.version told.ports c.args.kind c.loop-table.number (views ts))
     c.args.tables.now c.loop-table.table-index c.loop-table-test.false)

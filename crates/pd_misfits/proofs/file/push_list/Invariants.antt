@@ -7,9 +7,9 @@ abbrev pub invariant-loop-table : goal.invariant-loop-table
 invariant-loop-table l = record {
   text :
       l.initial.text.items
-      ++ list_text l.front l.word l.refused.fault l.refused.version l.refused.ports l.kind 1 (views l.tables)
+      ++ list_text l.spot l.word l.refused.fault l.refused.version l.refused.ports l.kind 1 (views l.tables)
       ≡ l.text.items
-      ++ list_text l.front l.word l.refused.fault l.refused.version l.refused.ports l.kind l.number
+      ++ list_text l.spot l.word l.refused.fault l.refused.version l.refused.ports l.kind l.number
       (views (drop l.table-index l.tables));
   count : l.number ≡ l.table-index + 1;
 }

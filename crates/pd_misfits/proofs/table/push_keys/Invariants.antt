@@ -7,5 +7,5 @@ use Rattle.pd_misfits.proofs.table.push_keys.Given as goal
 
 abbrev pub invariant-loop-key : goal.invariant-loop-key
 invariant-loop-key l =
-    l.initial.text.items ++ flat_map (key_part l.front l.version l.kind) (keys_of (table_view l.table))
-    ≡ l.text.items ++ flat_map (key_part l.front l.version l.kind) (map string_bytes l.key-iterator)
+    l.initial.text.items ++ flat_map (key_part l.spot l.version l.kind) (keys_of (table_view l.table))
+    ≡ l.text.items ++ flat_map (key_part l.spot l.version l.kind) (map string_bytes l.key-iterator)

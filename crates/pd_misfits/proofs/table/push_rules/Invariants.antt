@@ -8,4 +8,4 @@ abbrev pub invariant-loop-rule : goal.invariant-loop-rule
 invariant-loop-rule l =
     l.text.items
     ≡ l.initial.text.items
-    ++ flat_map (rule_part l.front l.refused.fault l.refused.version l.refused.ports (table_view l.table)) (take l.rule-index l.rules)
+    ++ flat_map (rule_part l.spot l.refused.fault l.refused.version l.refused.ports (table_view l.table)) (take l.rule-index l.rules)

@@ -8,7 +8,7 @@ use Rattle.pd_places.proofs.funds.push_events_low.Goals as goal
 
 pub loop-table-preserved : goal.loop-table-preserved
 loop-table-preserved c =
-    let part = event_low_part c.args.front.now c.args.version c.args.floors in
+    let part = event_low_part c.args.spot.now c.args.version c.args.floors in
     record {
       text =
           more_numbered _ c.loop-table.text.items _ part c.loop-table.number _ _
@@ -22,7 +22,7 @@ loop-table-preserved c =
 
 pub returns : goal.returns
 returns c =
-    let part = event_low_part c.args.front.now c.args.version c.args.floors in
+    let part = event_low_part c.args.spot.now c.args.version c.args.floors in
     all_numbered _ c.loop-table.text.items part c.loop-table.number
     (c.loop-table.invariant.text
     ∙ at_drop_all (λ xs. c.loop-table.text.items ++ numbered part c.loop-table.number (views xs))

@@ -11,7 +11,7 @@ use Rattle.pd_places.proofs.known.push_events_known.Goals as goal
 
 pub loop-table-preserved : goal.loop-table-preserved
 loop-table-preserved c =
-    let part = event_known_part c.args.front.now c.args.version (texts c.args.names.0.now) (texts c.args.names.1.now) in
+    let part = event_known_part c.args.spot.now c.args.version (texts c.args.names.0.now) (texts c.args.names.1.now) in
     record {
       text =
           more_added _ c.loop-table.told _ part c.loop-table.number _ _
@@ -25,7 +25,7 @@ loop-table-preserved c =
 
 pub returns : goal.returns
 returns c =
-    let part = event_known_part c.args.front.now c.args.version (texts c.args.names.0.now) (texts c.args.names.1.now) in
+    let part = event_known_part c.args.spot.now c.args.version (texts c.args.names.0.now) (texts c.args.names.1.now) in
     all_added _ c.loop-table.told part c.loop-table.number
     (c.loop-table.invariant.text
     ∙ at_drop_all (λ xs. added c.loop-table.told (numbered part c.loop-table.number (views xs)))

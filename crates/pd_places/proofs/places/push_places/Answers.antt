@@ -1,7 +1,7 @@
 use Rattle.std.proofs.Common.{◌≡◌, ◌∙◌, ℕ, List, Result, Ok, Err, sym, ap}
 use Rattle.std.specs.List.{flat_map}
 use Rattle.std.proofs.lemmas.Result.{on_ok_weaker}
-use Rattle.pd_text.specs.Fronts.{FrontData}
+use Rattle.pd_misfits.specs.Spots.{FileData}
 use Rattle.toml.specs.View.{table_view}
 use Rattle.pd_scenario_tables.specs.declared.fault.ScenarioFault.{ScenarioFault}
 use Rattle.pd_scenario_tables.specs.Ports.{counted}
@@ -12,7 +12,7 @@ use Rattle.pd_places.proofs.FirstLines.{both_added}
 use Rattle.pd_places.proofs.places.push_places.Goals as goal
 
 -- where the ports can't be counted
-not_counted : (text one two : List ℕ) (file : FrontData) (d : Tables) (refusal : ScenarioFault) (r : Result ℕ ScenarioFault)
+not_counted : (text one two : List ℕ) (file : FileData) (d : Tables) (refusal : ScenarioFault) (r : Result ℕ ScenarioFault)
     → r ≡ Err refusal
     → one ≡ added text (refusal_text file refusal d) → two ≡ added one (flat_map (other_text file refusal d) top_refusals)
     → two ≡ added text (counted_text file d r)

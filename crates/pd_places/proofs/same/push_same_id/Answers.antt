@@ -4,5 +4,5 @@ use Rattle.pd_places.proofs.same.push_same_id.Goals as goal
 
 pub returns-then-is_new : goal.returns-then-is_new
 returns-then-is_new c =
-    new_id c.args.told.now c.args.front.now c.args.ids.now c.args.number c.args.id c.requires.from_one
+    new_id c.args.told.now c.args.spot.now c.args.ids.now c.args.number c.args.id c.requires.from_one
     (OnTrue_at c.if-is_new.true c.requires.first)

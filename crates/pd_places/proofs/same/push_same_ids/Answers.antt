@@ -19,7 +19,7 @@ push_same_id-requires-clause-first c =
 
 pub loop-id-preserved : goal.loop-id-preserved
 loop-id-preserved c =
-    let part = same_id_part c.args.front.now c.args.ids.now in
+    let part = same_id_part c.args.spot.now c.args.ids.now in
     let i = c.loop-id.id-index in
     let found = one_more_id (take i c.args.ids.now) c.loop-id.seen.keys c.insert.new.self.keys (get_or c.args.ids.now i 0)
     c.loop-id.invariant.before c.in_ok-is_new.ensures.keys in
@@ -35,7 +35,7 @@ loop-id-preserved c =
 
 pub returns : goal.returns
 returns c =
-    let part = same_id_part c.args.front.now c.args.ids.now in
+    let part = same_id_part c.args.spot.now c.args.ids.now in
     all_added _ c.loop-id.told part c.loop-id.number
     (c.loop-id.invariant.text
     ∙ at_drop_all (λ xs. added c.loop-id.told (numbered part c.loop-id.number xs)) c.args.ids.now c.loop-id.id-index

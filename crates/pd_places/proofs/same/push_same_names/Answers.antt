@@ -23,7 +23,7 @@ push_same_name-requires-clause-first c =
 
 pub loop-name-preserved : goal.loop-name-preserved
 loop-name-preserved c =
-    let part = same_name_part c.args.front.now c.args.word.now (texts c.args.names.now) in
+    let part = same_name_part c.args.spot.now c.args.word.now (texts c.args.names.now) in
     let i = c.loop-name.name-index in
     let more = texts_next c.args.names.now i no_text c.loop-name-test.true in
     let found = name_found (texts (take i c.args.names.now)) c.loop-name.seen.keys c.insert.new.self.keys
@@ -41,7 +41,7 @@ loop-name-preserved c =
 
 pub returns : goal.returns
 returns c =
-    let part = same_name_part c.args.front.now c.args.word.now (texts c.args.names.now) in
+    let part = same_name_part c.args.spot.now c.args.word.now (texts c.args.names.now) in
     all_added _ c.loop-name.told part c.loop-name.number
     (c.loop-name.invariant.text
     ∙ at_drop_all (λ xs. added c.loop-name.told (numbered part c.loop-name.number (texts xs)))

@@ -9,8 +9,8 @@ use Rattle.pd_places.proofs.same.push_same_names.Given as goal
 abbrev pub invariant-loop-name : goal.invariant-loop-name
 invariant-loop-name l = record {
   text :
-      added l.initial.told (numbered (same_name_part l.front l.word (texts l.names)) 1 (texts l.names))
-      ≡ added l.told (numbered (same_name_part l.front l.word (texts l.names)) l.number (texts (drop l.name-index l.names)));
+      added l.initial.told (numbered (same_name_part l.spot l.word (texts l.names)) 1 (texts l.names))
+      ≡ added l.told (numbered (same_name_part l.spot l.word (texts l.names)) l.number (texts (drop l.name-index l.names)));
   count : l.number ≡ l.name-index + 1;
   before : Has (texts (take l.name-index l.names)) l.seen.keys;
 }

@@ -7,10 +7,10 @@ use Rattle.pd_places.proofs.same.push_same_values.Goals as goal
 
 pub returns : goal.returns
 returns c =
-    let front = c.args.front.now in
-    let cables = same_names_text front (codes "cable") (texts c.args.cables.now) in
-    let sinks = same_names_text front (codes "sink") (texts c.args.sinks.now) in
-    let ids = same_ids_text front c.args.ids.now in
+    let spot = c.args.spot.now in
+    let cables = same_names_text spot (codes "cable") (texts c.args.cables.now) in
+    let sinks = same_names_text spot (codes "sink") (texts c.args.sinks.now) in
+    let ids = same_ids_text spot c.args.ids.now in
     let told = c.push_same_names.new.told in
     let told' = c.push_same_names-2.new.told in
     on_ok_weaker c.push_same_ids.result

@@ -18,10 +18,10 @@ short whole file kept said is told = short_of_kept whole file said (subst (λ t.
 
 pub returns : goal.returns
 returns c =
-    if_ok-map c.first_lines.result (λ v. IsShort most_places c.args.file.now c.as_slice.result.now v.items)
-    (λ v. IsShort most_places c.args.file.now (places_text c.args.file.now (table_view c.args.top.now)) v.items)
-    (λ v told. short (places_text c.args.file.now (table_view c.args.top.now)) c.args.file.now c.as_slice.result.now v.items
+    if_ok-map c.first_lines.result (λ v. IsShort most_places c.front.result.now c.as_slice.result.now v.items)
+    (λ v. IsShort most_places c.args.file.now.front (places_text c.args.file.now (table_view c.args.top.now)) v.items)
+    (λ v told. short (places_text c.args.file.now (table_view c.args.top.now)) c.args.file.now.front c.as_slice.result.now v.items
     (c.as_slice.ensures ∙ c.in_ok-push_places.ensures ∙ ap (λ t. added t (places_text c.args.file.now
     (table_view c.args.top.now))) c.new-told.ensures)
-    told)
+    (subst (λ (front : FrontData). IsShort most_places front c.as_slice.result.now v.items) c.front.ensures told))
     c.first_lines.ensures
