@@ -16,10 +16,11 @@ use Rattle.pd_bench.specs.declared.tally.Outcome.TheVariants.{Skipped, Accepted,
 use Rattle.pd_bench.specs.Session.{Reply, EditReply, ShowReply, can_show}
 use Rattle.pd_desk.specs.declared.colon.Colon.{Colon}
 use Rattle.pd_desk.specs.declared.colon.Colon.TheVariants as colon
+use Rattle.pd_desk.specs.declared.colon.Saved.TheVariants as saved
 use Rattle.pd_desk.specs.declared.colon.Saved.{Saved}
 use Rattle.pd_desk.specs.declared.own.OwnFault.{OwnFault}
 use Rattle.pd_desk.specs.Commands.{is_colon, colon_of, second}
-use Rattle.pd_desk.specs.Desk.{Back, Becomes, DeskReplies, Fails, ReplyBy, Saves, Standing, StepsBack, StepsForward, Tells}
+use Rattle.pd_desk.specs.Desk.{Back, Becomes, DeskReplies, Fails, ReplyBy, Saves, Standing, StepsBack, StepsForward, Tells, as_saved}
 use Rattle.pd_desk.specs.Desk.{WithShelf, at_first, step_of}
 use Rattle.pd_desk.specs.History.{Lead, Makes, past_with, StepData}
 use Rattle.pd_desk.specs.Laws.{EditsLead}
@@ -226,11 +227,17 @@ becomes n s d line reply Shown d' stands (is, tally, (first, number, saved, note
 unchanged : (n : ℕ) (s : ScenarioData) (d d' : Standing) → StandsSo n s d → d' ≡ d → StandsSo n s d'
 unchanged n s d d' stands same = rw same stands
 
+-- what is noted stays
+when_saved : (n : ℕ) (s : ScenarioData) (what : Saved) (d : Standing) → StandsSo n s d → StandsSo n s (as_saved what d)
+when_saved n s saved.Scenario d stands = record { first_is = stands.first_is; noted = stands.noted; onward = stands.onward }
+when_saved n s saved.Edits d stands = record { first_is = stands.first_is; noted = stands.noted; onward = stands.onward }
+when_saved n s saved.Picture d stands = stands
+
 saves : (n : ℕ) (s : ScenarioData) (d : WithShelf) (what : Saved) (is_over : Bool) (file : Option (List ℕ)) (text : List ℕ)
     (d' : WithShelf) → StandsSo n s d.desk → Saves n d what is_over file text d' → StandsSo n s d'.desk
 saves n s d what is_over None text d' stands h = absurd h
 saves n s d what is_over (Some file) text d' stands h =
-    rw h.4 (record { first_is = stands.first_is; noted = stands.noted; onward = stands.onward })
+    rw h.6 (when_saved n s what d.desk stands)
 
 tells : (n : ℕ) (s : ScenarioData) (d : WithShelf) (own : Option Colon) (file : Option (List ℕ)) (text : List ℕ) (d' : WithShelf) →
     StandsSo n s d.desk → Tells n d own file text d' → StandsSo n s d'.desk
@@ -244,6 +251,9 @@ tells n s d (Some colon.DiffAll) file text d' stands h = unchanged n s d.desk d'
 tells n s d (Some (colon.Save what is_over)) file text d' stands h = saves n s d what is_over file text d' stands h
 tells n s d (Some (colon.Why port to)) file text d' stands h = unchanged n s d.desk d'.desk stands h.1.0
 tells n s d (Some colon.Quit) file text d' stands h = unchanged n s d.desk d'.desk stands h.1.0
+tells n s d (Some (colon.Show port)) file text d' stands h = unchanged n s d.desk d'.desk stands h.1.0
+tells n s d (Some colon.Warn) file text d' stands h = unchanged n s d.desk d'.desk stands h.1.0
+tells n s d (Some colon.Test) file text d' stands h = unchanged n s d.desk d'.desk stands h.1.0
 
 fails : (n : ℕ) (s : ScenarioData) (d : WithShelf) (own : Option Colon) (file : Option (List ℕ)) (fault : OwnFault) (d' : WithShelf) →
     StandsSo n s d.desk → Fails n d own file fault d' → StandsSo n s d'.desk
@@ -256,6 +266,9 @@ fails n s d (Some colon.Diff) file fault d' stands h = unchanged n s d.desk d'.d
 fails n s d (Some colon.DiffAll) file fault d' stands h = unchanged n s d.desk d'.desk stands h.1.0
 fails n s d (Some (colon.Save what is_over)) file fault d' stands h = unchanged n s d.desk d'.desk stands h.1
 fails n s d (Some (colon.Why port to)) file fault d' stands h = unchanged n s d.desk d'.desk stands h.1.0
+fails n s d (Some (colon.Show port)) file fault d' stands h = unchanged n s d.desk d'.desk stands h.1.0
+fails n s d (Some colon.Warn) file fault d' stands h = unchanged n s d.desk d'.desk stands h.1.0
+fails n s d (Some colon.Test) file fault d' stands h = unchanged n s d.desk d'.desk stands h.1.0
 fails n s d (Some colon.Quit) file fault d' stands h = absurd h
 
 replied : (t : Bool) (n : ℕ) (s : ScenarioData) (d : WithShelf) (line reply told : List ℕ) (d' : WithShelf) → StandsSo n s d.desk →

@@ -47,14 +47,35 @@ why_of (port ∷ []) = option_map (λ p. colon.Why p None) (number port)
 why_of (port ∷ at ∷ []) = number port >>= (λ p. option_map (λ t. colon.Why p (Some t)) (number_in Microseconds at))
 why_of _ = None
 
--- the commands that write a file; with ! in the place of one that is there
+-- :show [PORT]
+abbrev pub show_of : List (List ℕ) → Option Colon
+show_of [] = Some (colon.Show None)
+show_of (port ∷ []) = option_map (λ p. colon.Show (Some p)) (number port)
+show_of _ = None
+
+-- :test FILE
+abbrev pub test_of : List (List ℕ) → Option Colon
+test_of (file ∷ []) = Some colon.Test
+test_of _ = None
+
+-- the commands that do what other commands of the program do with the scenario that stands
+unfoldable pub asked_run : List ℕ → List (List ℕ) → Option Colon
+asked_run word more =
+    if bytes_eq word (codes ":show") then show_of more
+    else if bytes_eq word (codes ":warn") then alone colon.Warn more
+    else if bytes_eq word (codes ":test") then test_of more
+    else if bytes_eq word (codes ":draw") then save_of saved.Picture false more
+    else if bytes_eq word (codes ":draw!") then save_of saved.Picture true more
+    else None
+
+-- the commands that write what is edited to a file; with ! in the place of one that is there
 unfoldable pub asked_save : List ℕ → List (List ℕ) → Option Colon
 asked_save word more =
     if bytes_eq word (codes ":save") then save_of saved.Scenario false more
     else if bytes_eq word (codes ":save!") then save_of saved.Scenario true more
     else if bytes_eq word (codes ":save-edits") then save_of saved.Edits false more
     else if bytes_eq word (codes ":save-edits!") then save_of saved.Edits true more
-    else None
+    else asked_run word more
 
 -- what the word behind the colon asks for
 unfoldable pub asked : List ℕ → List (List ℕ) → Option Colon
@@ -103,4 +124,7 @@ meant word =
     else if bytes_eq word (codes "diff") then Some (codes ":diff")
     else if bytes_eq word (codes "why") then Some (codes ":why")
     else if bytes_eq word (codes "save") then Some (codes ":save FILE")
+    else if bytes_eq word (codes "warn") then Some (codes ":warn")
+    else if bytes_eq word (codes "test") then Some (codes ":test FILE")
+    else if bytes_eq word (codes "draw") then Some (codes ":draw FILE")
     else None

@@ -30,10 +30,11 @@ use Rattle.pd_desk.specs.Help.{help_text}
 use Rattle.pd_desk.specs.History.{NotesData, StepData, no_notes, noted, notes_data, script_text}
 use Rattle.pd_desk.specs.Reasons.{as_line}
 use Rattle.pd_desk.specs.OwnFaults.{own_sentence}
-use Rattle.pd_desk.specs.Shelf.{IsNotPut, IsPut, IsFree, IsTaken, Shelved}
+use Rattle.pd_desk.specs.Shelf.{Holds, IsNotPut, IsPut, IsFree, IsTaken, Shelved}
+use Rattle.pd_desk.specs.Tellings.{Draws, TellsShow, TellsTests, TellsWarned}
 use Rattle.pd_desk.specs.declared.own.OwnFault.{OwnFault}
 use Rattle.pd_desk.specs.declared.own.OwnFault.TheVariants.{Unknown, NoEdit, FewEdits, NoRedo, NoSuchPort}
-use Rattle.pd_desk.specs.declared.own.OwnFault.TheVariants.{Differs, Stands, NotSaved, Memory}
+use Rattle.pd_desk.specs.declared.own.OwnFault.TheVariants.{Differs, Stands, NotSaved, NotRead, Memory}
 
 -- What the desk has come to: the scenario that stood first, the one that stands, and what is noted of the edits between; the
 -- number of the edit that led to it, and of the one after which it was saved last; and the counts. An edit's number is how many
@@ -172,18 +173,20 @@ abbrev pub IsSame : WithShelf → WithShelf → Type 0
 IsSame d d' = (d'.desk ≡ d.desk) × (d'.shelf ≡ d.shelf)
 
 -- what is written to the file
-abbrev pub saved_as : Saved → Standing → List ℕ
-saved_as saved.Scenario d = file_text d.scenario
-saved_as saved.Edits d = script_text d.notes
+abbrev pub IsSavedAs : Saved → Standing → List ℕ → Type 0
+IsSavedAs saved.Scenario d text = text ≡ file_text d.scenario
+IsSavedAs saved.Edits d text = text ≡ script_text d.notes
+IsSavedAs saved.Picture d text = Draws d.scenario text
 
 -- the text of a scenario reads back as that scenario
 abbrev pub ReadsBack : ℕ → Saved → ScenarioData → Type 0
 ReadsBack n saved.Scenario s = Reads n (file_text s) (Ok s)
 ReadsBack n saved.Edits s = Unit {0}
+ReadsBack n saved.Picture s = Unit {0}
 
--- the standing is saved now
-abbrev pub as_saved : Standing → Standing
-as_saved d = record {
+-- what stands is saved now
+abbrev pub saved_now : Standing → Standing
+saved_now d = record {
   first = d.first;
   scenario = d.scenario;
   number = d.number;
@@ -192,12 +195,24 @@ as_saved d = record {
   tally = d.tally;
 }
 
+-- a picture saves nothing of it
+abbrev pub as_saved : Saved → Standing → Standing
+as_saved saved.Scenario d = saved_now d
+as_saved saved.Edits d = saved_now d
+as_saved saved.Picture d = d
+
 -- the text was put on the shelf
 abbrev pub Saves : ℕ → WithShelf → Saved → Bool → Option (List ℕ) → List ℕ → WithShelf → Type 0
 Saves n d what is_over None text d' = ⊥
 Saves n d what is_over (Some file) text d' =
-    ReadsBack n what d.desk.scenario × (text ≡ saved_text file) × IsPut d.shelf d'.shelf file (saved_as what d.desk)
-    × (is_over ≡ false → IsFree d.shelf.kept file) × (d'.desk ≡ as_saved d.desk)
+    (held : List ℕ) × IsSavedAs what d.desk held × ReadsBack n what d.desk.scenario × (text ≡ saved_text file)
+    × IsPut d.shelf d'.shelf file held × (is_over ≡ false → IsFree d.shelf.kept file) × (d'.desk ≡ as_saved what d.desk)
+
+-- what a test script comes to that stands on the shelf
+abbrev pub TellsTested : ℕ → WithShelf → Option (List ℕ) → List ℕ → Type 0
+TellsTested n d None text = ⊥
+TellsTested n d (Some file) text =
+    (script : List ℕ) × Holds d.shelf.kept file script × TellsTests n d.desk.scenario file script text
 
 -- what is told for such a line, where nothing fails
 abbrev pub Tells : ℕ → WithShelf → Option Colon → Option (List ℕ) → List ℕ → WithShelf → Type 0
@@ -213,6 +228,9 @@ Tells n d (Some colon.DiffAll) file text d' = TellsAll d.desk text × IsSame d d
 Tells n d (Some (colon.Save what is_over)) file text d' = Saves n d what is_over file text d'
 Tells n d (Some (colon.Why port to)) file text d' =
     TellsWhy Words (plan_of d.desk.scenario) (record { port = port; to = to }) [] text × IsSame d d'
+Tells n d (Some (colon.Show port)) file text d' = TellsShow d.desk.scenario port text × IsSame d d'
+Tells n d (Some colon.Warn) file text d' = TellsWarned n d.desk.scenario text × IsSame d d'
+Tells n d (Some colon.Test) file text d' = TellsTested n d file text × IsSame d d'
 Tells n d (Some colon.Quit) file text d' = (text ≡ []) × IsSame d d'
 
 -- why none of an edit's changes are told
@@ -249,6 +267,15 @@ FailsSave n s what is_over file fault shelf shelf' =
 abbrev pub FailsWhy : ℕ → ℕ → OwnFault → Type 0
 FailsWhy n port fault = ((fault ≡ NoSuchPort) × ((port < 1) ⊎ (n < port))) ⊎ (fault ≡ Memory)
 
+-- why the transcript isn't told
+abbrev pub FailsShow : ℕ → Option ℕ → OwnFault → Type 0
+FailsShow n None fault = fault ≡ Memory
+FailsShow n (Some port) fault = FailsWhy n port fault
+
+-- why no expectations are held against the run: there was no name, no file that can be read, or no memory
+abbrev pub FailsTest : Option (List ℕ) → OwnFault → Type 0
+FailsTest file fault = ((fault ≡ Unknown) × (file ≡ None)) ⊎ ((fault ≡ NotRead) ⊎ (fault ≡ Memory))
+
 -- why such a line does nothing: all is as it was, but that a text which the shelf didn't take is counted there
 abbrev pub Fails : ℕ → WithShelf → Option Colon → Option (List ℕ) → OwnFault → WithShelf → Type 0
 Fails n d None file fault d' = (fault ≡ Unknown) × IsSame d d'
@@ -261,6 +288,9 @@ Fails n d (Some colon.DiffAll) file fault d' = (fault ≡ Memory) × IsSame d d'
 Fails n d (Some (colon.Save what is_over)) file fault d' =
     FailsSave n d.desk.scenario what is_over file fault d.shelf d'.shelf × (d'.desk ≡ d.desk)
 Fails n d (Some (colon.Why port to)) file fault d' = FailsWhy n port fault × IsSame d d'
+Fails n d (Some (colon.Show port)) file fault d' = FailsShow n port fault × IsSame d d'
+Fails n d (Some colon.Warn) file fault d' = (fault ≡ Memory) × IsSame d d'
+Fails n d (Some colon.Test) file fault d' = FailsTest file fault × IsSame d d'
 Fails n d (Some colon.Quit) file fault d' = ⊥
 
 -- What such a line writes, and what is told beside it. Where it can't be done, nothing is written, and the fault is told.

@@ -10,6 +10,7 @@ pub mod Reasons
 pub mod Shelf
 pub mod Standings
 pub mod Taking
+pub mod Tellings
 pub mod Commands
 pub mod Diff
 pub mod LineReasons

@@ -36,6 +36,18 @@ abbrev pub IsTaken : Option (List (List ℕ × List ℕ)) → List ℕ → Type 
 IsTaken None name = Unit {0}
 IsTaken (Some kept) name = Any (λ (put : List ℕ × List ℕ). put.0 ≡ name) kept
 
+-- the text that was put there last under this name
+pub record LastPut (kept : List (List ℕ × List ℕ)) (name text : List ℕ) : Type 0 where
+  pub front : List (List ℕ × List ℕ)
+  pub behind : List (List ℕ × List ℕ)
+  pub are : kept ≡ front ++ (name, text) ∷ behind
+  pub is_last : All (λ (put : List ℕ × List ℕ). put.0 ≢ name) behind
+
+-- the text stands there under this name
+abbrev pub Holds : Option (List (List ℕ × List ℕ)) → List ℕ → List ℕ → Type 0
+Holds None name text = Unit {0}
+Holds (Some kept) name text = LastPut kept name text
+
 -- how putting a text there ended: what stands there is replaced only where it is to be
 abbrev pub Ended : Shelved → Shelved → List ℕ → List ℕ → Bool → Result (Unit {0}) ShelfFault → Type 0
 Ended shelf shelf' name text is_over (Ok done) = IsPut shelf shelf' name text × (is_over ≡ false → IsFree shelf.kept name)

@@ -2,8 +2,8 @@
 
 ghost use Rattle.std.specs.Prelude.{◌≡◌, option_map};
 ghost use Rattle.pd_edit_lines.specs.Words.{words};
-ghost use Rattle.pd_desk.specs.Commands.{alone, asked, asked_by, asked_save, colon_of, diff_of, is_colon, is_quit, meant, save_of, second};
-ghost use Rattle.pd_desk.specs.Commands.{undo_of, why_of};
+ghost use Rattle.pd_desk.specs.Commands.{alone, asked, asked_by, asked_run, asked_save, colon_of, diff_of, is_colon, is_quit};
+ghost use Rattle.pd_desk.specs.Commands.{meant, save_of, second, show_of, test_of, undo_of, why_of};
 
 use pd_edit_lines::{next, number};
 use pd_units::{Unit, number_in};
@@ -18,6 +18,8 @@ pub enum Saved {
     Scenario,
     /// The accepted edits that led to it, as an edit script.
     Edits,
+    /// The picture of its run.
+    Picture,
 }
 
 /// What a line of the desk's own asks for.
@@ -39,6 +41,12 @@ pub enum Colon {
     Save { what: Saved, is_over: bool },
     /// What bounds a port: each offer up to a time in microseconds, or the last one.
     Why { port: u64, to: Option<u64> },
+    /// The transcript of the run: of a port, or of all.
+    Show { port: Option<u64> },
+    /// What the scenario that stands is warned of.
+    Warn,
+    /// What the expectations of a file, which the line names, come to.
+    Test,
     /// Ends the session.
     Quit,
 }
@@ -131,6 +139,51 @@ fn why_of(rest: &[u8]) -> Option<Colon>
     Some(Colon::Why { port, to: Some(to) })
 }
 
+/// `:show`, by the words behind it.
+fn show_of(rest: &[u8]) -> Option<Colon>
+    ensures { result ≡ show_of (words rest.now) }
+{
+    let Some((port, rest)) = next(rest) else {
+        return Some(Colon::Show { port: None });
+    };
+    if next(rest).is_some() {
+        return None;
+    }
+    let port = number(port)?;
+    Some(Colon::Show { port: Some(port) })
+}
+
+/// `:test`, by the words behind it.
+fn test_of(rest: &[u8]) -> Option<Colon>
+    ensures { result ≡ test_of (words rest.now) }
+{
+    let (_, rest) = next(rest)?;
+    alone(Colon::Test, rest)
+}
+
+/// What a word asks for that is another command's too, by the words behind it.
+#[tactic(auto, unfolding(crate::specs::Commands::asked_run))]
+fn asked_run(word: &[u8], rest: &[u8]) -> Option<Colon>
+    ensures { result ≡ asked_run word.now (words rest.now) }
+{
+    if word == b":show".as_slice() {
+        return show_of(rest);
+    }
+    if word == b":warn".as_slice() {
+        return alone(Colon::Warn, rest);
+    }
+    if word == b":test".as_slice() {
+        return test_of(rest);
+    }
+    if word == b":draw".as_slice() {
+        return save_of(Saved::Picture, false, rest);
+    }
+    if word == b":draw!".as_slice() {
+        return save_of(Saved::Picture, true, rest);
+    }
+    None
+}
+
 /// What a word asks for that has a file written, by the words behind it.
 #[tactic(auto, unfolding(crate::specs::Commands::asked_save))]
 fn asked_save(word: &[u8], rest: &[u8]) -> Option<Colon>
@@ -148,7 +201,7 @@ fn asked_save(word: &[u8], rest: &[u8]) -> Option<Colon>
     if word == b":save-edits!".as_slice() {
         return save_of(Saved::Edits, true, rest);
     }
-    None
+    asked_run(word, rest)
 }
 
 /// What a word with a colon asks for, by the words behind it.
@@ -200,7 +253,7 @@ impl Colon {
     }
 }
 
-/// The second word of a line, which names the file of `:save`.
+/// The second word of a line, which names the file of `:save`, `:draw` or `:test`.
 pub fn file_of(line: &[u8]) -> Option<&[u8]>
     ensures { option_map (λ x. x.now) result ≡ second (words line.now) }
 {
@@ -237,6 +290,15 @@ pub(crate) fn meant(word: &[u8]) -> Option<&'static [u8]>
     }
     if word == b"save".as_slice() {
         return Some(b":save FILE");
+    }
+    if word == b"warn".as_slice() {
+        return Some(b":warn");
+    }
+    if word == b"test".as_slice() {
+        return Some(b":test FILE");
+    }
+    if word == b"draw".as_slice() {
+        return Some(b":draw FILE");
     }
     None
 }

@@ -14,9 +14,13 @@ const HELP: &[u8] = b"= help
 :diff [all]        lines of contracts, faults and margins that the last accepted edit, or all since
                    the start, took away (-) and brought (+)
 :why PORT [AT]     what bounds a port: its last offer, or each one up to a time, as 60ms
+:show [PORT]       the run as a transcript, of one port or of all, as pdlab show tells it
+:warn              what the scenario is warned of, as pdlab explain warns
+:test FILE         the lines of a test script that fail over the scenario, and how many passed
 :save FILE         writes the scenario to a new file, which reads back as the same
 :save-edits FILE   writes the accepted edits since the start to a new file, an edit script
-:save! FILE        as :save, in the place of a file that is there; :save-edits! FILE too
+:draw FILE         writes a picture of the run to a new file, as pdlab draw does
+:save! FILE        as :save, in the place of a file that is there; :save-edits! and :draw! too
 :quit              ends the session, as Ctrl-D does
 :help              this
 insert, remove, move, change, cable, sink, caps, floor, budget, end and show are lines of edit scripts

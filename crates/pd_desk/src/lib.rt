@@ -4,6 +4,7 @@
 mod answers;
 mod byte_in;
 mod colon;
+mod copy;
 mod desk;
 mod diff;
 mod help;
@@ -20,6 +21,7 @@ mod reasons;
 mod reports;
 mod shelf;
 mod steps;
+mod tellings;
 
 pub use byte_in::ByteIn;
 pub use colon::{Colon, Saved, file_of, is_colon};

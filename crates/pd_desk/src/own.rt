@@ -8,16 +8,18 @@ ghost use Rattle.pd_bench.specs.Stream.{IsRunning};
 ghost use Rattle.pd_desk.specs.Commands.{colon_of, second};
 ghost use Rattle.pd_text.specs.declared.piece.Form.TheVariants.{Words};
 ghost use Rattle.pd_why.specs.Answers.{TellsWhy};
-ghost use Rattle.pd_desk.specs.Desk.{Fails, FailsEdit, FailsSave, FailsWhy, ReadsBack, Saves, Tells, TellsAll, TellsChanges};
-ghost use Rattle.pd_desk.specs.Desk.{saved_as, saved_text, with_shelf};
+ghost use Rattle.pd_desk.specs.Desk.{Fails, FailsEdit, FailsSave, FailsShow, FailsTest, FailsWhy, IsSavedAs, ReadsBack, Saves, Tells};
+ghost use Rattle.pd_desk.specs.Desk.{TellsAll, TellsChanges, TellsTested, as_saved, saved_text, with_shelf};
 ghost use Rattle.pd_desk.specs.OwnFaults.{own_sentence};
 ghost use Rattle.pd_desk.specs.Standings.{notes_of, standing_of};
+ghost use Rattle.pd_desk.specs.Tellings.{TellsShow};
 ghost use Rattle.pd_desk.specs.declared.own.OwnFault.TheVariants.{Memory as memory, Differs as differs};
 ghost use Rattle.pd_desk.specs.declared.colon.Saved.TheVariants as saved;
 
 use crate::desk::Desk;
 use crate::help::help_text;
 use crate::steps::{redo, undo};
+use crate::tellings::{drawn, shown, tested, warned};
 use crate::{Colon, Saved, Shelf, ShelfFault, file_of, run_diff, why_port};
 use pd_device::Text;
 use pd_port::Meter;
@@ -45,6 +47,8 @@ pub enum OwnFault {
     Stands,
     /// The file couldn't be written.
     NotSaved,
+    /// The file of expectations couldn't be read.
+    NotRead,
     Memory,
 }
 
@@ -65,8 +69,9 @@ impl OwnFault {
         match self {
             OwnFault::Unknown => {
                 text.push_all(
-                    b"the desk's own lines are :list, :undo, :redo, :diff, :why, :save, :save-edits and :quit; :help tells of them\n",
+                    b"the desk's own lines are :list, :undo, :redo, :diff, :why, :show, :warn, :test, :draw, ",
                 );
+                text.push_all(b":save, :save-edits and :quit; :help tells of them\n");
             }
             OwnFault::NoEdit => text.push_all(b"no accepted edit is left to take back\n"),
             OwnFault::FewEdits { left } => {
@@ -83,10 +88,11 @@ impl OwnFault {
             ),
             OwnFault::Stands => {
                 text.push_all(
-                    b"not saved: the file is there; :save! or :save-edits! writes it anew\n",
+                    b"not saved: the file is there; :save!, :save-edits! or :draw! writes it anew\n",
                 );
             }
             OwnFault::NotSaved => text.push_all(b"not saved: the file can't be written\n"),
+            OwnFault::NotRead => text.push_all(b"not tested: the file can't be read\n"),
             OwnFault::Memory => text.push_all(b"there was no memory for it\n"),
         }
         text
@@ -132,8 +138,13 @@ fn diff_all<const N: usize>(
 }
 
 /// What a file is to hold.
-fn saved_as<const N: usize>(alloc: Global, what: Saved, desk: &Desk<N>) -> Result<Vec<u8>, OwnFault>
-    ensures text { IfOk result (λ text. (text.items ≡ saved_as what (standing_of desk.now)) × ReadsBack N what desk.now.state.scenario) }
+fn saved_as<const N: usize>(
+    alloc: Global,
+    what: Saved,
+    desk: &Desk<N>,
+    meter: &mut Meter,
+) -> Result<Vec<u8>, OwnFault>
+    ensures text { IfOk result (λ text. IsSavedAs what (standing_of desk.now) text.items × ReadsBack N what desk.now.state.scenario) }
     ensures fault { IfErr result (λ fault. ((fault ≡ differs) × (what ≡ saved.Scenario)
         × ReadsOtherwise N (file_text desk.now.state.scenario) desk.now.state.scenario) ⊎ (fault ≡ memory)) }
 {
@@ -144,6 +155,7 @@ fn saved_as<const N: usize>(alloc: Global, what: Saved, desk: &Desk<N>) -> Resul
             Err(SaveFault::Differs) => Err(OwnFault::Differs),
         },
         Saved::Edits => Ok(desk.notes.script(alloc)?),
+        Saved::Picture => Ok(drawn(alloc, &desk.state.scenario, meter)?),
     }
 }
 
@@ -158,6 +170,17 @@ fn saved_text(alloc: Global, file: &[u8]) -> Result<Vec<u8>, AllocError>
     Ok(text)
 }
 
+/// Notes that what stands was saved, but for a picture.
+fn note_saved<const N: usize>(what: Saved, desk: &mut Desk<N>)
+    ensures desk { standing_of desk.new ≡ as_saved what (standing_of desk.old) }
+    ensures state { desk.new.state ≡ desk.old.state }
+{
+    match what {
+        Saved::Scenario | Saved::Edits => desk.saved = desk.number,
+        Saved::Picture => {}
+    }
+}
+
 /// Writes a file under the name on a line. All is made before the file is touched.
 fn save<const N: usize, S: Shelf>(
     alloc: Global,
@@ -166,6 +189,7 @@ fn save<const N: usize, S: Shelf>(
     is_over: bool,
     desk: &mut Desk<N>,
     shelf: &mut S,
+    meter: &mut Meter,
 ) -> Result<Vec<u8>, OwnFault>
     ensures text { MatchResult result
         (λ text. Saves N (with_shelf (standing_of desk.old) (S.known shelf.old)) what is_over (second (words line.now)) text.items
@@ -177,11 +201,11 @@ fn save<const N: usize, S: Shelf>(
     let Some(file) = file_of(line) else {
         return Err(OwnFault::Unknown);
     };
-    let saved = saved_as(alloc, what, desk)?;
+    let saved = saved_as(alloc, what, desk, meter)?;
     let text = saved_text(alloc, file)?;
     match shelf.put(file, saved.as_slice(), is_over) {
         Ok(()) => {
-            desk.saved = desk.number;
+            note_saved(what, desk);
             Ok(text)
         }
         Err(ShelfFault::Stands) => Err(OwnFault::Stands),
@@ -208,6 +232,46 @@ fn bounds<const N: usize>(
         to,
     };
     Ok(why_port(alloc, scenario, &question, meter)?)
+}
+
+/// The transcript of the run: of a port, or of all.
+fn show<const N: usize>(
+    alloc: Global,
+    scenario: &Scenario<N>,
+    port: Option<u64>,
+    meter: &mut Meter,
+) -> Result<Vec<u8>, OwnFault>
+    ensures text { IfOk result (λ text. TellsShow scenario.now port text.items) }
+    ensures fault { IfErr result (FailsShow N port) }
+{
+    let Some(port) = port else {
+        return Ok(shown(alloc, scenario, None, meter)?);
+    };
+    if port < 1 || port > N as u64 {
+        return Err(OwnFault::NoSuchPort);
+    }
+    Ok(shown(alloc, scenario, Some(port as usize), meter)?)
+}
+
+/// What the expectations come to of the file that a line names.
+fn test<const N: usize, S: Shelf>(
+    alloc: Global,
+    line: &[u8],
+    desk: &Desk<N>,
+    shelf: &S,
+    meter: &mut Meter,
+) -> Result<Vec<u8>, OwnFault>
+    ensures { MatchResult result
+        (λ text. TellsTested N (with_shelf (standing_of desk.now) (S.known shelf.now)) (second (words line.now)) text.items)
+        (λ fault. FailsTest (second (words line.now)) fault) }
+{
+    let Some(file) = file_of(line) else {
+        return Err(OwnFault::Unknown);
+    };
+    let Ok(script) = shelf.get(alloc, file) else {
+        return Err(OwnFault::NotRead);
+    };
+    Ok(tested(alloc, &desk.state.scenario, file, script.as_slice(), meter)?)
 }
 
 /// What is told for a line of the desk's own.
@@ -243,8 +307,11 @@ pub(crate) fn own_text<const N: usize, T: Runner<N>, S: Shelf>(
         Some(Colon::Redo) => redo(alloc, desk, runner, meter),
         Some(Colon::Diff) => diff(alloc, desk, meter),
         Some(Colon::DiffAll) => Ok(diff_all(alloc, desk, meter)?),
-        Some(Colon::Save { what, is_over }) => save(alloc, line, what, is_over, desk, shelf),
+        Some(Colon::Save { what, is_over }) => save(alloc, line, what, is_over, desk, shelf, meter),
         Some(Colon::Why { port, to }) => bounds(alloc, &desk.state.scenario, port, to, meter),
+        Some(Colon::Show { port }) => show(alloc, &desk.state.scenario, port, meter),
+        Some(Colon::Warn) => Ok(warned(alloc, &desk.state.scenario, meter)?),
+        Some(Colon::Test) => test(alloc, line, desk, shelf, meter),
         Some(Colon::Quit) => Ok(Vec::new(alloc)),
     }
 }

@@ -25,7 +25,7 @@ pub use named::scenario_name;
 pub use over_time::Break;
 pub use pd_scene::SceneFault;
 pub use pd_text::Form;
-pub use script::{TestReport, test_lines};
+pub use script::{TestReport, test_lines, test_script};
 pub use span::Span;
 pub use tally::TestTally;
 pub use texts::test_text;

@@ -328,7 +328,10 @@ pub fn test_lines<const N: usize, T: Runner<N>>(
 }
 
 /// The same for a script of a name, in a form. The script may have a byte order mark before its first line.
-pub(crate) fn test_script<const N: usize, T: Runner<N>>(
+///
+/// # Errors
+/// There is no memory.
+pub fn test_script<const N: usize, T: Runner<N>>(
     alloc: Global,
     run: &mut T,
     scenario: Scenario<N>,

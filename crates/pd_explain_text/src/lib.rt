@@ -11,4 +11,5 @@ mod warnings;
 pub use form::Telling;
 pub use pd_scene::SceneFault;
 pub use pd_text::Form;
+pub use sentences::push_sentence;
 pub use texts::explain_text;

@@ -157,7 +157,10 @@ fn push_unmet(
 }
 
 /// Writes what a warning says.
-pub(crate) fn push_sentence(text: &mut Vec<u8>, warning: &Warning) -> Result<(), AllocError>
+///
+/// # Errors
+/// There is no memory for it; some of it may stand in the text.
+pub fn push_sentence(text: &mut Vec<u8>, warning: &Warning) -> Result<(), AllocError>
     ensures { OnOk result (text.new.items ≡ text.old.items ++ sentence warning.now) }
 {
     match warning {

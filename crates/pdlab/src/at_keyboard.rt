@@ -15,7 +15,7 @@ use std::io::IsTerminal;
 use std::rt::Files;
 use std::{fs, io};
 
-/// Files, where scenarios are saved, and how many of them couldn't be written, up to the greatest value.
+/// Files, where scenarios are saved and tests stand, and how many of them couldn't be written, up to the greatest value.
 #[derive(Drop)]
 struct Folder<'a, R> {
     files: &'a R,
@@ -36,6 +36,16 @@ impl<'a, R: Files + Alloc<A = Global>> Shelf for Folder<'a, R> {
         }
         self.failures = self.failures.saturating_add(1);
         Err(ShelfFault::Failed)
+    }
+
+    fn get(&self, _: Global, name: &[u8]) -> Result<Vec<u8>, ShelfFault> {
+        let Ok(name) = std::str::from_utf8(name) else {
+            return Err(ShelfFault::Failed);
+        };
+        match read_whole(self.files, name) {
+            Ok(text) => Ok(text),
+            Err(_) => Err(ShelfFault::Failed),
+        }
     }
 }
 

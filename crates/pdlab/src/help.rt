@@ -69,9 +69,14 @@ do nothing, standard error says why:
   :diff [all]        lines of contracts, faults and margins that this edit, or all
                      edits, took away (-) and brought (+)
   :why PORT [AT]     what bounds a port: its last offer, or each one up to AT
+  :show [PORT]       the run, as show tells it: of a port, or of all
+  :warn              what the scenario is warned of, as explain warns
+  :test FILE         the lines of a test script that fail, and how many passed
   :save FILE         writes the scenario to a new file, which reads back as the same
   :save-edits FILE   writes the edits that led to it to a new file, a script
-  :save! FILE        as :save, in the place of a file that is there; :save-edits! too
+  :draw FILE         writes the run to a new file as a picture, as draw does
+  :save! FILE        as :save, in the place of a file that is there; so are
+                     :save-edits! and :draw!
   :quit              ends the session, as Ctrl-D does
   :help              tells of these lines
 

@@ -1,0 +1,52 @@
+-- What the desk has of other commands: the transcript, the picture, the warnings and the tests of a scenario.
+use Rattle.std.specs.Prelude.{◌≡◌, ℕ, List, [], ◌∷◌, ◌++◌, codes, Option, Some, None}
+use Rattle.std.specs.List.{flat_map}
+use Rattle.pd_scenario.specs.Scenarios.{ScenarioData}
+use Rattle.pd_scenario.specs.Plans.{plan_of}
+use Rattle.pd_show.specs.Choices.{whole}
+use Rattle.pd_show.specs.Show.{WroteRun}
+use Rattle.pd_show.specs.declared.choice.Choice.{Choice}
+use Rattle.pd_chart.specs.declared.look.Look.{Look}
+use Rattle.pd_draw.specs.Picture.{DrewRun}
+use Rattle.pd_warn.specs.Warnings.{AreWarnings}
+use Rattle.pd_warn.specs.declared.warning.Warning.{Warning}
+use Rattle.pd_explain_text.specs.Sentences.{sentence}
+use Rattle.pd_text.specs.Fronts.{front_of_file}
+use Rattle.pd_text.specs.declared.piece.Form.TheVariants.{Words}
+use Rattle.pd_expect.specs.Named.{script_lines}
+use Rattle.pd_expect.specs.Tests.{Tests, no_test}
+use Rattle.pd_expect.specs.Words.{tally_words}
+use Rattle.pd_expect.specs.declared.tally.TestTally.{TestTally}
+
+-- all that there is to show: of one port, or of all
+abbrev pub shown_of : Option ℕ → Choice
+shown_of port = record whole { port = port }
+
+-- the text is the transcript of the scenario's run
+abbrev pub TellsShow : ScenarioData → Option ℕ → List ℕ → Type 0
+TellsShow s port text = WroteRun (plan_of s) (shown_of port) (Some []) (Some text)
+
+-- a picture of all ports from the start to the end, 1,200 pixels wide
+abbrev pub whole_look : Look
+whole_look = record { from = 0; to = 18446744073709551615; width = 1200; port = None }
+
+-- the text is the picture of the scenario's run
+abbrev pub Draws : ScenarioData → List ℕ → Type 0
+Draws s text = DrewRun (plan_of s) whole_look text
+
+-- a line for each warning
+abbrev pub warned_line : Warning → List ℕ
+warned_line w = sentence w ++ 10 ∷ []
+
+abbrev pub warned_text : List Warning → List ℕ
+warned_text ws = flat_map (λ w. warned_line w) ws
+
+-- behind a head, what a scenario of n ports is warned of
+abbrev pub TellsWarned : ℕ → ScenarioData → List ℕ → Type 0
+TellsWarned n s text = (ws : List Warning) × AreWarnings n s ws × (text ≡ codes "= warnings\n" ++ warned_text ws)
+
+-- what is told of the lines of a test script of this name, over a scenario of n ports, and how many of them passed and failed
+abbrev pub TellsTests : ℕ → ScenarioData → List ℕ → List ℕ → List ℕ → Type 0
+TellsTests n s name script text =
+    (said : List ℕ) × (tally : TestTally) × Tests n s (front_of_file Words name) 1 no_test (script_lines script) said tally
+    × (text ≡ said ++ tally_words tally)

@@ -1,0 +1,127 @@
+//! What the desk has of other commands: the transcript, the picture, the warnings and the tests of a scenario.
+
+ghost use Rattle.std.specs.Prelude.{◌≡◌, ◌++◌, IfOk, OnOk};
+ghost use Rattle.pd_desk.specs.Tellings.{Draws, TellsShow, TellsTests, TellsWarned, warned_line, warned_text};
+
+use crate::copy::copied;
+use pd_device::Output;
+use pd_draw::{Look, draw};
+use pd_expect::{Form as TestForm, TestReport, test_script};
+use pd_explain_text::push_sentence;
+use pd_keep::Kept;
+use pd_port::Meter;
+use pd_run::{Plan, Runner};
+use pd_scenario::Scenario;
+use pd_show::{Choice, Form, show};
+use pd_warn::{Warning, warnings};
+use std::alloc::{AllocError, Global};
+
+/// The transcript of a scenario's run: of a port, numbered from 1, or of all.
+///
+/// # Errors
+/// There is no memory for it.
+pub(crate) fn shown<const N: usize>(
+    alloc: Global,
+    scenario: &Scenario<N>,
+    port: Option<usize>,
+    meter: &mut Meter,
+) -> Result<Vec<u8>, AllocError>
+    ensures { IfOk result (λ text. TellsShow scenario.now port text.items) }
+{
+    let plan = Plan::of_scenario(alloc, scenario)?;
+    let choice = Choice {
+        port,
+        from: 0,
+        to: u64::MAX,
+        good_crc: true,
+        codes: false,
+        form: Form::Words,
+    };
+    let mut output = Output {
+        writer: Vec::new(alloc),
+        failures: 0,
+    };
+    match show(alloc, &plan, &choice, &mut output, meter) {
+        Ok(()) => Ok(output.writer),
+        Err(_) => Err(AllocError),
+    }
+}
+
+/// The picture of a scenario's run, as an SVG.
+///
+/// # Errors
+/// There is no memory for it.
+pub(crate) fn drawn<const N: usize>(
+    alloc: Global,
+    scenario: &Scenario<N>,
+    meter: &mut Meter,
+) -> Result<Vec<u8>, AllocError>
+    ensures { IfOk result (λ text. Draws scenario.now text.items) }
+{
+    let plan = Plan::of_scenario(alloc, scenario)?;
+    let look = Look {
+        from: 0,
+        to: u64::MAX,
+        width: 1_200,
+        port: None,
+    };
+    draw(alloc, &plan, look, meter)
+}
+
+/// Writes what a warning says, as a line.
+fn push_warning(text: &mut Vec<u8>, warning: &Warning) -> Result<(), AllocError>
+    ensures { OnOk result (text.new.items ≡ text.old.items ++ warned_line warning.now) }
+{
+    push_sentence(text, warning)?;
+    text.extend_from_slice(b"\n")
+}
+
+/// Writes a line for each of these warnings.
+fn push_warned(text: &mut Vec<u8>, warnings: &[Warning]) -> Result<(), AllocError>
+    ensures { OnOk result (text.new.items ≡ text.old.items ++ warned_text warnings.now) }
+{
+    for warning in warnings {
+        push_warning(text, warning)?;
+    }
+    Ok(())
+}
+
+/// What a scenario is warned of, a line each.
+///
+/// # Errors
+/// There is no memory for it.
+pub(crate) fn warned<const N: usize>(
+    alloc: Global,
+    scenario: &Scenario<N>,
+    meter: &mut Meter,
+) -> Result<Vec<u8>, AllocError>
+    ensures { IfOk result (λ text. TellsWarned N scenario.now text.items) }
+{
+    let found = warnings(alloc, scenario, meter)?;
+    let mut text = Vec::new(alloc);
+    text.extend_from_slice(b"= warnings\n")?;
+    push_warned(&mut text, &found)?;
+    Ok(text)
+}
+
+/// What is told of the lines of a test script of a name, over a scenario, and how many passed and failed. The lines that edit change
+/// nothing but what the lines behind them are held against.
+///
+/// # Errors
+/// There is no memory for it.
+pub(crate) fn tested<const N: usize>(
+    alloc: Global,
+    scenario: &Scenario<N>,
+    name: &[u8],
+    script: &[u8],
+    meter: &mut Meter,
+) -> Result<Vec<u8>, AllocError>
+    ensures { IfOk result (λ text. TellsTests N scenario.now name.now script.now text.items) }
+{
+    let copy = copied(alloc, scenario)?;
+    let mut run = Kept::<N>::empty(alloc);
+    let report = test_script(alloc, &mut run, copy, TestForm::Words, name, script, meter)?;
+    let TestReport { mut text, tally } = report;
+    tally.push(&mut text)?;
+    Ok(text)
+}
