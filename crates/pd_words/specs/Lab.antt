@@ -62,6 +62,9 @@ abbrev pub why : Shape
 why = command (codes "why") (must (codes "SCENARIO") ∷ must (codes "PORT") ∷ may (codes "SECOND") ∷ may (codes "THIRD")
     ∷ keep_going ∷ flag (codes "json") ∷ [])
 
+abbrev pub guarantee : Shape
+guarantee = command (codes "guarantee") (must (codes "SCENARIO") ∷ may (codes "EDITS") ∷ keep_going ∷ flag (codes "json") ∷ [])
+
 abbrev pub sweep : Shape
 sweep = command (codes "sweep") (must (codes "SCENARIO") ∷ may (codes "EDITS") ∷ keep_going
     ∷ value (codes "port") ∷ value (codes "from") ∷ value (codes "to") ∷ value (codes "kind") ∷ flag (codes "damage")
@@ -87,7 +90,7 @@ decode = command (codes "decode") (may (codes "FILE") ∷ flag (codes "json") �
 unfoldable pub lab : App
 lab = record {
   top = record (new_shape (codes "pdlab")) { is_leaf = false };
-  subs = live ∷ show ∷ why ∷ sweep ∷ test ∷ draw ∷ page ∷ explain ∷ decode ∷ [];
+  subs = live ∷ show ∷ why ∷ guarantee ∷ sweep ∷ test ∷ draw ∷ page ∷ explain ∷ decode ∷ [];
 }
 
 abbrev pub with_command : App → Text → List Rule → App

@@ -38,6 +38,7 @@ pub data Asked : Type 0 where
   live : (scenario : Text) → Asked
   show : Files → ShowOptions → Asked
   why : Files → WhyOptions → Asked
+  guarantee : Files → (json : Bool) → Asked
   sweep : Files → SweepOptions → Asked
   test : (scripts : List Text) → (json : Bool) → Asked
   draw : Files → DrawOptions → Asked
@@ -151,6 +152,9 @@ abbrev pub why_by : List Row → Option Asked
 why_by rows = option_and_then (λ first. why_with rows (why_words first (first_of (codes "SECOND") rows) (first_of (codes "THIRD") rows)))
     (first_of (codes "PORT") rows)
 
+abbrev pub guarantee_by : List Row → Option Asked
+guarantee_by rows = option_map (λ files. guarantee files (is_on (codes "json") rows)) (scene_by rows)
+
 abbrev pub sweep_by : List Row → Option Asked
 sweep_by rows = option_and_then (λ files. option_and_then (λ window. option_and_then (λ reserve. option_and_then (λ kind.
     option_and_then (λ behind. option_map (λ form. sweep files (record {
@@ -196,12 +200,13 @@ abbrev pub asked_by : Text × List Row → Option Asked
 asked_by found = if bytes_eq found.0 (codes "live") then live_by found.1
     else (if bytes_eq found.0 (codes "show") then show_by found.1
     else (if bytes_eq found.0 (codes "why") then why_by found.1
+    else (if bytes_eq found.0 (codes "guarantee") then guarantee_by found.1
     else (if bytes_eq found.0 (codes "sweep") then sweep_by found.1
     else (if bytes_eq found.0 (codes "test") then test_by found.1
     else (if bytes_eq found.0 (codes "draw") then draw_by found.1
     else (if bytes_eq found.0 (codes "page") then page_by found.1
     else (if bytes_eq found.0 (codes "explain") then explain_by found.1
-    else (if bytes_eq found.0 (codes "decode") then decode_by found.1 else None))))))))
+    else (if bytes_eq found.0 (codes "decode") then decode_by found.1 else None)))))))))
 
 -- ---- a whole line: words that clap takes, and what the command is that they name
 
@@ -226,6 +231,7 @@ abbrev pub asked : LabTask → Asked
 asked (task.Live scenario) = live scenario.now
 asked (task.Show scene options) = show (files scene) options
 asked (task.Why scene options) = why (files scene) options
+asked (task.Guarantee scene json) = guarantee (files scene) json
 asked (task.Sweep scene options) = sweep (files scene) options
 asked (task.Test scripts json) = test (map (λ x. x.now) scripts.items) json
 asked (task.Draw scene options) = draw (files scene) options

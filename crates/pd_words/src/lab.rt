@@ -111,6 +111,8 @@ const WHY: [Slot; 6] = [
     JSON,
 ];
 
+const GUARANTEE: [Slot; 4] = [SCENARIO, EDITS, KEEP_GOING, JSON];
+
 const SWEEP: [Slot; 12] = [
     SCENARIO,
     EDITS,
@@ -151,6 +153,7 @@ pub fn slots_of(command: &str) -> &'static [Slot<'static>] {
         "live" => &LIVE,
         "show" => &SHOW,
         "why" => &WHY,
+        "guarantee" => &GUARANTEE,
         "sweep" => &SWEEP,
         "test" => &TEST,
         "draw" => &DRAW,
@@ -169,6 +172,7 @@ pub fn lab<'a>(alloc: Global) -> Result<Command<'a>, AllocError>
     let program = with_command(alloc, program, "live", &LIVE)?;
     let program = with_command(alloc, program, "show", &SHOW)?;
     let program = with_command(alloc, program, "why", &WHY)?;
+    let program = with_command(alloc, program, "guarantee", &GUARANTEE)?;
     let program = with_command(alloc, program, "sweep", &SWEEP)?;
     let program = with_command(alloc, program, "test", &TEST)?;
     let program = with_command(alloc, program, "draw", &DRAW)?;

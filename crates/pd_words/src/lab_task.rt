@@ -82,6 +82,8 @@ pub enum LabTask<'a> {
     Show(Scene<'a>, ShowOptions),
     /// What bounds a port.
     Why(Scene<'a>, WhyOptions),
+    /// What is sure for each port.
+    Guarantee(Scene<'a>, bool),
     /// What a lost packet leads to.
     Sweep(Scene<'a>, SweepOptions),
     /// Whether runs are as test scripts expect them.

@@ -7,7 +7,7 @@ ghost use Rattle.clap.specs.Words.{all_of, first_of, found_of, kind_of, rows_of,
 ghost use Rattle.pd_words.specs.LabTasks.{asked, asked_by, behind_by, decode_by, draw_by, explain_by, files, form_by, given_by};
 ghost use Rattle.pd_words.specs.LabTasks.{is_on, is_twice, lab_asked, live_by, number_of, scene_by, show_by, sweep_by, test_by};
 ghost use Rattle.pd_words.specs.LabTasks.{is_number, number, page_by, quantity, quantity_of, scene_with, why_by, why_with};
-ghost use Rattle.pd_words.specs.LabTasks.{why_words, width_by, window_by};
+ghost use Rattle.pd_words.specs.LabTasks.{guarantee_by, why_words, width_by, window_by};
 ghost use Rattle.pd_words.specs.Names.{named};
 
 use crate::lab::lab;
@@ -375,6 +375,13 @@ fn why_of<'a>(matches: &ArgMatches<'a>) -> Result<LabTask<'a>, LabFault<'a>>
     }
 }
 
+/// `guarantee SCENARIO [EDITS]`
+fn guarantee_of<'a>(matches: &ArgMatches<'a>) -> Result<LabTask<'a>, LabFault<'a>>
+    ensures { option_map asked (result_ok result) ≡ guarantee_by (rows_of (found_of matches.now)) }
+{
+    Ok(LabTask::Guarantee(scene_of(matches)?, is_on(matches, "json")))
+}
+
 /// `sweep SCENARIO [EDITS]`
 fn sweep_of<'a>(matches: &ArgMatches<'a>) -> Result<LabTask<'a>, LabFault<'a>>
     ensures { option_map asked (result_ok result) ≡ sweep_by (rows_of (found_of matches.now)) }
@@ -478,6 +485,7 @@ fn task_of<'a>(
         "live" => live_of(matches),
         "show" => show_of(matches),
         "why" => why_of(matches),
+        "guarantee" => guarantee_of(matches),
         "sweep" => sweep_of(matches),
         "test" => test_of(alloc, matches),
         "draw" => draw_of(matches),

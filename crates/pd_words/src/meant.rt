@@ -7,8 +7,17 @@ ghost use Rattle.pd_words.specs.Meant.{behind_name, front, meant, names, topic};
 use crate::lab::{Slot, slots_of};
 use pd_hints::{is_slip, nearest};
 
-const COMMANDS: [&str; 9] = [
-    "live", "show", "why", "sweep", "test", "draw", "page", "explain", "decode",
+const COMMANDS: [&str; 10] = [
+    "live",
+    "show",
+    "why",
+    "guarantee",
+    "sweep",
+    "test",
+    "draw",
+    "page",
+    "explain",
+    "decode",
 ];
 
 /// The names of the commands.

@@ -6,6 +6,7 @@ pub fn usage_of(word: &str) -> &'static str {
         "live" => "usage: pdlab live SCENARIO",
         "show" => "usage: pdlab show SCENARIO [EDITS] [OPTIONS]",
         "why" => "usage: pdlab why [OPTIONS] SCENARIO [EDITS] PORT [AT]",
+        "guarantee" => "usage: pdlab guarantee [OPTIONS] SCENARIO [EDITS]",
         "sweep" => "usage: pdlab sweep SCENARIO [EDITS] [OPTIONS]",
         "test" => "usage: pdlab test [--json] SCRIPT..",
         "draw" => "usage: pdlab draw SCENARIO [EDITS] [OPTIONS]",
@@ -13,8 +14,8 @@ pub fn usage_of(word: &str) -> &'static str {
         "explain" => "usage: pdlab explain [--json] [--strict] SCENARIO [EDITS]",
         "decode" => "usage: pdlab decode [--json] [FILE]",
         _ => {
-            "usage: pdlab COMMAND ..; there are live, show, why, sweep, test, draw, page, explain and decode; \
-             pdlab --help tells of them"
+            "usage: pdlab COMMAND ..; there are live, show, why, guarantee, sweep, test, draw, page, explain and \
+             decode; pdlab --help tells of them"
         }
     }
 }
@@ -29,6 +30,8 @@ usage: pdlab COMMAND ..
                             a run as an engineer reads it, all ports in one list
   why [OPTIONS] SCENARIO [EDITS] PORT [AT]
                             what bounds a port's offers, and what came of them
+  guarantee [OPTIONS] SCENARIO [EDITS]
+                            what is sure for each port, whatever is attached
   sweep SCENARIO [EDITS] [OPTIONS]
                             each packet lost in turn, and what that leads to
   test [--json] SCRIPT..    whether runs are as scripts expect them
@@ -156,6 +159,37 @@ example: pdlab why examples/derating.toml 2
 
 status: 0 it was told, 1 the scenario or a line of EDITS is refused, or there is no
         such port, 2 the words are others, 3 a file can't be read, or a fault
+";
+
+/// What `guarantee --help` prints.
+pub const GUARANTEE_HELP: &str = "pdlab guarantee: what is sure for each port
+
+usage: pdlab guarantee [OPTIONS] SCENARIO [EDITS]
+
+Tells of each port of the charger of the file SCENARIO, as the edit script EDITS
+leaves it (one of them may be -, standard input), what holds whatever is attached to
+the ports, and whatever happens and gets lost. It runs nothing: of the scenario the
+settings of the ports count, and the least and the greatest budget up to the end, that
+at the start among them. Cables, sinks and the other events don't. It tells
+
+  free at least  what is free to the port whatever the other ports do: what the least
+                 budget leaves where each holds its floor or its strongest supply,
+                 whichever is more, and at least the port's floor
+  at most        what the greatest budget leaves where each other port holds its floor
+  resets it      a port that holds no more than this stays as it is when the budget
+                 changes; one that holds more may be reset by a Hard Reset
+  offered        the least current at which each supply stands in each
+                 Source_Capabilities, with a cable that is known to carry 5 A, and with
+                 another
+
+  --json         a JSON object for each line, with units in its keys (_mv, _ma, _uw)
+  --keep-going   passes over refused lines of EDITS: they change nothing, and the status
+                 is 1 all the same
+
+example: pdlab guarantee examples/derating.toml
+
+status: 0 it was told, 1 the scenario or a line of EDITS is refused,
+        2 the words are others, 3 a file can't be read, or a fault
 ";
 
 /// What `sweep --help` prints.
@@ -370,6 +404,7 @@ pub fn help_of(word: &str) -> &'static str {
         "live" => LIVE_HELP,
         "show" => SHOW_HELP,
         "why" => WHY_HELP,
+        "guarantee" => GUARANTEE_HELP,
         "sweep" => SWEEP_HELP,
         "test" => TEST_HELP,
         "draw" => DRAW_HELP,

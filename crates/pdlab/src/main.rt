@@ -1,4 +1,4 @@
-//! The engineer's desk as a program: `pdlab live`, `show`, `why`, `sweep`, `test`, `draw`, `page`, `explain` and `decode`.
+//! The engineer's desk as a program: `pdlab live`, `show`, `why`, `guarantee`, `sweep`, `test`, `draw`, `page`, `explain` and `decode`.
 #![tactic(auto)]
 
 mod answers;
@@ -22,7 +22,7 @@ use fault::tell_words;
 use log::decode;
 use page::page;
 use pd_words::{LabFault, LabTask, read_lab_task};
-use runs::{draw, show, why};
+use runs::{draw, guarantee, show, why};
 use std::alloc::{AllocError, Global};
 use std::io::IsTerminal;
 use std::process::ExitCode;
@@ -84,6 +84,7 @@ where
         LabTask::Live(scenario) => Ok(live(rt, errors, scenario)),
         LabTask::Show(scene, options) => show(rt, errors, scene, &options),
         LabTask::Why(scene, options) => why(rt, errors, scene, &options),
+        LabTask::Guarantee(scene, json) => guarantee(rt, errors, scene, json),
         LabTask::Sweep(scene, options) => sweep(rt, errors, scene, &options),
         LabTask::Test(scripts, json) => test(rt, errors, scripts.as_slice(), json),
         LabTask::Draw(scene, options) => draw(rt, errors, scene, &options),

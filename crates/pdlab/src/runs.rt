@@ -1,4 +1,4 @@
-//! `pdlab show`, `why` and `draw`: a run of a scenario's file, as the edits of a script leave it.
+//! `pdlab show`, `why`, `guarantee` and `draw`: the scenario of a file, as the edits of a script leave it.
 
 use crate::Ending;
 use crate::answers::Counted;
@@ -7,6 +7,7 @@ use crate::opened::{Opened, open, reaches, tell_scene};
 use crate::put::{put, put_file};
 use pd_device::{BenchFault, Output, TextOut};
 use pd_draw::{Look, draw_text};
+use pd_guarantee::guarantee_text;
 use pd_port::Meter;
 use pd_show::{Choice, Form, SceneFault, show_text};
 use pd_why::{Form as AnswerForm, Question, why_text};
@@ -164,6 +165,30 @@ pub fn why<R: Files + Input + Print + Alloc<A = Global>, E: Print>(
     ) {
         Ok(said) => put(rt, errors, None, said.as_slice())?,
         Err(fault) => return Err(tell_scene(rt, errors, &opened, Some(question.port), fault)),
+    }
+    Ok(opened.ending)
+}
+
+/// Tells what is sure for each port, whatever is attached.
+///
+/// # Errors
+/// Something kept it from being told; that is told.
+pub fn guarantee<R: Files + Input + Print + Alloc<A = Global>, E: Print>(
+    rt: &R,
+    errors: &E,
+    scene: Scene<'_>,
+    json: bool,
+) -> Result<Ending, Ending> {
+    let opened = open(rt, errors, scene)?;
+    let (text, script) = (opened.text.as_slice(), opened.script.as_slice());
+    let form = if json {
+        AnswerForm::Json
+    } else {
+        AnswerForm::Words
+    };
+    match guarantee_text(rt.alloc(), text, script, opened.refused, form) {
+        Ok(said) => put(rt, errors, None, said.as_slice())?,
+        Err(fault) => return Err(tell_scene(rt, errors, &opened, None, fault)),
     }
     Ok(opened.ending)
 }

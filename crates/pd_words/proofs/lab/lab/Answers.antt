@@ -15,9 +15,10 @@ returns c =
     let live = more _ _ _ _ _ c.in_ok-program.ensures c.new-program.ensures.app in
     let show = more _ _ _ _ _ c.in_ok-program-2.ensures live in
     let why = more _ _ _ _ _ c.in_ok-program-3.ensures show in
-    let sweep = more _ _ _ _ _ c.in_ok-program-4.ensures why in
-    let test = more _ _ _ _ _ c.in_ok-program-5.ensures sweep in
-    let draw = more _ _ _ _ _ c.in_ok-program-6.ensures test in
-    let page = more _ _ _ _ _ c.in_ok-program-7.ensures draw in
-    let explain = more _ _ _ _ _ c.in_ok-program-8.ensures page in
-    IfOk-weaker c.with_command-9.result _ _ (λ program added. more _ _ _ _ _ added explain) c.with_command-9.ensures
+    let guarantee = more _ _ _ _ _ c.in_ok-program-4.ensures why in
+    let sweep = more _ _ _ _ _ c.in_ok-program-5.ensures guarantee in
+    let test = more _ _ _ _ _ c.in_ok-program-6.ensures sweep in
+    let draw = more _ _ _ _ _ c.in_ok-program-7.ensures test in
+    let page = more _ _ _ _ _ c.in_ok-program-8.ensures draw in
+    let explain = more _ _ _ _ _ c.in_ok-program-9.ensures page in
+    IfOk-weaker c.with_command-10.result _ _ (λ program added. more _ _ _ _ _ added explain) c.with_command-10.ensures

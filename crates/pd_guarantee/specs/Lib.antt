@@ -1,0 +1,4 @@
+pub mod Bounds
+pub mod Charger
+pub mod Laws
+pub mod Tellings
