@@ -1,4 +1,4 @@
-// The proved module: texts in, texts out. docs/FORMATS.md has the forms, crates/pd_page the exports.
+// The proved module: texts in, texts out. docs/LAB.md has the forms, crates/pd_page the exports.
 
 /** How a call ended. `STOPPED` is the browser's own: the module was stopped, and began anew. */
 export const Ending = { DONE: 0, REFUSED: 1, NO_PORT: 2, MEMORY: 3, LONG: 4, STOPPED: 5 };

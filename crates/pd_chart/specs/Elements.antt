@@ -1,5 +1,5 @@
 -- A drawing as a tree of elements, and its text (XML 1.0; SVG 1.1).
-use Rattle.std.specs.Prelude.{ℕ, ◌==◌, ◌&&◌, nat_le, Bool, true, false, if◌then◌else◌, List, [], ◌∷◌, ◌++◌, codes}
+use Rattle.std.specs.Prelude.{ℕ, ◌==◌, ◌&&◌, nat_le, Bool, true, false, if◌then◌else◌, List, [], ◌∷◌, ◌++◌, codes, decimal}
 use Rattle.std.specs.List.{flat_map}
 
 -- An attribute: its name, and what it says.
@@ -40,11 +40,25 @@ element_text e =
     60 ∷ (e.name ++ (flat_map attribute_text e.attributes ++ (62 ∷ (flat_map inside_text e.inside
     ++ (60 ∷ 47 ∷ (e.name ++ (62 ∷ 10 ∷ [])))))))
 
--- a drawing: the elements in one that holds them all
+-- a group: elements that stand lower by so much than they say
+pub record Group : Type 0 where
+  pub down : ℕ
+  pub elements : List Element
+
+abbrev pub group_attribute : ℕ → Attribute
+group_attribute down = record { name = codes "transform"; value = codes "translate(0 " ++ (decimal down ++ codes ")") }
+
+abbrev pub group_text : Group → List ℕ
+group_text g =
+    codes "<g" ++ (attribute_text (group_attribute g.down) ++ (codes ">\n" ++ (flat_map element_text g.elements ++ codes "</g>\n")))
+
+-- a drawing: the elements and the groups in one that holds them all
 pub record Drawing : Type 0 where
   pub attributes : List Attribute
   pub elements : List Element
+  pub groups : List Group
 
 abbrev pub drawing_text : Drawing → List ℕ
 drawing_text d =
-    codes "<svg" ++ (flat_map attribute_text d.attributes ++ (codes ">\n" ++ (flat_map element_text d.elements ++ codes "</svg>\n")))
+    codes "<svg" ++ (flat_map attribute_text d.attributes ++ (codes ">\n" ++ (flat_map element_text d.elements
+    ++ (flat_map group_text d.groups ++ codes "</svg>\n"))))

@@ -1,3 +1,4 @@
+pub mod Amounts
 pub mod Chart
 pub mod Curves
 pub mod Laws
@@ -5,3 +6,4 @@ pub mod Picture
 pub mod Scale
 pub mod Elements
 pub mod Shapes
+pub mod Ticks

@@ -1,5 +1,5 @@
 -- The chart of a picture, and the picture's size.
-use Rattle.std.specs.Prelude.{ℕ, ◌+◌, ◌-◌, ◌*◌, ◌/◌, min, max, List, [], ◌∷◌, ◌++◌, map, codes, decimal}
+use Rattle.std.specs.Prelude.{ℕ, ◌+◌, ◌-◌, ◌*◌, ◌/◌, min, max, Bool, List, [], ◌∷◌, ◌++◌, map, codes, decimal}
 use Rattle.std.specs.List.{flat_map}
 use Rattle.pd_scenario.specs.Plan.{Plan}
 use Rattle.pd_chart.specs.Elements.{Attribute, Element, element_text}
@@ -8,8 +8,8 @@ use Rattle.pd_chart.specs.declared.curves.Level.{Level}
 use Rattle.pd_chart.specs.declared.frame.Frame.{Frame}
 use Rattle.pd_chart.specs.declared.look.Look.{Look}
 use Rattle.pd_chart.specs.Curves.{greatest, tightest}
-use Rattle.pd_chart.specs.Chart.{area_of, budget_of, fifths, key_of, line_keys, margin_mark, margin_words, outline_of, ports_down, ports_up}
-use Rattle.pd_chart.specs.Chart.{power_tick, tenths, time_tick}
+use Rattle.pd_chart.specs.Chart.{area_of, budget_of, held_ports, key_of, margin_marks, margin_words, names_of, outline_of, ports_down}
+use Rattle.pd_chart.specs.Chart.{ports_up, power_tick, power_ticks, time_tick, time_ticks}
 
 -- The window: up to the end of the plan, and not empty; the width is 1,000 to 10,000 pixels, of which the margins take 110.
 unfoldable pub frame_of : Plan → Look → Frame
@@ -49,32 +49,32 @@ rules =
 -- the step that leaves the least of the budget
 abbrev pub least_elements : Frame → ℕ → List Level → List Element
 least_elements f top [] = []
-least_elements f top (l ∷ ls) = margin_mark f top (tightest l ls) ∷ margin_words (tightest l ls) ∷ []
+least_elements f top (l ∷ ls) = margin_marks f top (tightest l ls) ++ margin_words f (tightest l ls)
 
--- the chart: what the colours and the lines stand for, the axes, the contracts from the last port to the first, each over the one
--- before, the outlines of the holds, the budget, and the least margin; the lines of times go down to the picture's end
-abbrev pub elements_of : Frame → ℕ → ℕ → List Level → List Element
-elements_of f bottom n levels =
-    style_of rules ∷ (flat_map key_of (ports_up n) ++ (line_keys n ++ (flat_map (time_tick f bottom) tenths
-    ++ (flat_map (power_tick f (top_of levels)) fifths ++ (map (area_of f (top_of levels) levels) (ports_down n)
-    ++ (map (outline_of f (top_of levels) levels) (ports_down n)
+-- the chart: what the colours and the lines stand for, its title, the axes, the contracts from the last port to the first, each over the
+-- one before, the outlines of the holds, the budget, and the least margin; the lines of times go down to the picture's end
+abbrev pub elements_of : Frame → ℕ → ℕ → Bool → List Level → List Element
+elements_of f bottom n holds levels =
+    style_of rules ∷ (flat_map key_of (ports_up n) ++ (names_of f n holds ++ (flat_map (time_tick f bottom) time_ticks
+    ++ (flat_map (power_tick f (top_of levels)) power_ticks ++ (map (area_of f (top_of levels) levels) (ports_down n)
+    ++ (map (outline_of f (top_of levels) levels) (held_ports n holds)
     ++ (budget_of f (top_of levels) levels ∷ least_elements f (top_of levels) levels)))))))
 
--- the texts of what the colours and the lines stand for, of the axes, and of the curves
-unfoldable pub keys_text : ℕ → List ℕ
-keys_text n = flat_map (λ port. flat_map element_text (key_of port)) (ports_up n) ++ flat_map element_text (line_keys n)
+-- the texts of what the colours and the lines stand for and the title, of the axes, and of the curves
+unfoldable pub keys_text : Frame → ℕ → Bool → List ℕ
+keys_text f n holds = flat_map (λ port. flat_map element_text (key_of port)) (ports_up n) ++ flat_map element_text (names_of f n holds)
 
 unfoldable pub axes_text : Frame → ℕ → List Level → List ℕ
 axes_text f bottom levels =
-    flat_map (λ k. flat_map element_text (time_tick f bottom k)) tenths
-    ++ flat_map (λ k. flat_map element_text (power_tick f (top_of levels) k)) fifths
+    flat_map (λ k. flat_map element_text (time_tick f bottom k)) time_ticks
+    ++ flat_map (λ k. flat_map element_text (power_tick f (top_of levels) k)) power_ticks
 
-unfoldable pub stacks_text : Frame → ℕ → List Level → List ℕ → List ℕ
-stacks_text f top levels ports =
+unfoldable pub stacks_text : Frame → ℕ → List Level → List ℕ → List ℕ → List ℕ
+stacks_text f top levels ports held =
     flat_map (λ port. element_text (area_of f top levels port)) ports
-    ++ flat_map (λ port. element_text (outline_of f top levels port)) ports
+    ++ flat_map (λ port. element_text (outline_of f top levels port)) held
 
-unfoldable pub curves_text : Frame → ℕ → List Level → List ℕ
-curves_text f n levels =
-    stacks_text f (top_of levels) levels (ports_down n)
+unfoldable pub curves_text : Frame → ℕ → Bool → List Level → List ℕ
+curves_text f n holds levels =
+    stacks_text f (top_of levels) levels (ports_down n) (held_ports n holds)
     ++ (element_text (budget_of f (top_of levels) levels) ++ flat_map element_text (least_elements f (top_of levels) levels))

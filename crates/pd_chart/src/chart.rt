@@ -3,15 +3,17 @@
 ghost use Rattle.std.specs.Prelude.{◌≡◌, ◌∷◌, ◌++◌, ◌≤◌, [], OnOk, All};
 ghost use Rattle.std.specs.List.{flat_map};
 ghost use Rattle.pd_chart.specs.Elements.{element_text};
-ghost use Rattle.pd_chart.specs.Chart.{area_of, budget_of, closing, curve_text, hold_class, hold_name, is_repeated, key_of};
-ghost use Rattle.pd_chart.specs.Chart.{line_key, line_keys, line_of, line_text, margin_mark, margin_text, margin_words};
-ghost use Rattle.pd_chart.specs.Chart.{outline_of, port_class, port_name, power_line, power_tick};
-ghost use Rattle.pd_chart.specs.Chart.{power_words, step_text, time_line, time_tick, time_words};
+ghost use Rattle.pd_chart.specs.Chart.{area_of, axis_names, budget_of, closing, curve_text, hold_class, hold_key, hold_name, key_of};
+ghost use Rattle.pd_chart.specs.Chart.{line_key, line_keys, line_of, line_text, margin_mark, margin_marks, margin_text, margin_words};
+ghost use Rattle.pd_chart.specs.Chart.{names_of, outline_of, port_class, port_name, power_line, power_tick, power_words, step_text};
+ghost use Rattle.pd_chart.specs.Chart.{time_line, time_name, time_number, time_text, time_tick, time_words, title_of, title_text};
+ghost use Rattle.pd_chart.specs.Chart.{window_text};
 
-use crate::amounts::push_seconds;
+use crate::amounts::push_number_in;
 use crate::frame::y_of;
-use crate::{Area, Curve, Frame, Level, push_box, push_path, push_words};
-use pd_tell::{push_number, push_watts};
+use crate::ticks::power_step;
+use crate::{Area, Curve, Frame, Level, Prefix, push_box, push_path, push_words};
+use pd_tell::push_number;
 use std::alloc::{AllocError, Global};
 
 /// Writes a step: along to its time, and then up or down to its value.
@@ -148,7 +150,7 @@ fn push_hold_name(text: &mut Vec<u8>, port: u64) -> Result<(), AllocError>
     text.extend_from_slice(b" holds")
 }
 
-/// Draws the outline of what a port holds, upon what the ports before it hold.
+/// Draws the outline of what a port holds, upon the contracts of the ports before it.
 #[tactic(auto, unfolding(crate::specs::Chart::outline_of))]
 fn push_outline(
     alloc: Global,
@@ -249,6 +251,13 @@ fn push_time_line(
     push_line(alloc, text, b"grid", (x, 700), (x, bottom), b"")
 }
 
+/// Writes a time as on the axis, without its unit.
+fn push_time_number(text: &mut Vec<u8>, frame: Frame, at: u64) -> Result<(), AllocError>
+    ensures { OnOk result (text.new.items ≡ text.old.items ++ time_number frame at) }
+{
+    push_number_in(text, frame.prefix(), at)
+}
+
 #[tactic(auto, unfolding(crate::specs::Chart::time_words))]
 fn push_time_words(
     alloc: Global,
@@ -259,7 +268,7 @@ fn push_time_words(
     ensures { OnOk result (text.new.items ≡ text.old.items ++ element_text (time_words frame at)) }
 {
     let mut words = Vec::new(alloc);
-    push_seconds(&mut words, at)?;
+    push_time_number(&mut words, frame, at)?;
     push_words(
         text,
         b"tick middle",
@@ -269,15 +278,7 @@ fn push_time_words(
     )
 }
 
-/// Whether so many tenths of the window stand for the same time as one tenth less.
-fn is_repeated(frame: Frame, k: u32) -> bool
-    requires { k ≤ 10 }
-    ensures { result ≡ is_repeated frame k }
-{
-    1 <= k && frame.tenth(k - 1) == frame.tenth(k)
-}
-
-/// Draws a time on the axis, where it is another than the one before.
+/// Draws a time on the axis, if it is in the window.
 #[tactic(auto, unfolding(crate::specs::Chart::time_tick))]
 fn push_time_tick(
     alloc: Global,
@@ -286,13 +287,12 @@ fn push_time_tick(
     bottom: u64,
     k: u32,
 ) -> Result<(), AllocError>
-    requires { k ≤ 10 }
     ensures { OnOk result (text.new.items ≡ text.old.items ++ flat_map element_text (time_tick frame bottom k)) }
 {
-    if is_repeated(frame, k) {
+    let at = frame.time(k);
+    if !frame.is_inside(at) {
         return Ok(());
     }
-    let at = frame.tenth(k);
     push_time_line(alloc, text, frame, bottom, at)?;
     push_time_words(alloc, text, frame, at)
 }
@@ -303,13 +303,12 @@ pub(crate) fn push_time_ticks(
     text: &mut Vec<u8>,
     frame: Frame,
     bottom: u64,
-    tenths: &[u32],
+    ticks: &[u32],
 ) -> Result<(), AllocError>
-    requires { All (λ k. k ≤ 10) tenths.now }
     ensures { OnOk result (text.new.items
-        ≡ text.old.items ++ flat_map (λ k. flat_map element_text (time_tick frame bottom k)) tenths.now) }
+        ≡ text.old.items ++ flat_map (λ k. flat_map element_text (time_tick frame bottom k)) ticks.now) }
 {
-    for k in tenths {
+    for k in ticks {
         push_time_tick(alloc, text, frame, bottom, *k)?;
     }
     Ok(())
@@ -340,12 +339,13 @@ fn push_power_words(
     ensures { OnOk result (text.new.items ≡ text.old.items ++ element_text (power_words top power)) }
 {
     let mut words = Vec::new(alloc);
-    push_watts(&mut words, power)?;
+    push_number_in(&mut words, Prefix::Whole, power)?;
     let y = y_of(top, u128::from(power));
     push_words(text, b"tick end", 660, y + 35, words.as_slice())
 }
 
-/// Draws a power on the axis.
+/// Draws a power on the axis, if the chart reaches up to it.
+#[tactic(auto, unfolding(crate::specs::Chart::power_tick))]
 fn push_power_tick(
     alloc: Global,
     text: &mut Vec<u8>,
@@ -353,10 +353,12 @@ fn push_power_tick(
     top: u32,
     k: u32,
 ) -> Result<(), AllocError>
-    requires { k ≤ 5 }
     ensures { OnOk result (text.new.items ≡ text.old.items ++ flat_map element_text (power_tick frame top k)) }
 {
-    let power = u64::from(top) * u64::from(k) / 5;
+    let power = u64::from(k) * u64::from(power_step(top));
+    if u64::from(top) < power {
+        return Ok(());
+    }
     push_power_line(alloc, text, frame, top, power)?;
     push_power_words(alloc, text, top, power)
 }
@@ -367,13 +369,12 @@ pub(crate) fn push_power_ticks(
     text: &mut Vec<u8>,
     frame: Frame,
     top: u32,
-    fifths: &[u32],
+    ticks: &[u32],
 ) -> Result<(), AllocError>
-    requires { All (λ k. k ≤ 5) fifths.now }
     ensures { OnOk result (text.new.items
-        ≡ text.old.items ++ flat_map (λ k. flat_map element_text (power_tick frame top k)) fifths.now) }
+        ≡ text.old.items ++ flat_map (λ k. flat_map element_text (power_tick frame top k)) ticks.now) }
 {
-    for k in fifths {
+    for k in ticks {
         push_power_tick(alloc, text, frame, top, *k)?;
     }
     Ok(())
@@ -381,7 +382,7 @@ pub(crate) fn push_power_ticks(
 
 /// Marks the least margin.
 #[tactic(auto, unfolding(crate::specs::Chart::margin_mark))]
-pub(crate) fn push_margin_mark(
+fn push_margin_mark(
     alloc: Global,
     text: &mut Vec<u8>,
     frame: Frame,
@@ -396,28 +397,55 @@ pub(crate) fn push_margin_mark(
     push_line(alloc, text, b"least", (x, low), (x, high), b"least margin")
 }
 
+/// Writes a time as on the axis, with its unit.
+fn push_time(text: &mut Vec<u8>, frame: Frame, at: u32) -> Result<(), AllocError>
+    ensures { OnOk result (text.new.items ≡ text.old.items ++ time_text frame at) }
+{
+    push_time_number(text, frame, u64::from(at))?;
+    text.push(b' ')?;
+    text.extend_from_slice(frame.prefix().seconds())
+}
+
 /// Writes the least margin, and when it is left.
 #[tactic(auto, unfolding(crate::specs::Chart::margin_text))]
-fn push_margin_text(text: &mut Vec<u8>, least: &Level) -> Result<(), AllocError>
-    ensures { OnOk result (text.new.items ≡ text.old.items ++ margin_text least.now) }
+fn push_margin_text(text: &mut Vec<u8>, frame: Frame, least: &Level) -> Result<(), AllocError>
+    ensures { OnOk result (text.new.items ≡ text.old.items ++ margin_text frame least.now) }
 {
-    text.extend_from_slice(b"least margin ")?;
-    push_watts(text, least.margin())?;
-    text.extend_from_slice(b" at ")?;
-    push_seconds(text, u64::from(least.at))
+    text.extend_from_slice(b"least margin in this window: ")?;
+    push_number_in(text, Prefix::Whole, least.margin())?;
+    text.extend_from_slice(b" W at ")?;
+    push_time(text, frame, least.at)
+}
+
+/// Marks the least margin, where there is a contract.
+pub(crate) fn push_margin_marks(
+    alloc: Global,
+    text: &mut Vec<u8>,
+    frame: Frame,
+    top: u32,
+    least: &Level,
+) -> Result<(), AllocError>
+    ensures { OnOk result (text.new.items ≡ text.old.items ++ flat_map element_text (margin_marks frame top least.now)) }
+{
+    if least.taken() == 0 {
+        return Ok(());
+    }
+    push_margin_mark(alloc, text, frame, top, least)
 }
 
 /// Tells of the least margin.
 pub(crate) fn push_margin_words(
     alloc: Global,
     text: &mut Vec<u8>,
+    frame: Frame,
     least: &Level,
 ) -> Result<(), AllocError>
-    ensures { OnOk result (text.new.items ≡ text.old.items ++ element_text (margin_words least.now)) }
+    ensures { OnOk result (text.new.items ≡ text.old.items ++ flat_map element_text (margin_words frame least.now)) }
 {
     let mut words = Vec::new(alloc);
-    push_margin_text(&mut words, least)?;
-    push_words(text, b"head", 700, 260, words.as_slice())
+    push_margin_text(&mut words, frame, least)?;
+    push_line(alloc, text, b"least", (760, 560), (761, 560), b"")?;
+    push_words(text, b"tick", 850, 600, words.as_slice())
 }
 
 /// Draws what the colour of a port stands for.
@@ -434,12 +462,12 @@ fn push_key(alloc: Global, text: &mut Vec<u8>, port: usize) -> Result<(), AllocE
     push_port_name(&mut name, port)?;
     let area = Area {
         x: left,
-        y: 430,
+        y: 270,
         width: 120,
         height: 120,
     };
     push_box(text, class.as_slice(), area, b"")?;
-    push_words(text, b"tick", left + 150, 530, name.as_slice())
+    push_words(text, b"tick", left + 150, 370, name.as_slice())
 }
 
 /// Draws what a line stands for, at such a place among the ports.
@@ -455,21 +483,38 @@ fn push_line_key(
     ensures { OnOk result (text.new.items ≡ text.old.items ++ flat_map element_text (line_key class.now place words.now)) }
 {
     let left = 700 + 900 * (place as u64).saturating_sub(1);
-    push_line(alloc, text, class, (left, 490), (left + 120, 490), b"")?;
-    push_words(text, b"tick", left + 150, 530, words)
+    push_line(alloc, text, class, (left, 330), (left + 120, 330), b"")?;
+    push_words(text, b"tick", left + 150, 370, words)
 }
 
-/// Draws what the lines of the holds and of the budget stand for, behind so many ports.
-pub(crate) fn push_line_keys(
+/// Draws what the lines of the holds stand for, where they are drawn.
+fn push_hold_key(
     alloc: Global,
     text: &mut Vec<u8>,
     ports: usize,
+    holds: bool,
 ) -> Result<(), AllocError>
     requires { ports ≤ 8 }
-    ensures { OnOk result (text.new.items ≡ text.old.items ++ flat_map element_text (line_keys ports)) }
+    ensures { OnOk result (text.new.items ≡ text.old.items ++ flat_map element_text (hold_key ports holds)) }
 {
-    push_line_key(alloc, text, b"hold", ports + 1, b"holds")?;
-    push_line_key(alloc, text, b"budget", ports + 2, b"budget")
+    if !holds {
+        return Ok(());
+    }
+    push_line_key(alloc, text, b"hold", ports + 2, b"holds")
+}
+
+/// Draws what the lines of the budget and of the holds stand for, behind so many ports.
+fn push_line_keys(
+    alloc: Global,
+    text: &mut Vec<u8>,
+    ports: usize,
+    holds: bool,
+) -> Result<(), AllocError>
+    requires { ports ≤ 8 }
+    ensures { OnOk result (text.new.items ≡ text.old.items ++ flat_map element_text (line_keys ports holds)) }
+{
+    push_line_key(alloc, text, b"budget", ports + 1, b"budget")?;
+    push_hold_key(alloc, text, ports, holds)
 }
 
 /// Draws what the colours of ports stand for.
@@ -485,4 +530,66 @@ pub(crate) fn push_keys(
         push_key(alloc, text, *port)?;
     }
     Ok(())
+}
+
+/// Writes from when to when the window is.
+#[tactic(auto, unfolding(crate::specs::Chart::window_text))]
+fn push_window_text(text: &mut Vec<u8>, frame: Frame) -> Result<(), AllocError>
+    ensures { OnOk result (text.new.items ≡ text.old.items ++ window_text frame) }
+{
+    push_time_number(text, frame, u64::from(frame.from))?;
+    text.extend_from_slice(b" to ")?;
+    push_time(text, frame, frame.to)
+}
+
+/// Writes what is drawn, and of which window.
+fn push_title_text(text: &mut Vec<u8>, frame: Frame) -> Result<(), AllocError>
+    ensures { OnOk result (text.new.items ≡ text.old.items ++ title_text frame) }
+{
+    text.extend_from_slice(b"Shared budget and contracts, ")?;
+    push_window_text(text, frame)
+}
+
+/// Draws the title.
+fn push_title(alloc: Global, text: &mut Vec<u8>, frame: Frame) -> Result<(), AllocError>
+    ensures { OnOk result (text.new.items ≡ text.old.items ++ element_text (title_of frame)) }
+{
+    let mut words = Vec::new(alloc);
+    push_title_text(&mut words, frame)?;
+    push_words(text, b"head", 700, 190, words.as_slice())
+}
+
+/// Writes the name of the axis of times.
+fn push_time_name(text: &mut Vec<u8>, frame: Frame) -> Result<(), AllocError>
+    ensures { OnOk result (text.new.items ≡ text.old.items ++ time_name frame) }
+{
+    text.extend_from_slice(b"time (")?;
+    text.extend_from_slice(frame.prefix().seconds())?;
+    text.extend_from_slice(b")")
+}
+
+/// Draws the names of the axes.
+fn push_axis_names(alloc: Global, text: &mut Vec<u8>, frame: Frame) -> Result<(), AllocError>
+    ensures { OnOk result (text.new.items ≡ text.old.items ++ flat_map element_text (axis_names frame)) }
+{
+    let mut words = Vec::new(alloc);
+    push_time_name(&mut words, frame)?;
+    push_words(text, b"tick end", 600, 3_680, words.as_slice())?;
+    push_words(text, b"tick end", 660, 600, b"power (W)")
+}
+
+/// Draws all words beside the chart but those of the ports' colours and of the ticks.
+pub(crate) fn push_names(
+    alloc: Global,
+    text: &mut Vec<u8>,
+    frame: Frame,
+    ports: usize,
+    holds: bool,
+) -> Result<(), AllocError>
+    requires { ports ≤ 8 }
+    ensures { OnOk result (text.new.items ≡ text.old.items ++ flat_map element_text (names_of frame ports holds)) }
+{
+    push_line_keys(alloc, text, ports, holds)?;
+    push_title(alloc, text, frame)?;
+    push_axis_names(alloc, text, frame)
 }

@@ -1,6 +1,6 @@
 //! The steps of the curves.
 
-ghost use Rattle.std.specs.Prelude.{◌≡◌, ◌≤◌, ◌∷◌, ◌*◌, [], IfOk, OnOk, length, replicate, sum, take};
+ghost use Rattle.std.specs.Prelude.{◌≡◌, ◌≤◌, ◌∷◌, ◌*◌, [], ◌-◌, IfOk, OnOk, length, replicate, slice_index, sum, take};
 ghost use Rattle.pd_chart.specs.Chart.{value_of};
 ghost use Rattle.pd_chart.specs.Curves.{changes_hold, curves_after, curves_start, floor_on, floors, greatest, has_level, held};
 ghost use Rattle.pd_chart.specs.Curves.{level_of, margin, tightest, with_level};
@@ -27,7 +27,8 @@ pub struct Level {
     pub holds: [u64; 8],
 }
 
-/// A curve: the budget, what the contracts of the first ports take of it, or what these ports hold of it.
+/// A curve: the budget, what the contracts of the first ports take of it, or what a port, numbered from 1, holds of it, upon the
+/// contracts of those before it.
 #[derive(Clone, Copy, Debug)]
 pub enum Curve {
     Budget,
@@ -229,7 +230,8 @@ impl Curves {
 /// The sum of powers. So wide a number holds it whatever they are.
 fn total(powers: &[u64]) -> u128
     requires { length powers.now ≤ 8 }
-    ensures { result ≡ sum powers.now }
+    ensures value { result ≡ sum powers.now }
+    ensures fits { result ≤ 8 * 18446744073709551616 }
 {
     let mut total = 0u128;
     for power in powers {
@@ -253,6 +255,25 @@ impl Level {
         total(&self.powers)
     }
 
+    /// What the contracts of the ports before one take of the budget, in microwatts.
+    fn upon(&self, port: usize) -> u128
+        ensures value { result ≡ sum (take (port - 1) self.now.powers) }
+        ensures fits { result ≤ 8 * 18446744073709551616 }
+    {
+        total(&self.powers[..port.saturating_sub(1).min(8)])
+    }
+
+    /// What a port holds of the budget, in microwatts; nothing where there is no such port.
+    fn hold(&self, port: usize) -> u128
+        ensures value { result ≡ slice_index self.now.holds (port - 1) }
+        ensures fits { result ≤ 18446744073709551615 }
+    {
+        match self.holds.get(port.saturating_sub(1)) {
+            Some(hold) => u128::from(*hold),
+            None => 0,
+        }
+    }
+
     /// The value of a curve.
     pub(crate) fn value(&self, curve: Curve) -> u128
         ensures { result ≡ value_of curve self.now }
@@ -260,7 +281,7 @@ impl Level {
         match curve {
             Curve::Budget => u128::from(self.budget),
             Curve::Contracts(count) => total(&self.powers[..count.min(8)]),
-            Curve::Holds(count) => total(&self.holds[..count.min(8)]),
+            Curve::Holds(port) => self.upon(port) + self.hold(port),
         }
     }
 }

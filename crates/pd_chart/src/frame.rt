@@ -1,7 +1,7 @@
 //! Where a time and a power stand in the picture, in tenths of a pixel.
 
 ghost use Rattle.std.specs.Prelude.{◌≡◌, ◌+◌, ◌≤◌};
-ghost use Rattle.pd_chart.specs.Scale.{right_of, scaled, tenth_of, x_of, y_of};
+ghost use Rattle.pd_chart.specs.Scale.{right_of, scaled, x_of, y_of};
 
 /// The window of time that is drawn, in microseconds, and the width of the chart, in tenths of a pixel.
 #[derive(Clone, Copy, Debug)]
@@ -37,15 +37,6 @@ impl Frame {
         ensures { result ≡ right_of self }
     {
         700 + u64::from(self.width)
-    }
-
-    /// The time so many tenths of the window after its start.
-    pub(crate) fn tenth(self, k: u32) -> u64
-        requires { k ≤ 10 }
-        ensures { result ≡ tenth_of self k }
-    {
-        let whole = self.to.saturating_sub(self.from);
-        u64::from(self.from) + u64::from(whole) * u64::from(k) / 10
     }
 }
 

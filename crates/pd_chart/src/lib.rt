@@ -10,7 +10,9 @@ mod laws;
 mod look;
 mod picture;
 mod shapes;
+mod ticks;
 
+pub use amounts::Prefix;
 pub use chart::push_port_name;
 pub use curves::{Curve, Curves, Level};
 pub use elements::{push_attribute, push_escaped};

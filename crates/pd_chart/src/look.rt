@@ -6,14 +6,15 @@ ghost use Rattle.pd_chart.specs.Picture.{frame_of};
 use crate::Frame;
 use pd_run::Plan;
 
-/// What is drawn of a run: the window of time, in microseconds, the width of the picture, in pixels, and the port whose lane is
-/// drawn, numbered from 1, or all of them.
+/// What is drawn of a run: the window of time, in microseconds, the width of the picture, in pixels, the port whose lane is drawn,
+/// numbered from 1, or all of them, and whether the chart has what the ports hold.
 #[derive(Clone, Copy, Debug)]
 pub struct Look {
     pub from: u64,
     pub to: u64,
     pub width: u32,
     pub port: Option<usize>,
+    pub holds: bool,
 }
 
 impl Look {

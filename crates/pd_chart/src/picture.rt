@@ -7,7 +7,7 @@ ghost use Rattle.pd_chart.specs.Picture.{axes_text, curves_text, elements_of, he
 ghost use Rattle.pd_chart.specs.Picture.{least_elements, rules, stacks_text, top_of, whole_width};
 
 use crate::chart::{
-    push_areas, push_budget, push_keys, push_line_keys, push_margin_mark, push_margin_words,
+    push_areas, push_budget, push_keys, push_margin_marks, push_margin_words, push_names,
     push_outlines, push_power_ticks, push_time_ticks,
 };
 use crate::curves::{greatest, tightest};
@@ -85,11 +85,11 @@ fn push_least(
         return Ok(());
     };
     let least = tightest(*first, rest);
-    push_margin_mark(alloc, text, frame, top, &least)?;
-    push_margin_words(alloc, text, &least)
+    push_margin_marks(alloc, text, frame, top, &least)?;
+    push_margin_words(alloc, text, frame, &least)
 }
 
-/// Draws the contracts of ports, and over them what the ports hold.
+/// Draws the contracts of ports, and over them what some of the ports hold.
 #[tactic(auto, unfolding(crate::specs::Picture::stacks_text))]
 fn push_stacks(
     alloc: Global,
@@ -98,41 +98,51 @@ fn push_stacks(
     top: u32,
     levels: &[Level],
     ports: &[usize],
+    held: &[usize],
 ) -> Result<(), AllocError>
-    ensures { OnOk result (text.new.items ≡ text.old.items ++ stacks_text frame top levels.now ports.now) }
+    ensures { OnOk result (text.new.items ≡ text.old.items ++ stacks_text frame top levels.now ports.now held.now) }
 {
     push_areas(alloc, text, frame, top, levels, ports)?;
-    push_outlines(alloc, text, frame, top, levels, ports)
+    push_outlines(alloc, text, frame, top, levels, held)
 }
 
-/// Draws the contracts and the holds from the last port to the first, the budget, and the least margin.
+/// Draws the contracts from the last port to the first, the holds where they are wanted, the budget, and the least margin.
 #[tactic(auto, unfolding(crate::specs::Picture::curves_text))]
 fn push_curves(
     alloc: Global,
     text: &mut Vec<u8>,
     frame: Frame,
     ports: usize,
+    holds: bool,
     levels: &[Level],
 ) -> Result<(), AllocError>
     requires { ports ≤ 8 }
-    ensures { OnOk result (text.new.items ≡ text.old.items ++ curves_text frame ports levels.now) }
+    ensures { OnOk result (text.new.items ≡ text.old.items ++ curves_text frame ports holds levels.now) }
 {
     let top = top_of(levels);
     let down = [8usize, 7, 6, 5, 4, 3, 2, 1];
-    push_stacks(alloc, text, frame, top, levels, &down[8 - ports..])?;
+    let ports = &down[8 - ports..];
+    let held = if holds { ports } else { &[] };
+    push_stacks(alloc, text, frame, top, levels, ports, held)?;
     push_budget(alloc, text, frame, top, levels)?;
     push_least(alloc, text, frame, top, levels)
 }
 
-/// Draws what the colours and the lines stand for.
+/// Draws what the colours and the lines stand for, the title, and the names of the axes.
 #[tactic(auto, unfolding(crate::specs::Picture::keys_text))]
-fn push_all_keys(alloc: Global, text: &mut Vec<u8>, ports: usize) -> Result<(), AllocError>
+fn push_all_keys(
+    alloc: Global,
+    text: &mut Vec<u8>,
+    frame: Frame,
+    ports: usize,
+    holds: bool,
+) -> Result<(), AllocError>
     requires { ports ≤ 8 }
-    ensures { OnOk result (text.new.items ≡ text.old.items ++ keys_text ports) }
+    ensures { OnOk result (text.new.items ≡ text.old.items ++ keys_text frame ports holds) }
 {
     let up = [1usize, 2, 3, 4, 5, 6, 7, 8];
     push_keys(alloc, text, &up[..ports])?;
-    push_line_keys(alloc, text, ports)
+    push_names(alloc, text, frame, ports, holds)
 }
 
 /// Draws the axes.
@@ -154,10 +164,10 @@ fn push_axes(
         bottom,
         &[0, 1, 2, 3, 4, 5, 6, 7, 8, 9, 10],
     )?;
-    push_power_ticks(alloc, text, frame, top, &[0, 1, 2, 3, 4, 5])
+    push_power_ticks(alloc, text, frame, top, &[0, 1, 2, 3, 4, 5, 6, 7, 8])
 }
 
-/// Draws the chart; the lines of times go down to the picture's end, in tenths of a pixel.
+/// Draws the chart, with what the ports hold, if that is wanted; the lines of times go down to the picture's end, in tenths of a pixel.
 ///
 /// # Errors
 /// There is no memory for it; some of it may stand in the text.
@@ -167,13 +177,14 @@ pub fn push_chart(
     frame: Frame,
     bottom: u64,
     ports: usize,
+    holds: bool,
     levels: &[Level],
 ) -> Result<(), AllocError>
     requires { ports ≤ 8 }
-    ensures { OnOk result (text.new.items ≡ text.old.items ++ flat_map element_text (elements_of frame bottom ports levels.now)) }
+    ensures { OnOk result (text.new.items ≡ text.old.items ++ flat_map element_text (elements_of frame bottom ports holds levels.now)) }
 {
     push_style(text, rules())?;
-    push_all_keys(alloc, text, ports)?;
+    push_all_keys(alloc, text, frame, ports, holds)?;
     push_axes(alloc, text, frame, bottom, levels)?;
-    push_curves(alloc, text, frame, ports, levels)
+    push_curves(alloc, text, frame, ports, holds, levels)
 }

@@ -1,5 +1,5 @@
 -- What the desk has of other commands: the transcript, the picture, the warnings and the tests of a scenario.
-use Rattle.std.specs.Prelude.{◌≡◌, ℕ, List, [], ◌∷◌, ◌++◌, codes, Option, Some, None}
+use Rattle.std.specs.Prelude.{◌≡◌, ℕ, List, [], ◌∷◌, ◌++◌, codes, Option, Some, None, false}
 use Rattle.std.specs.List.{flat_map}
 use Rattle.pd_scenario.specs.Scenarios.{ScenarioData}
 use Rattle.pd_scenario.specs.Plans.{plan_of}
@@ -28,7 +28,7 @@ TellsShow s port text = WroteRun (plan_of s) (shown_of port) (Some []) (Some tex
 
 -- a picture of all ports from the start to the end, 1,200 pixels wide
 abbrev pub whole_look : Look
-whole_look = record { from = 0; to = 18446744073709551615; width = 1200; port = None }
+whole_look = record { from = 0; to = 18446744073709551615; width = 1200; port = None; holds = false }
 
 -- the text is the picture of the scenario's run
 abbrev pub Draws : ScenarioData → List ℕ → Type 0

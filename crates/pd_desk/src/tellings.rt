@@ -64,6 +64,7 @@ pub(crate) fn drawn<const N: usize>(
         to: u64::MAX,
         width: 1_200,
         port: None,
+        holds: false,
     };
     draw(alloc, &plan, look, meter)
 }

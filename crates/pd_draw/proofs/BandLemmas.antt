@@ -492,7 +492,7 @@ module _ (n : ℕ) (plan : Plan) (moves : List Move) (f : Frame) (chosen : Optio
       (true_band plan f moves past (m ∷ later) p lane.phase lane.since m.due.time whole k
       (λ i d less. from_here past m later i d order less) (inr (phase_of (seen_then plan past m).after, in_all)))
 
-  last : IsTrueBand plan moves f p (band (end_of f chosen (p + 1)) (lane_then plan f chosen moves p))
+  last : IsTrueBand plan moves f p (band (end_of f (p + 1)) (lane_then plan f chosen moves p))
   last =
       let c = cut_from (f.to + 1) [] moves run.ordered in
       let past : List Move = before (f.to + 1) moves in

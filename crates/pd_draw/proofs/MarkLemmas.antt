@@ -39,10 +39,10 @@ pub lane_more : (p : Place) (l l1 l2 : Lane) (xs ys : List Mark) → l1 ≡ lane
 lane_more p l l1 l2 xs ys h e = e ∙ ap (λ (v : Lane). lane_marked p v ys) h ∙ sym (lane_marked-append p l xs ys)
 
 -- what is drawn together with the mark before draws nothing
-pub joined_elements : (p : Place) (l : Lane) (m : Mark) → joins p l m.row ≡ true → marks_elements p l (m ∷ []) ≡ []
+pub joined_elements : (p : Place) (l : Lane) (m : Mark) → joins p l m.figure ≡ true → marks_elements p l (m ∷ []) ≡ []
 unfolding mark_elements
 joined_elements p l m h = rw h refl
 
-pub joined_lane : (p : Place) (l : Lane) (m : Mark) → joins p l m.row ≡ true → lane_marked p l (m ∷ []) ≡ l
+pub joined_lane : (p : Place) (l : Lane) (m : Mark) → joins p l m.figure ≡ true → lane_marked p l (m ∷ []) ≡ l
 unfolding lane_with
 joined_lane p l m h = rw h refl

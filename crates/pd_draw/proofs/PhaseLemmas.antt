@@ -57,17 +57,17 @@ contract_phase g = by_contract g.contract g.source
 
 -- ---- what marks leave
 
-kept_if : (b : Bool) (l : Lane) (rooms : List ℕ) (next : ℕ)
-    → ((cond b l (record l { rooms = rooms; next = next })).phase ≡ l.phase)
-    × ((cond b l (record l { rooms = rooms; next = next })).since ≡ l.since)
-kept_if true l rooms next = (refl, refl)
-kept_if false l rooms next = (refl, refl)
+kept_if : (b : Bool) (l : Lane) (rooms nexts : List ℕ)
+    → ((cond b l (record l { rooms = rooms; nexts = nexts; marked = true })).phase ≡ l.phase)
+    × ((cond b l (record l { rooms = rooms; nexts = nexts; marked = true })).since ≡ l.since)
+kept_if true l rooms nexts = (refl, refl)
+kept_if false l rooms nexts = (refl, refl)
 
 marks_keep : (p : Place) (l : Lane) (ms : List Mark) → ((lane_marked p l ms).phase ≡ l.phase) × ((lane_marked p l ms).since ≡ l.since)
 unfolding lane_with
 marks_keep p l [] = (refl, refl)
 marks_keep p l (m ∷ ms) =
-    let h : ((lane_with p l m).phase ≡ l.phase) × ((lane_with p l m).since ≡ l.since) = kept_if (joins p l m.row) l _ _ in
+    let h : ((lane_with p l m).phase ≡ l.phase) × ((lane_with p l m).since ≡ l.since) = kept_if (joins p l m.figure) l _ _ in
     let k = marks_keep p (lane_with p l m) ms in (k.0 ∙ h.0, k.1 ∙ h.1)
 
 pub move_keeps : (p : Place) (l : Lane) (s : Seen)
@@ -120,10 +120,10 @@ seen_after plan ws m = refl
 module _ (f : Frame) (chosen : Option ℕ) (before : ℕ) (lanes : List Lane) (s : Seen) where
   -- a move that has its place changes the lane of its port
   pub lane_here : (p : ℕ) → s.port ≡ p + 1 → p < length lanes → s.entry.at ≤ f.to → is_of_port chosen (p + 1) ≡ true
-      → lane_at (lanes_after f chosen before lanes s) (p + 1) ≡ lane_after (place_of f chosen before s) (lane_at lanes (p + 1)) s
+      → lane_at (lanes_after f chosen before lanes s) (p + 1) ≡ lane_after (place_of f before s) (lane_at lanes (p + 1)) s
   unfolding lanes_after
   lane_here p port known soon shown =
-      let new : ℕ → Lane = λ q. lane_after (place_of f chosen before s) (lane_at lanes q) s in
+      let new : ℕ → Lane = λ q. lane_after (place_of f before s) (lane_at lanes q) s in
       let placed : has_place f chosen s ≡ true =
       ap (λ q. leb s.entry.at f.to && is_of_port chosen q) port ∙ ap (λ b. b && is_of_port chosen (p + 1)) (le-leb s.entry.at f.to soon)
       ∙ shown in
@@ -153,7 +153,7 @@ module _ (f : Frame) (chosen : Option ℕ) (before : ℕ) (lanes : List Lane) (s
   unfolding lanes_after
   lanes_unplaced late =
       ap (λ b. cond (b && is_of_port chosen s.port)
-      (set lanes (s.port - 1) (lane_after (place_of f chosen before s) (lane_at lanes s.port) s)) lanes) (lt-leb s.entry.at f.to late)
+      (set lanes (s.port - 1) (lane_after (place_of f before s) (lane_at lanes s.port) s)) lanes) (lt-leb s.entry.at f.to late)
 
 -- the lanes after one more move
 pub lanes_push : (plan : Plan) (f : Frame) (chosen : Option ℕ) (past : List Move) (m : Move)

@@ -5,7 +5,10 @@ use Rattle.std.specs.List.{flat_map, fold}
 use Rattle.std.proofs.lemmas.Bool.{le-leb}
 use Rattle.std.proofs.lemmas.List.Concat.{flat_map-append}
 use Rattle.std.proofs.lemmas.List.Elements.{All-head, All-tail}
+use Rattle.pd_symbols.specs.declared.channel.Channel.{Channel}
+use Rattle.pd_symbols.specs.declared.channel.Channel.TheVariants.{Sop, SopPrime}
 use Rattle.pd_line.specs.declared.notes.Start.{Start}
+use Rattle.pd_line.specs.declared.notes.Start.TheVariants as start
 use Rattle.pd_scenario.specs.Plan.{Plan, count}
 use Rattle.pd_run.specs.Run.{Move, shown}
 use Rattle.pd_watch.specs.Watch.{WatchData, after_step, all_at_rest}
@@ -20,7 +23,10 @@ use Rattle.pd_show.specs.Since.{start_since}
 use Rattle.pd_show.proofs.PageLemmas.{last_at-append}
 use Rattle.pd_show.proofs.SinceLemmas.{start_line, starts_line}
 use Rattle.pd_chart.specs.declared.frame.Frame.{Frame}
-use Rattle.pd_draw.specs.Lanes.{Drawn, drawn_after, drawn_of, lanes_start}
+use Rattle.pd_draw.specs.Lanes.{Drawn, drawn_after, drawn_of, drawn_start, place_of}
+use Rattle.pd_draw.specs.Marks.{packet_row, start_figure}
+use Rattle.pd_draw.specs.Places.{title_words}
+use Rattle.pd_draw.specs.declared.place.Place.{Place}
 use Rattle.pd_draw.specs.Laws.{TitlesAreLines}
 
 -- a whole show passes over no move
@@ -79,7 +85,17 @@ text_of_start f chosen earlier seen start =
     λ t. bare_line seen.entry.at (seen.entry.at - t) seen.port (start_words false seen.by start) ++ codes "\n" in
     ap line (last_at-append 0 told (lines_before seen))
     ∙ ap (λ t. line (last_at t (lines_before seen)))
-    (sym (before_from f chosen (record { lanes = lanes_start f; before = 0; elements = [] }) earlier))
+    (sym (before_from f chosen (drawn_start f) earlier))
+
+-- the title of what starts is a bare line, whatever its row
+of_channel : (p : Place) (c : Channel) (words : List ℕ) → title_words p (packet_row c) words ≡ bare_line p.at p.since p.port words
+of_channel p Sop words = refl
+of_channel p SopPrime words = refl
+
+title_is : (p : Place) (start : Start) (words : List ℕ)
+    → title_words p (start_figure start).row words ≡ bare_line p.at p.since p.port words
+title_is p (start.Packet side packet fate) words = of_channel p packet.channel words
+title_is p (start.HardReset side) words = refl
 
 pub titles : TitlesAreLines
 titles plan moves earlier later seen start f chosen known seens_are starts = record {
@@ -87,5 +103,8 @@ titles plan moves earlier later seen start f chosen known seens_are starts = rec
   line = start_line seen start;
   later = state_lines seen ++ flat_map (all_lines whole) later;
   lines_are = lines_of_start plan moves earlier later seen start known seens_are starts;
-  text_is = text_of_start f chosen earlier seen start;
+  text_is =
+      text_of_start f chosen earlier seen start
+      ∙ ap (λ (v : List ℕ). v ++ codes "\n")
+      (sym (title_is (place_of f (drawn_of f chosen earlier).before seen) start (start_words false seen.by start)));
 }

@@ -1,9 +1,12 @@
 -- Facts on a run that is drawn.
-use Rattle.std.proofs.Common.{◌≡◌, ℕ, ◌+◌, ◌<◌, ◌≤◌, List, [], ◌∷◌, ◌++◌, Option, length, refl, sym, ap, ◌∙◌, arith}
+use Rattle.std.proofs.Common.{◌≡◌, ℕ, ◌+◌, ◌-◌, ◌<◌, ◌≤◌, Bool, true, false, cond, List, [], ◌∷◌, ◌++◌, Option, length, map, set}
+use Rattle.std.proofs.Common.{refl, sym, ap, ◌∙◌, arith}
 use Rattle.std.specs.List.{flat_map}
+use Rattle.std.proofs.Math.ListN.{get_or-map}
+use Rattle.std.proofs.lemmas.List.{map-set}
 use Rattle.std.proofs.lemmas.List.Concat.{flat_map-append}
 use Rattle.std.proofs.lemmas.List.Sums.{fold-append}
-use Rattle.pd_chart.specs.Elements.{element_text}
+use Rattle.pd_chart.specs.Elements.{Element, element_text}
 use Rattle.pd_port.specs.declared.due.Due.{Due}
 use Rattle.pd_scenario.specs.Plan.{IsPlan, Plan, count}
 use Rattle.pd_run.specs.Run.{Move}
@@ -15,7 +18,8 @@ use Rattle.pd_show.specs.Since.{told_at}
 use Rattle.pd_chart.specs.declared.frame.Frame.{Frame}
 use Rattle.pd_chart.specs.Curves.{CurvesData, curves_after, curves_of, curves_start}
 use Rattle.pd_draw.specs.declared.lane.Lane.{Lane}
-use Rattle.pd_draw.specs.Lanes.{Drawn, drawn_after, drawn_of, lanes_after, lanes_start, seen_elements}
+use Rattle.pd_draw.specs.Lanes.{Drawn, drawn_after, drawn_at, drawn_of, drawn_start, elements_after, has_place, lane_at, lanes_after}
+use Rattle.pd_draw.specs.Lanes.{move_elements, place_of, texts_after, with_drawn}
 
 port_is : (plan : Plan) (ws : List WatchData) (m : Move) → (seen_of plan ws m).port ≡ m.port + 1
 unfolding seen_of
@@ -46,7 +50,7 @@ curves_more f plan seens s seen c c' h e g =
 pub drawn_push : (f : Frame) (chosen : Option ℕ) (seens : List Seen) (s : Seen)
     → drawn_of f chosen (seens ++ s ∷ []) ≡ drawn_after f chosen (drawn_of f chosen seens) s
 drawn_push f chosen seens s =
-    fold-append (drawn_after f chosen) (record { lanes = lanes_start f; before = 0; elements = [] }) seens (s ∷ [])
+    fold-append (drawn_after f chosen) (drawn_start f) seens (s ∷ [])
 
 -- the time of the last line after one more move
 pub before_more : (f : Frame) (chosen : Option ℕ) (seens : List Seen) (s seen : Seen) (b b' : ℕ) →
@@ -64,18 +68,41 @@ lanes_more f chosen seens s seen b ls ls' k h e g =
     g ∙ ap (λ (v : ℕ). lanes_after f chosen v ls seen) k ∙ ap (λ (v : List Lane). lanes_after f chosen d.before v seen) h
     ∙ ap (lanes_after f chosen d.before d.lanes) e ∙ sym (ap (λ (v : Drawn). v.lanes) (drawn_push f chosen seens s))
 
--- what they have drawn then
-pub text_more : (f : Frame) (chosen : Option ℕ) (seens : List Seen) (s seen : Seen) (b : ℕ) (ls : List Lane) (t t' : List ℕ) →
+-- the texts of what has been drawn in the lanes
+abbrev pub texts_of : List (List Element) → List (List ℕ)
+texts_of all = map (flat_map element_text) all
+
+-- one more piece in a lane
+with_more : (all : List (List Element)) (port : ℕ) (more : List Element)
+    → with_drawn (texts_of all) port (flat_map element_text more) ≡ texts_of (with_drawn all port more)
+with_more all port more =
+    let at : drawn_at (texts_of all) port ≡ flat_map element_text (drawn_at all port) =
+    get_or-map (flat_map element_text) all (port - 1) [] in
+    ap (λ (v : List ℕ). set (texts_of all) (port - 1) (v ++ flat_map element_text more)) at
+    ∙ ap (set (texts_of all) (port - 1)) (sym (flat_map-append element_text (drawn_at all port) more))
+    ∙ sym (map-set (flat_map element_text) all (port - 1) (drawn_at all port ++ more))
+
+texts_if : (b : Bool) (all : List (List Element)) (port : ℕ) (more : List Element)
+    → cond b (with_drawn (texts_of all) port (flat_map element_text more)) (texts_of all) ≡ texts_of (cond b (with_drawn all port more) all)
+texts_if true all port more = with_more all port more
+texts_if false all port more = refl
+
+texts_then : (f : Frame) (chosen : Option ℕ) (before : ℕ) (ls : List Lane) (all : List (List Element)) (s : Seen)
+    → texts_after f chosen before ls (texts_of all) s ≡ texts_of (elements_after f chosen before ls all s)
+unfolding texts_after elements_after
+texts_then f chosen before ls all s =
+    texts_if (has_place f chosen s) all s.port (move_elements (place_of f before s) (lane_at ls s.port) s)
+
+-- what has been drawn then
+pub texts_more : (f : Frame) (chosen : Option ℕ) (seens : List Seen) (s seen : Seen) (b : ℕ) (ls : List Lane) (ts ts' : List (List ℕ)) →
     b ≡ (drawn_of f chosen seens).before → ls ≡ (drawn_of f chosen seens).lanes →
-    t ≡ flat_map element_text (drawn_of f chosen seens).elements → seen ≡ s →
-    t' ≡ t ++ flat_map element_text (seen_elements f chosen b ls seen) →
-    t' ≡ flat_map element_text (drawn_of f chosen (seens ++ s ∷ [])).elements
-text_more f chosen seens s seen b ls t t' l h k e g =
+    ts ≡ texts_of (drawn_of f chosen seens).elements → seen ≡ s → ts' ≡ texts_after f chosen b ls ts seen →
+    ts' ≡ texts_of (drawn_of f chosen (seens ++ s ∷ [])).elements
+texts_more f chosen seens s seen b ls ts ts' l h k e g =
     let d : Drawn = drawn_of f chosen seens in
-    let so_far : List ℕ = flat_map element_text d.elements in
-    g ∙ ap (λ (v : List ℕ). v ++ flat_map element_text (seen_elements f chosen b ls seen)) k
-    ∙ ap (λ (v : ℕ). so_far ++ flat_map element_text (seen_elements f chosen v ls seen)) l
-    ∙ ap (λ (v : List Lane). so_far ++ flat_map element_text (seen_elements f chosen d.before v seen)) h
-    ∙ ap (λ (v : Seen). so_far ++ flat_map element_text (seen_elements f chosen d.before d.lanes v)) e
-    ∙ sym (flat_map-append element_text d.elements (seen_elements f chosen d.before d.lanes s))
-    ∙ sym (ap (λ (v : Drawn). flat_map element_text v.elements) (drawn_push f chosen seens s))
+    g ∙ ap (λ (v : List (List ℕ)). texts_after f chosen b ls v seen) k
+    ∙ ap (λ (v : ℕ). texts_after f chosen v ls (texts_of d.elements) seen) l
+    ∙ ap (λ (v : List Lane). texts_after f chosen d.before v (texts_of d.elements) seen) h
+    ∙ ap (texts_after f chosen d.before d.lanes (texts_of d.elements)) e
+    ∙ texts_then f chosen d.before d.lanes d.elements s
+    ∙ sym (ap (λ (v : Drawn). texts_of v.elements) (drawn_push f chosen seens s))

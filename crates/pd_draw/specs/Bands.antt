@@ -51,13 +51,18 @@ phase_height Disabled = 40
 unfoldable pub band_of : Place → Lane → Element
 band_of p lane = box_of (phase_name lane.phase) (record {
   x = x_of p.frame lane.since;
-  y = (p.top + 130) - phase_height lane.phase;
+  y = 130 - phase_height lane.phase;
   width = x_of p.frame p.at - x_of p.frame lane.since;
   height = phase_height lane.phase;
 }) (phase_name lane.phase)
 
+-- how far below the lane's top its name stands: in it, or above a band that is too low for it
+abbrev pub words_down : Phase → ℕ
+words_down phase = if nat_lt (phase_height phase) 60 then 120 - phase_height phase else 115
+
 unfoldable pub band_words : Place → Lane → Element
-band_words p lane = words_at (codes "label") (x_of p.frame lane.since + 30) (p.top + 85) (phase_name lane.phase)
+band_words p lane =
+    words_at (codes "label") (x_of p.frame lane.since + 30) (words_down lane.phase) (phase_name lane.phase)
 
 -- there is room for its name in it
 abbrev pub is_wide : Place → Lane → Bool

@@ -28,5 +28,5 @@ TitlesAreLines =
     (plan : Plan) (moves : List Move) (earlier later : List Seen) (seen : Seen) (start : Start) (f : Frame) (chosen : Option ℕ) →
     All (λ (s : Seen). s.entry.at < 2 ^ 64) (all_seen plan moves) → all_seen plan moves ≡ earlier ++ seen ∷ later →
     seen.entry.start ≡ Some start →
-    IsLineOf plan moves (title_words (place_of f chosen (drawn_of f chosen earlier).before seen) (start_mark seen.by start).row
+    IsLineOf plan moves (title_words (place_of f (drawn_of f chosen earlier).before seen) (start_mark seen.by start).figure.row
     (start_mark seen.by start).words)

@@ -82,14 +82,14 @@ seen_then plan past m = seen_of plan (after_steps (all_at_rest (count plan)) (ma
 
 -- where it stands
 abbrev pub place_then : Plan → Frame → Option ℕ → List Move → Move → Place
-place_then plan f chosen past m = place_of f chosen (drawn_of f chosen (all_seen plan past)).before (seen_then plan past m)
+place_then plan f chosen past m = place_of f (drawn_of f chosen (all_seen plan past)).before (seen_then plan past m)
 
 -- each band that a move ends is true, and so is the one that stands at the window's end
 pub record HasTrueBands (plan : Plan) (moves : List Move) (f : Frame) (chosen : Option ℕ) (p : ℕ) : Type 0 where
   pub ended : (past later : List Move) (m : Move) → moves ≡ past ++ m ∷ later → m.port ≡ p → m.due.time ≤ f.to
       → ends_band (place_then plan f chosen past m) (lane_then plan f chosen past p) (phase_of (seen_then plan past m).after) ≡ true
       → IsTrueBand plan moves f p (band (place_then plan f chosen past m) (lane_then plan f chosen past p))
-  pub last : IsTrueBand plan moves f p (band (end_of f chosen (p + 1)) (lane_then plan f chosen moves p))
+  pub last : IsTrueBand plan moves f p (band (end_of f (p + 1)) (lane_then plan f chosen moves p))
 
 -- So it is in each lane that is drawn of a plan's run.
 abbrev pub BandsAreTrue : Type 0

@@ -1,9 +1,9 @@
--- Where the lanes stand, and what stands in them: below the chart one for each port, all places in tenths of a pixel.
-use Rattle.std.specs.Prelude.{ℕ, ◌+◌, ◌-◌, ◌*◌, min, List, ◌∷◌, ◌++◌, length, codes, decimal, Option, Some, None}
+-- What stands in a lane: all places are in tenths of a pixel, from the lane's top.
+use Rattle.std.specs.Prelude.{ℕ, ◌+◌, ◌*◌, min, List, ◌∷◌, ◌++◌, length, codes, decimal}
 use Rattle.pd_show.specs.Pages.{bare_line}
 use Rattle.pd_draw.specs.declared.place.Place.{Place}
 use Rattle.pd_draw.specs.declared.place.Row.{Row}
-use Rattle.pd_draw.specs.declared.place.Row.TheVariants.{Events, Contracts, Faults, Packets}
+use Rattle.pd_draw.specs.declared.place.Row.TheVariants.{Events, Contracts, Faults, Packets, CablePackets}
 
 -- the rows of a lane below its bands, from the top
 abbrev pub row_number : Row → ℕ
@@ -11,6 +11,7 @@ row_number Events = 0
 row_number Contracts = 1
 row_number Faults = 2
 row_number Packets = 3
+row_number CablePackets = 4
 
 -- how what is in a row looks
 abbrev pub row_class : Row → List ℕ
@@ -18,15 +19,11 @@ row_class Events = codes "event"
 row_class Contracts = codes "change"
 row_class Faults = codes "fault"
 row_class Packets = codes "packet"
+row_class CablePackets = codes "packet"
 
--- the top of the lane of a port; where one port alone is drawn, it has the first place
-abbrev pub lane_top : Option ℕ → ℕ → ℕ
-lane_top None port = 4000 + 800 * (port - 1)
-lane_top (Some chosen) port = 4000
-
--- the top of a row
-abbrev pub row_top : Place → Row → ℕ
-row_top p row = p.top + 150 + 140 * row_number row
+-- the top of a row, from the lane's
+abbrev pub row_top : Row → ℕ
+row_top row = 150 + 140 * row_number row
 
 -- how wide the box of a label is: 6 pixels for each sign, and 6 more
 abbrev pub box_width : List ℕ → ℕ
@@ -39,4 +36,5 @@ told_words p words = decimal p.at ++ (codes " port " ++ (decimal p.port ++ (32 �
 -- what a browser tells of words of the shown run: of a packet the whole line there
 abbrev pub title_words : Place → Row → List ℕ → List ℕ
 title_words p Packets words = bare_line p.at p.since p.port words
+title_words p CablePackets words = bare_line p.at p.since p.port words
 title_words p _ words = told_words p words

@@ -18,7 +18,7 @@ fn push_band_box(text: &mut Vec<u8>, place: Place, lane: &Lane) -> Result<(), Al
     let height = lane.phase.height();
     let area = Area {
         x: start,
-        y: (u64::from(place.top) + 130).saturating_sub(height),
+        y: 130u64.saturating_sub(height),
         width: place.x().saturating_sub(start),
         height,
     };
@@ -37,7 +37,7 @@ fn push_band_name(text: &mut Vec<u8>, place: Place, lane: &Lane) -> Result<(), A
         text,
         b"label",
         lane.start(place) + 30,
-        u64::from(place.top) + 85,
+        lane.phase.words_down(),
         lane.phase.name(),
     )
 }

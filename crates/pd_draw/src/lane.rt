@@ -3,20 +3,22 @@
 ghost use Rattle.std.specs.Prelude.{◌≡◌, ◌+◌, ◌==◌, ◌≤◌, ℕ, List};
 ghost use Rattle.pd_chart.specs.Scale.{x_of};
 ghost use Rattle.pd_draw.specs.Bands.{is_narrow, is_wide, lane_in, phase_number};
-ghost use Rattle.pd_draw.specs.Lanes.{lane_start};
-ghost use Rattle.pd_draw.specs.Marks.{has_room, joins, lane_with, mark_of, next_after, rooms_after};
+ghost use Rattle.pd_draw.specs.Lanes.{lane_height, lane_start};
+ghost use Rattle.pd_draw.specs.Marks.{has_room, joins, lane_with, mark_of, nexts_after, rooms_after};
 
 use crate::place::box_width;
-use crate::{Phase, Place, Row};
+use crate::{Figure, Phase, Place};
 
 /// The lane of a port: the phase that its source is in, and since when it is drawn, in microseconds; from where on there is room
-/// for a label in each row, and from where on a packet is drawn for itself, in tenths of a pixel.
+/// for a label in each row, and from where on a packet is drawn for itself there, in tenths of a pixel; and
+/// whether anything is marked.
 #[derive(Clone, Copy, Debug)]
 pub struct Lane {
     pub phase: Phase,
     pub since: u32,
-    pub rooms: [u64; 4],
-    pub next: u64,
+    pub rooms: [u64; 5],
+    pub nexts: [u64; 5],
+    pub marked: bool,
 }
 
 impl Lane {
@@ -27,9 +29,18 @@ impl Lane {
         Lane {
             phase: Phase::Detached,
             since: from,
-            rooms: [0; 4],
-            next: 0,
+            rooms: [0; 5],
+            nexts: [0; 5],
+            marked: false,
         }
+    }
+
+    /// How high it is, in tenths of a pixel: where nothing is marked, one line.
+    pub(crate) fn height(&self) -> u64
+        ensures value { result ≡ lane_height self.now }
+        ensures within { result ≤ 940 }
+    {
+        if self.marked { 940 } else { 170 }
     }
 
     /// The x from which the phase stands.
@@ -75,53 +86,53 @@ impl Lane {
     }
 
     /// Whether a mark is drawn together with the one before.
-    pub(crate) fn joins(&self, place: Place, row: Row) -> bool
-        ensures { result ≡ joins place self.now row }
+    pub(crate) fn joins(&self, place: Place, figure: Figure) -> bool
+        ensures { result ≡ joins place self.now figure }
     {
-        row.is_packets() && place.x() < self.next
+        figure.is_packet() && place.x() < self.nexts[figure.row.number()]
     }
 
-    /// Whether there is room for the box of a label.
-    pub(crate) fn has_room(&self, place: Place, row: Row, label: &[u8]) -> bool
-        ensures { result ≡ has_room place self.now row label.now }
+    /// Whether there is a label, and room for its box.
+    pub(crate) fn has_room(&self, place: Place, figure: Figure, label: &[u8]) -> bool
+        ensures { result ≡ has_room place self.now figure label.now }
     {
-        let x = place.x();
-        self.rooms[row.number()] <= x && x + box_width(label) <= place.frame.right()
+        !figure.is_quiet() && self.rooms[figure.row.number()] <= place.label_left(label)
     }
 
     /// From where on there is room in each row after a mark.
-    fn rooms_after(&self, place: Place, row: Row, label: &[u8]) -> [u64; 4]
-        ensures { result ≡ rooms_after place self.now row label.now }
+    fn rooms_after(&self, place: Place, figure: Figure, label: &[u8]) -> [u64; 5]
+        ensures { result ≡ rooms_after place self.now figure label.now }
     {
         let mut rooms = self.rooms;
-        if self.has_room(place, row, label) {
-            rooms[row.number()] = place.x() + (box_width(label) + 20);
+        if self.has_room(place, figure, label) {
+            rooms[figure.row.number()] = place.label_left(label) + (box_width(label) + 20);
         }
         rooms
     }
 
-    /// From where on a packet is drawn for itself after a mark.
-    fn next_after(&self, place: Place, row: Row) -> u64
-        ensures { result ≡ next_after place self.now row }
+    /// From where on a packet is drawn for itself in each row after a mark.
+    fn nexts_after(&self, place: Place, figure: Figure) -> [u64; 5]
+        ensures { result ≡ nexts_after place self.now figure }
     {
-        if row.is_packets() {
-            place.x() + 10
-        } else {
-            self.next
+        let mut nexts = self.nexts;
+        if figure.is_packet() {
+            nexts[figure.row.number()] = place.x() + 10;
         }
+        nexts
     }
 
     /// Takes in a mark.
     #[tactic(auto, unfolding(crate::specs::Marks::lane_with))]
-    pub(crate) fn take_mark(&mut self, place: Place, row: Row, label: &[u8])
-        ensures { (words : List ℕ) → self.new ≡ lane_with place self.old (mark_of row label.now words) }
+    pub(crate) fn take_mark(&mut self, place: Place, figure: Figure, label: &[u8])
+        ensures { (words : List ℕ) → self.new ≡ lane_with place self.old (mark_of figure label.now words) }
     {
-        if self.joins(place, row) {
+        if self.joins(place, figure) {
             return;
         }
-        let rooms = self.rooms_after(place, row, label);
-        let next = self.next_after(place, row);
+        let rooms = self.rooms_after(place, figure, label);
+        let nexts = self.nexts_after(place, figure);
         self.rooms = rooms;
-        self.next = next;
+        self.nexts = nexts;
+        self.marked = true;
     }
 }

@@ -3,6 +3,7 @@
 #![tactic(auto)]
 
 mod bands;
+mod figure;
 mod lane;
 mod lanes;
 mod laws;
@@ -11,9 +12,11 @@ mod moves;
 mod phase;
 mod picture;
 mod place;
+mod start;
 mod texts;
 mod walk;
 
+pub use figure::{Figure, Style};
 pub use lane::Lane;
 pub use lanes::Lanes;
 pub use laws::{bands_are_true, phases_stand, titles_are_lines};

@@ -1,17 +1,17 @@
 //! What the lanes show of a move.
 
-ghost use Rattle.std.specs.Prelude.{◌≡◌, ◌∷◌, ◌++◌, [], OnOk, map, codes};
+ghost use Rattle.std.specs.Prelude.{◌≡◌, ◌∷◌, ◌++◌, [], OnOk, map};
 ghost use Rattle.std.specs.List.{flat_map};
 ghost use Rattle.pd_chart.specs.Elements.{element_text};
 ghost use Rattle.pd_draw.specs.Lanes.{lane_after, marks_shown, move_elements};
-ghost use Rattle.pd_draw.specs.Marks.{change_marks, event_marks, fault_mark, lane_marked, marks_elements, marks_of, start_label};
+ghost use Rattle.pd_draw.specs.Marks.{change_marks, event_marks, fault_mark, lane_marked, marks_elements, marks_of};
 ghost use Rattle.pd_draw.specs.Marks.{start_mark, start_marks};
 
 use crate::bands::push_turn;
 use crate::marks::push_mark;
 use crate::phase::phase_of;
+use crate::start::{push_start_label, start_figure};
 use crate::{Lane, Place, Row};
-use pd_header::header_kind;
 use pd_line::{Fault, Start};
 use pd_port::What;
 use pd_show::{Seen, push_change, push_fault};
@@ -40,7 +40,7 @@ fn push_event_mark(
         text,
         lane,
         place,
-        Row::Events,
+        Row::Events.plain(),
         words.as_slice(),
         words.as_slice(),
     )
@@ -68,7 +68,7 @@ fn push_fault_mark(
         text,
         lane,
         place,
-        Row::Faults,
+        Row::Faults.plain(),
         label.as_slice(),
         words.as_slice(),
     )
@@ -114,24 +114,10 @@ fn push_change_mark(
         text,
         lane,
         place,
-        Row::Contracts,
+        Row::Contracts.plain(),
         words.as_slice(),
         words.as_slice(),
     )
-}
-
-/// Writes the name of what starts on the line.
-fn push_start_label(text: &mut Vec<u8>, start: &Start) -> Result<(), AllocError>
-    ensures { OnOk result (text.new.items ≡ text.old.items ++ start_label start.now) }
-{
-    match start {
-        Start::Packet {
-            side: _,
-            packet,
-            fate: _,
-        } => text.extend_from_slice(header_kind(packet.header()).name().as_str().as_bytes()),
-        Start::HardReset { side: _ } => text.extend_from_slice(b"Hard_Reset"),
-    }
 }
 
 /// Marks a packet or a Hard Reset, where it isn't drawn together with what was drawn before.
@@ -147,19 +133,20 @@ fn push_started(
         ≡ text.old.items ++ flat_map element_text (marks_elements place lane.old (start_mark by start.now ∷ []))) }
     ensures lane { OnOk result (lane.new ≡ lane_marked place lane.old (start_mark by start.now ∷ [])) }
 {
-    if lane.joins(place, Row::Packets) {
+    let figure = start_figure(start);
+    if lane.joins(place, figure) {
         return Ok(());
     }
     let mut label = Vec::new(alloc);
     let mut words = Vec::new(alloc);
-    push_start_label(&mut label, start)?;
+    push_start_label(&mut label, by, start)?;
     push_start(&mut words, false, by, start)?;
     push_mark(
         alloc,
         text,
         lane,
         place,
-        Row::Packets,
+        figure,
         label.as_slice(),
         words.as_slice(),
     )

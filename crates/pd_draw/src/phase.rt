@@ -1,7 +1,7 @@
 //! The phases of a port.
 
 ghost use Rattle.std.specs.Prelude.{◌≡◌, ◌≤◌};
-ghost use Rattle.pd_draw.specs.Bands.{phase_height, phase_name, phase_number, phase_of, phase_without};
+ghost use Rattle.pd_draw.specs.Bands.{phase_height, phase_name, phase_number, phase_of, phase_without, words_down};
 
 use pd_show::Glance;
 use pd_source::State;
@@ -79,6 +79,18 @@ impl Phase {
             Phase::Contract => b"contract",
             Phase::HardReset => b"hard reset",
             Phase::Disabled => b"disabled",
+        }
+    }
+
+    /// How far below the lane's top its name stands, in tenths of a pixel.
+    pub(crate) fn words_down(self) -> u64
+        ensures value { result ≡ words_down self }
+        ensures within { result ≤ 115 }
+    {
+        if self.height() < 60 {
+            120u64.saturating_sub(self.height())
+        } else {
+            115
         }
     }
 

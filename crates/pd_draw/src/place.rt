@@ -1,22 +1,22 @@
-//! Where the lanes stand, and what stands in them, in tenths of a pixel.
+//! What stands in a lane, in tenths of a pixel.
 
 ghost use Rattle.std.specs.Prelude.{◌≡◌, ◌+◌, ◌++◌, ◌<◌, ◌≤◌, OnOk};
 ghost use Rattle.pd_chart.specs.Scale.{x_of};
-ghost use Rattle.pd_draw.specs.Marks.{is_packets};
-ghost use Rattle.pd_draw.specs.Places.{box_width, lane_top, row_class, row_number, row_top, title_words, told_words};
+ghost use Rattle.pd_draw.specs.Marks.{figure_end, is_packets, label_left, plain};
+ghost use Rattle.pd_draw.specs.Places.{box_width, row_class, row_number, row_top, title_words, told_words};
 
+use crate::{Figure, Style};
 use pd_chart::Frame;
 use pd_show::push_bare_line;
 use pd_tell::push_number;
 use std::alloc::AllocError;
 
-/// Where something stands: in which window, in the lane of which port, numbered from 1, that lane's top, its time, and the time
-/// since the line before of what starts on the line there, where all there is of the run is shown, both in microseconds.
+/// Where something stands: in which window, in the lane of which port, numbered from 1, its time, and the time since the line
+/// before of what starts on the line there, where all there is of the run is shown, both in microseconds.
 #[derive(Clone, Copy, Debug)]
 pub struct Place {
     pub frame: Frame,
     pub port: usize,
-    pub top: u16,
     pub at: u32,
     pub since: u64,
 }
@@ -28,19 +28,30 @@ pub enum Row {
     Contracts,
     Faults,
     Packets,
+    /// Those to and from the cable plug, SOP'.
+    CablePackets,
 }
 
 impl Row {
     pub(crate) fn number(self) -> usize
         ensures value { result ≡ row_number self }
-        ensures within { result < 4 }
+        ensures within { result < 5 }
     {
         match self {
             Row::Events => 0,
             Row::Contracts => 1,
             Row::Faults => 2,
             Row::Packets => 3,
+            Row::CablePackets => 4,
         }
+    }
+
+    /// Its top, from the lane's.
+    pub(crate) fn top(self) -> u64
+        ensures value { result ≡ row_top self }
+        ensures within { result ≤ 1000 }
+    {
+        150 + 140 * self.number() as u64
     }
 
     /// How what is in it looks.
@@ -51,25 +62,26 @@ impl Row {
             Row::Events => b"event",
             Row::Contracts => b"change",
             Row::Faults => b"fault",
-            Row::Packets => b"packet",
+            Row::Packets | Row::CablePackets => b"packet",
         }
     }
 
     pub(crate) fn is_packets(self) -> bool
         ensures { result ≡ is_packets self }
     {
-        matches!(self, Row::Packets)
+        matches!(self, Row::Packets | Row::CablePackets)
     }
-}
 
-/// The top of the lane of a port.
-pub(crate) fn lane_top(chosen: Option<usize>, port: usize) -> u16
-    requires { port ≤ 8 }
-    ensures { result ≡ lane_top chosen port }
-{
-    match chosen {
-        None => 4_000 + 800 * port.saturating_sub(1) as u16,
-        Some(_) => 4_000,
+    /// A plain mark in it.
+    pub(crate) fn plain(self) -> Figure
+        ensures { result ≡ plain self }
+    {
+        Figure {
+            row: self,
+            style: Style::Plain,
+            side: None,
+            lasts: 0,
+        }
     }
 }
 
@@ -90,12 +102,26 @@ impl Place {
         self.frame.x_of(u64::from(self.at))
     }
 
-    /// The top of a row.
-    pub(crate) fn row_top(self, row: Row) -> u64
-        ensures value { result ≡ row_top self row }
-        ensures within { result ≤ 100000 }
+    /// Where what is marked ends.
+    pub(crate) fn end(self, figure: Figure) -> u64
+        ensures { result ≡ figure_end self figure }
     {
-        u64::from(self.top) + 150 + 140 * row.number() as u64
+        self.frame
+            .x_of(u64::from(self.at) + u64::from(figure.lasts))
+    }
+
+    /// The left side of the box of a label: at its time, or left of it where it would end outside of the chart.
+    pub(crate) fn label_left(self, label: &[u8]) -> u64
+        ensures value { result ≡ label_left self label.now }
+        ensures within { result ≤ 700 + self.frame.width }
+    {
+        let x = self.x();
+        let width = box_width(label);
+        if x + width <= self.frame.right() {
+            x
+        } else {
+            x.saturating_sub(width)
+        }
     }
 
     /// Writes when, on which port, and some words of the shown run.
@@ -120,7 +146,9 @@ impl Place {
         ensures { OnOk result (text.new.items ≡ text.old.items ++ title_words self row words.now) }
     {
         match row {
-            Row::Packets => push_bare_line(text, u64::from(self.at), self.since, self.port, words),
+            Row::Packets | Row::CablePackets => {
+                push_bare_line(text, u64::from(self.at), self.since, self.port, words)
+            }
             Row::Events | Row::Contracts | Row::Faults => self.push_told(text, words),
         }
     }

@@ -35,14 +35,6 @@ pub fn draw<const N: usize>(
         lanes.see(alloc, frame, look.port, &seen)?;
     }
     let mut text = Vec::new(alloc);
-    push_picture(
-        alloc,
-        &mut text,
-        frame,
-        N,
-        look.port,
-        curves.levels(),
-        &lanes,
-    )?;
+    push_picture(alloc, &mut text, frame, N, look, curves.levels(), &lanes)?;
     Ok(text)
 }

@@ -15,7 +15,7 @@ abbrev pub port_of : ℕ → Option ℕ
 port_of number = if number == 0 then None else Some number
 
 abbrev pub look_of : ℕ → ℕ → ℕ → ℕ → Look
-look_of from to width port = record { from = from; to = to; width = width; port = port_of port }
+look_of from to width port = record { from = from; to = to; width = width; port = port_of port; holds = false }
 
 abbrev pub choice_of : ℕ → ℕ → ℕ → Bool → Bool → Choice
 choice_of port from to good_crc codes =

@@ -48,6 +48,7 @@ pub extern "C" fn page_draw(
         to,
         width,
         port,
+        holds: false,
     };
     drawn(alloc, scenario, script, look, meter).hand_over(room, len)
 }

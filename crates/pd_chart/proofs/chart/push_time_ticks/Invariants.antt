@@ -6,4 +6,4 @@ use Rattle.pd_chart.proofs.chart.push_time_ticks.Given as goal
 
 abbrev pub invariant-loop-k : goal.invariant-loop-k
 invariant-loop-k l =
-    l.text.items ≡ l.fn.text.items ++ flat_map (λ k. flat_map element_text (time_tick l.frame l.bottom k)) (take l.k-index l.tenths)
+    l.text.items ≡ l.fn.text.items ++ flat_map (λ k. flat_map element_text (time_tick l.frame l.bottom k)) (take l.k-index l.ticks)

@@ -15,5 +15,5 @@ returns c =
     (λ h. joined _ _ _ _ _ _ _ _ _ _
     (c.in_ok-push_style.ensures ∙ ap (λ r. c.args.text.now.items ++ element_text (style_of r)) c.rules.ensures)
     c.in_ok-push_all_keys.ensures c.in_ok-push_axes.ensures h
-    (elements_text c.args.frame c.args.bottom c.args.ports c.args.levels.now))
+    (elements_text c.args.frame c.args.bottom c.args.ports c.args.holds c.args.levels.now))
     c.push_curves.ensures

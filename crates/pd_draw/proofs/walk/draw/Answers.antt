@@ -1,6 +1,4 @@
 use Rattle.std.proofs.Common.{◌≡◌, ◌-◌, arith, ◌++◌, ◌∷◌, ◌∙◌, [], List, ap, length, sym}
-use Rattle.std.specs.List.{flat_map}
-use Rattle.pd_chart.specs.Elements.{element_text}
 use Rattle.pd_run.specs.Run.{Move, shown}
 use Rattle.pd_run.specs.Live.{next_move}
 use Rattle.pd_watch.specs.Watch.{WatchData, after_step}
@@ -10,7 +8,7 @@ use Rattle.pd_show.specs.Seen.{all_seen, seen_of}
 use Rattle.pd_show.proofs.ShowLemmas.{seen_push, watched, watched_push}
 use Rattle.pd_chart.specs.Curves.{curves_of}
 use Rattle.pd_draw.specs.Lanes.{drawn_of}
-use Rattle.pd_draw.proofs.WalkLemmas.{before_more, curves_more, first_port, lanes_more, last_port, text_more}
+use Rattle.pd_draw.proofs.WalkLemmas.{before_more, curves_more, first_port, lanes_more, last_port, texts_more, texts_of}
 use Rattle.pd_draw.proofs.walk.draw.Goals as goal
 
 pub step_seen-requires : goal.step_seen-requires
@@ -89,8 +87,8 @@ loop-port-preserved g c =
           before_more f chosen (all_seen plan i.moves) s c.in_ok-seen.seen c.loop-port.lanes.before c.see-in-Some.new.self.before
           i.before_is is c.in_ok-see-2.ensures.before
           ∙ ap (λ (v : List Seen). (drawn_of f chosen v).before) more;
-      text_is =
-          text_more f chosen (all_seen plan i.moves) s c.in_ok-seen.seen c.loop-port.lanes.before c.loop-port.lanes.lanes
-          c.loop-port.lanes.text c.see-in-Some.new.self.text i.before_is i.lanes_are i.text_is is c.in_ok-see-2.ensures.text
-          ∙ ap (λ (v : List Seen). flat_map element_text (drawn_of f chosen v).elements) more;
+      texts_are =
+          texts_more f chosen (all_seen plan i.moves) s c.in_ok-seen.seen c.loop-port.lanes.before c.loop-port.lanes.lanes
+          c.loop-port.lanes.texts c.see-in-Some.new.self.texts i.before_is i.lanes_are i.texts_are is c.in_ok-see-2.ensures.texts
+          ∙ ap (λ (v : List Seen). texts_of (drawn_of f chosen v).elements) more;
     }

@@ -1,6 +1,4 @@
 use Rattle.std.proofs.Common.{◌≡◌, List, length}
-use Rattle.std.specs.List.{flat_map}
-use Rattle.pd_chart.specs.Elements.{element_text}
 use Rattle.pd_run.specs.Run.{Move}
 use Rattle.pd_run.specs.Live.{StandsAfter}
 use Rattle.pd_run.specs.StepsLeft.{steps_left}
@@ -8,6 +6,7 @@ use Rattle.pd_show.specs.Seen.{all_seen}
 use Rattle.pd_show.proofs.ShowLemmas.{watched}
 use Rattle.pd_chart.specs.Curves.{curves_of}
 use Rattle.pd_draw.specs.Lanes.{drawn_of}
+use Rattle.pd_draw.proofs.WalkLemmas.{texts_of}
 use Rattle.pd_draw.proofs.walk.draw.Given as goal
 
 abbrev pub invariant-loop-port : goal.invariant-loop-port
@@ -19,7 +18,7 @@ invariant-loop-port g l = record {
   curves_are : l.curves ≡ curves_of l.frame l.plan (all_seen l.plan moves);
   lanes_are : l.lanes.lanes ≡ (drawn_of l.frame l.look.port (all_seen l.plan moves)).lanes;
   before_is : l.lanes.before ≡ (drawn_of l.frame l.look.port (all_seen l.plan moves)).before;
-  text_is : l.lanes.text ≡ flat_map element_text (drawn_of l.frame l.look.port (all_seen l.plan moves)).elements;
+  texts_are : l.lanes.texts ≡ texts_of (drawn_of l.frame l.look.port (all_seen l.plan moves)).elements;
 }
 
 abbrev pub decreases-loop-port : goal.decreases-loop-port
