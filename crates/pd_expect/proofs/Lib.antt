@@ -1,6 +1,7 @@
 mod ContractLemmas
 mod JoinLemmas
 mod LineLemmas
+mod LowLemmas
 mod NearLemmas
 mod QuietLemmas
 mod SeekLemmas

@@ -21,7 +21,7 @@ module _ (port t s : ℕ) (le : t ≤ s) where
   abbrev changes : ℕ → Moves → List ContractChange
   changes at moves = filter_map (change_on port) (up_to at moves)
 
-  same_tests : (at : ℕ) → (t < at → s < at) → nat_le at s ≡ nat_le at t
+  pub same_tests : (at : ℕ) → (t < at → s < at) → nat_le at s ≡ nat_le at t
   same_tests at steady = by_tests (nat_le at t) refl (nat_le at s) refl where
     by_tests : (a : Bool) → nat_le at t ≡ a → (b : Bool) → nat_le at s ≡ b → b ≡ a
     by_tests true e true f = refl

@@ -1,18 +1,19 @@
 -- What is told of an expectation that isn't met, behind what there is in its place: docs/FORMATS.md, "Tests".
-use Rattle.std.specs.Prelude.{ℕ, ◌-◌, ◌==◌, ◌&&◌, nat_lt, Bool, List, [], ◌∷◌, ◌++◌, map, filter, length, take, codes, decimal, is_some}
+use Rattle.std.specs.Prelude.{ℕ, ◌-◌, ◌==◌, ◌&&◌, nat_lt, Bool, List, [], ◌∷◌, ◌++◌, filter, length, take, codes, decimal, is_some}
 use Rattle.std.specs.Prelude.{if◌then◌else◌, Option, Some, None}
-use Rattle.std.specs.List.{flat_map, filter_map, last_or}
-use Rattle.pd_line.specs.declared.notes.Fault.{Fault}
+use Rattle.std.specs.List.{filter_map, last_or}
 use Rattle.pd_port.specs.declared.entry.Entry.{Entry}
 use Rattle.pd_report.specs.FaultLines.{fault_words}
-use Rattle.pd_sweep.specs.Choices.{is_of_port}
 use Rattle.pd_sweep.specs.Summaries.{makers_at}
 use Rattle.pd_sweep.specs.Words.{makers_words}
+use Rattle.pd_expect.specs.Counted.{counted, notes_of}
 use Rattle.pd_expect.specs.OverTime.{Moves}
-use Rattle.pd_expect.specs.Sentences.{starts}
+use Rattle.pd_expect.specs.Lines.{quoted, words_of}
+use Rattle.pd_expect.specs.Sentences.{starts, text_of, unexcepted}
 use Rattle.pd_expect.specs.Words.{is_instant}
 use Rattle.pd_expect.specs.declared.found.Found.{Found}
 use Rattle.pd_expect.specs.declared.found.Found.TheVariants as found
+use Rattle.pd_expect.specs.declared.low.Low.{Low}
 use Rattle.pd_expect.specs.declared.lines.Expectation.{Expectation}
 use Rattle.pd_expect.specs.declared.lines.Expectation.TheVariants as expect
 use Rattle.pd_expect.specs.declared.lines.Period.{Period}
@@ -23,17 +24,6 @@ use Rattle.pd_expect.specs.declared.near.Sign.TheVariants as sign
 use Rattle.pd_expect.specs.declared.notes.FaultNote.{FaultNote}
 
 -- ---- faults
-
-abbrev pub note_of : ℕ → ℕ → Fault → FaultNote
-note_of at port fault = record { at = at; port = port; fault = fault }
-
--- the faults of an entry, where it is of the port that is asked for; where none is, of any
-unfoldable pub notes_at : Option ℕ → ℕ × Entry → List FaultNote
-notes_at wanted move = if is_of_port wanted move.0 then map (note_of move.1.at move.0) move.1.faults.items else []
-
--- those of a run, in its order
-abbrev pub notes_of : Option ℕ → Moves → List FaultNote
-notes_of wanted moves = flat_map (notes_at wanted) moves
 
 -- as in the show of faults, with no blanks before the time
 unfoldable pub note_words : FaultNote → List ℕ
@@ -70,9 +60,10 @@ others_words port notes = if length notes == 0 then no_other_words port else but
 
 -- ---- what is nearest to a range of times
 
--- the entry is of the port, and its contract changes, or a packet of the side and kind starts
+-- the entry is of the port, and its contract changes, or a packet of the side and kind starts; or the contract of any port changes
 abbrev pub has_sign : Sign → ℕ × Entry → Bool
 has_sign (sign.Change port) move = move.0 == port && is_some move.1.contract
+has_sign sign.AnyChange move = is_some move.1.contract
 has_sign (sign.Packet port side kind) move = move.0 == port && starts side kind move.1.start
 
 -- when the entry is, where it has the sign
@@ -136,9 +127,26 @@ abbrev pub break_details : ℕ → Period → Found → Moves → List ℕ
 break_details port period (found.Contract broken) moves = first_details port period broken moves
 break_details port period _ moves = []
 
-abbrev pub details : Expectation → Found → Moves → List ℕ
-details (expect.Contract port period wants) what moves = break_details port period what moves
-details (expect.Margin least) what moves = margin_details what moves
-details expect.NoFaults what moves = first_notes (notes_of None moves)
-details (expect.Fault port) what moves = others_words port (notes_of (Some port) moves)
-details (expect.Packet port side kind from to) what moves = packet_details (nearest (sign.Packet port side kind) from to moves)
+-- of a margin over a time the ports whose contracts are made when it is least, and from when and until when it is too little
+abbrev pub low_words : Low → Moves → List ℕ
+low_words low moves =
+    makers_words (makers_at low.least.at moves) ++ (codes ", too little from " ++ (decimal low.at ++ until_words low.until))
+
+abbrev pub first_low_words : Option Low → Moves → List ℕ
+first_low_words None moves = []
+first_low_words (Some low) moves = low_words low moves
+
+abbrev pub low_details : Found → Moves → List ℕ
+low_details (found.Low low) moves = first_low_words low moves
+low_details _ moves = []
+
+abbrev pub details : Expectation → List ℕ → Found → Moves → List ℕ
+details (expect.Contract port period wants) line what moves = break_details port period what moves
+details (expect.Margin least) line what moves = margin_details what moves
+details (expect.MarginOver period least) line what moves = low_details what moves
+details expect.NoFaults line what moves = first_notes (notes_of None moves)
+details (expect.NoFault port told period) line what moves = first_notes (counted port period (text_of told (words_of (quoted line))) moves)
+details (expect.FaultsAtMost port most but) line what moves = first_notes (unexcepted port but line moves)
+details (expect.Fault port) line what moves = others_words port (notes_of (Some port) moves)
+details (expect.Packet port side kind from to) line what moves =
+    packet_details (nearest (sign.Packet port side kind) from to moves)

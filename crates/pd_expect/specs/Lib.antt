@@ -1,7 +1,10 @@
 pub mod Along
+pub mod Counted
 pub mod Details
+pub mod FaultTexts
 pub mod Laws
 pub mod Losses
+pub mod Low
 pub mod Named
 pub mod Near
 pub mod OverTime

@@ -1,8 +1,10 @@
 -- The lines of a test script. It has the lines of an edit script, and beside them
 --     expect contract PORT TIME [voltage RANGE] [current RANGE] [power at_least POWER]
 --     expect no contract PORT TIME
---     expect margin at_least POWER
+--     expect margin at_least POWER [TIME]
 --     expect faults none
+--     expect no fault [PORT] ["WORDS"] [TIME]
+--     expect faults PORT at_most NUMBER [but "WORDS"]..
 --     expect fault PORT "WORDS"
 --     expect packet PORT SIDE NAME between FROM TO
 --     lose NTH NAME of port PORT
@@ -12,13 +14,16 @@
 -- What stands behind a word that begins with # is passed over.
 use Rattle.std.specs.Prelude.{ℕ, ◌+◌, ◌==◌, Bool, true, false, List, [], ◌∷◌, ◌++◌, find, take, drop, codes, Option, Some, None, option_map}
 use Rattle.std.specs.Prelude.{length, option_and_then}
-use Rattle.std.specs.Prelude.{bytes_eq, nat_le, nat_lt, ◌&&◌, if◌then◌else◌}
+use Rattle.std.specs.Prelude.{bytes_eq, nat_le, nat_lt, is_some, ◌&&◌, ◌||◌, if◌then◌else◌}
 use Rattle.std.specs.List.{position_from}
+use Rattle.std.specs.Option.{option_map_or}
 use Rattle.pd_header.specs.declared.kind.Kind.{Kind}
 use Rattle.pd_header.specs.declared.side.Side.{Side}
 use Rattle.pd_header.specs.declared.side.Side.TheVariants.{Source, Sink, Plug}
 use Rattle.pd_header.specs.Kinds.{name_of, control_messages, data_messages}
-use Rattle.pd_edit_lines.specs.Words.{words, number, next, number_at, ◌>>=◌}
+use Rattle.pd_line.specs.declared.notes.Fault.{Fault}
+use Rattle.pd_edit_lines.specs.Words.{end_of, words, number, next, number_at, ◌>>=◌}
+use Rattle.pd_expect.specs.FaultTexts.{is_fault_text, is_told_so}
 use Rattle.pd_expect.specs.declared.lines.Expectation.{Expectation}
 use Rattle.pd_expect.specs.declared.lines.Expectation.TheVariants as expect
 use Rattle.pd_expect.specs.declared.lines.Lost.{Lost}
@@ -213,16 +218,24 @@ contract_of ws = do
 
 abbrev pub no_contract_of : Words → Option Expectation
 no_contract_of ws = do
-  named ← after_word (codes "contract") ws
-  port ← number_at named
+  port ← number_at ws
   period ← period_at port.1
   alone (expect.Contract port.0 period.0 wanted.Nothing) period.1
+
+abbrev pub margin_over : ℕ → Words → Option Expectation
+margin_over least ws = do
+  period ← period_at ws
+  alone (expect.MarginOver period.0 least) period.1
+
+-- of the whole run where no time is named
+abbrev pub margin_in : ℕ → Words → Option Expectation
+margin_in least ws = if is_over ws then Some (expect.Margin least) else margin_over least ws
 
 abbrev pub margin_of : Words → Option Expectation
 margin_of ws = do
   named ← after_word (codes "at_least") ws
   least ← power_at named
-  alone (expect.Margin least.0) least.1
+  margin_in least.0 least.1
 
 -- the number of a margin whose unit is left out, by what stands behind `expect`
 abbrev pub bare_margin : Words → Option ℕ
@@ -230,12 +243,8 @@ bare_margin ws = do
   margin ← after_word (codes "margin") ws
   named ← after_word (codes "at_least") margin
   bare ← number_at named
-  alone bare.0 bare.1
-
-abbrev pub faults_of : Words → Option Expectation
-faults_of ws = do
-  named ← after_word (codes "none") ws
-  alone expect.NoFaults named
+  margin ← margin_in bare.0 bare.1
+  Some bare.0
 
 -- what stands in the first quotation marks of a line, and what stands behind them
 abbrev pub quoted : List ℕ → Option (List ℕ × List ℕ)
@@ -248,6 +257,140 @@ fault_of line ws = do
   port ← number_at ws
   inside ← quoted line
   alone (expect.Fault port.0) (words inside.1)
+
+-- a port, where there is one
+abbrev pub port_or : Words → Words → Option ℕ → Option ℕ × Words
+port_or ws more None = (None, ws)
+port_or ws more (Some port) = (Some port, more)
+
+abbrev pub optional_port : Words → Option ℕ × Words
+optional_port [] = (None, [])
+optional_port (word ∷ more) = port_or (word ∷ more) more (number word)
+
+abbrev pub opens : List ℕ → Bool
+opens [] = false
+opens (c ∷ cs) = c == 34
+
+-- whether the line has words in quotation marks here, and what stands behind them
+abbrev pub quoted_here : List ℕ → Option (Bool × Words)
+quoted_here line = do
+  inside ← quoted line
+  Some (true, words inside.1)
+
+abbrev pub optional_text : List ℕ → Words → Option (Bool × Words)
+optional_text line [] = Some (false, [])
+optional_text line (word ∷ more) = if opens word then quoted_here line else Some (false, word ∷ more)
+
+abbrev pub whole_run : Period
+whole_run = record { from = 0; to = None }
+
+abbrev pub optional_period : Words → Option (Period × Words)
+optional_period ws = if is_over ws then Some (whole_run, ws) else period_at ws
+
+abbrev pub told_in : Option ℕ → Bool × Words → Option Expectation
+told_in port told = do
+  period ← optional_period told.1
+  alone (expect.NoFault port told.0 period.0) period.1
+
+abbrev pub no_fault_on : List ℕ → Option ℕ × Words → Option Expectation
+no_fault_on line port = do
+  told ← optional_text line port.1
+  told_in port.0 told
+
+abbrev pub no_fault_of : List ℕ → Words → Option Expectation
+no_fault_of line ws = no_fault_on line (optional_port ws)
+
+-- by the word behind `no`
+abbrev pub no_named : List ℕ → List ℕ → Words → Option Expectation
+no_named line word ws =
+    if bytes_eq word (codes "contract") then no_contract_of ws
+    else if bytes_eq word (codes "fault") then no_fault_of line ws
+    else None
+
+abbrev pub no_of : List ℕ → Words → Option Expectation
+no_of line ws = do
+  named ← next ws
+  no_named line named.0 named.1
+
+-- what stands in the quotation marks of a line, and nothing where it has none
+abbrev pub words_of : Option (List ℕ × List ℕ) → List ℕ
+words_of None = []
+words_of (Some it) = it.0
+
+-- and what stands behind them
+abbrev pub behind_of : Option (List ℕ × List ℕ) → List ℕ
+behind_of None = []
+behind_of (Some it) = it.1
+
+-- `but "WORDS"`: the words, and what stands behind them
+abbrev pub but_at : List ℕ → Option (List ℕ × List ℕ)
+but_at line = do
+  opened ← cut 34 line
+  named ← after_word (codes "but") (words opened.0)
+  nothing ← end_of named
+  cut 34 opened.1
+
+-- what stands behind some of these, at most as many as the first text has bytes
+unfoldable pub behind_buts : List ℕ → List ℕ → List ℕ
+behind_buts [] line = line
+behind_buts (byte ∷ more) line = option_map_or (λ but. behind_buts more but.1) (but_at line) line
+
+-- whether a fault is told in the words of one of them
+unfoldable pub is_but : List ℕ → List ℕ → Fault → Bool
+is_but [] line fault = false
+is_but (byte ∷ more) line fault = option_map_or (λ but. is_told_so but.0 fault || is_but more but.1 fault) (but_at line) false
+
+abbrev pub is_excepted : Option (List ℕ × List ℕ) → Fault → Bool
+is_excepted inside fault = is_told_so (words_of inside) fault || is_but (behind_of inside) (behind_of inside) fault
+
+-- the first of their words in which no fault is told
+unfoldable pub wrong_but : List ℕ → List ℕ → Option (List ℕ)
+wrong_but [] line = None
+wrong_but (byte ∷ more) line =
+    option_map_or (λ but. if is_fault_text but.0 then wrong_but more but.1 else Some but.0) (but_at line) None
+
+-- the line is over behind all of them
+abbrev pub all_buts : ℕ → ℕ → List ℕ → Option Expectation
+all_buts port most rest = alone (expect.FaultsAtMost port most true) (words (behind_buts rest rest))
+
+abbrev pub quoted_buts : List ℕ → ℕ → ℕ → Option (List ℕ × Words) → Option Expectation
+quoted_buts line port most None = None
+quoted_buts line port most (Some first) = if opens first.0 then all_buts port most (behind_of (quoted line)) else None
+
+abbrev pub with_buts : List ℕ → ℕ → ℕ → Words → Option Expectation
+with_buts line port most ws = do
+  named ← after_word (codes "but") ws
+  quoted_buts line port most (next named)
+
+abbrev pub most_but : List ℕ → ℕ → ℕ → Words → Option Expectation
+most_but line port most ws = if is_over ws then Some (expect.FaultsAtMost port most false) else with_buts line port most ws
+
+abbrev pub at_most_of : List ℕ → Words → Option Expectation
+at_most_of line ws = do
+  port ← number_at ws
+  named ← after_word (codes "at_most") port.1
+  most ← number_at named
+  most_but line port.0 most.0 most.1
+
+-- `none`, or a port and how many
+abbrev pub faults_of : List ℕ → Words → Option Expectation
+faults_of line [] = None
+faults_of line (word ∷ more) = if bytes_eq word (codes "none") then alone expect.NoFaults more else at_most_of line (word ∷ more)
+
+-- an expectation of what the line has in quotation marks
+abbrev pub has_text : Expectation → Bool
+has_text (expect.Fault port) = true
+has_text (expect.NoFault port told period) = told
+has_text (expect.FaultsAtMost port most but) = but
+has_text _ = false
+
+-- words of the line in which no fault is told, behind `but` or the first; those behind a comment's mark are none
+abbrev pub wrong_text : Option (List ℕ × List ℕ) → Option (List ℕ)
+wrong_text inside =
+    if is_fault_text (words_of inside) then wrong_but (behind_of inside) (behind_of inside) else Some (words_of inside)
+
+abbrev pub is_of_no_fault : List ℕ → Expectation → Bool
+is_of_no_fault line expectation = has_text expectation && is_some (wrong_text (quoted line))
 
 abbrev pub packet_of : Words → Option Expectation
 packet_of ws = do
@@ -263,9 +406,9 @@ packet_of ws = do
 abbrev pub expectation_named : List ℕ → List ℕ → Words → Option Expectation
 expectation_named line word ws =
     if bytes_eq word (codes "contract") then contract_of ws
-    else if bytes_eq word (codes "no") then no_contract_of ws
+    else if bytes_eq word (codes "no") then no_of line ws
     else if bytes_eq word (codes "margin") then margin_of ws
-    else if bytes_eq word (codes "faults") then faults_of ws
+    else if bytes_eq word (codes "faults") then faults_of line ws
     else if bytes_eq word (codes "fault") then fault_of line ws
     else if bytes_eq word (codes "packet") then packet_of ws
     else None
@@ -306,6 +449,8 @@ empty_wanted wanted.Nothing = None
 -- the first range of an expectation in which no number is
 abbrev pub empty_span : Expectation → Option Span
 empty_span (expect.Contract port period wants) = first_span (empty_ends period.from period.to) (empty_wanted wants)
+empty_span (expect.MarginOver period least) = empty_ends period.from period.to
+empty_span (expect.NoFault port told period) = empty_ends period.from period.to
 empty_span (expect.Packet port side kind from to) = if_empty (record { from = from; to = to })
 empty_span _ = None
 
@@ -321,9 +466,10 @@ abbrev pub no_expectation : Option ℕ → TestLine
 no_expectation None = line_is.NoTest
 no_expectation (Some bare) = line_is.BareMargin bare
 
-abbrev pub expect_line : Option Expectation → Option ℕ → TestLine
-expect_line None bare = no_expectation bare
-expect_line (Some expectation) bare = ranged expectation (empty_span expectation)
+abbrev pub expect_line : List ℕ → Option Expectation → Option ℕ → TestLine
+expect_line line None bare = no_expectation bare
+expect_line line (Some expectation) bare =
+    if is_of_no_fault line expectation then line_is.NoFaultText else ranged expectation (empty_span expectation)
 
 abbrev pub lose_line : Option Lost → TestLine
 lose_line None = line_is.NoTest
@@ -332,7 +478,7 @@ lose_line (Some lost) = line_is.Lose lost
 abbrev pub line_named : List ℕ → Option (List ℕ × Words) → TestLine
 line_named line None = line_is.Edit
 line_named line (Some first) =
-    if bytes_eq first.0 (codes "expect") then expect_line (expectation_of line first.1) (bare_margin first.1)
+    if bytes_eq first.0 (codes "expect") then expect_line line (expectation_of line first.1) (bare_margin first.1)
     else if bytes_eq first.0 (codes "lose") then lose_line (lost_of first.1)
     else line_is.Edit
 

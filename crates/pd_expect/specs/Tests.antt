@@ -1,5 +1,5 @@
 -- What a test script comes to.
-use Rattle.std.specs.Prelude.{◌≡◌, ℕ, ◌+◌, List, [], ◌∷◌, ◌++◌, if◌then◌else◌, Option, Some, None, Result, Ok, Err}
+use Rattle.std.specs.Prelude.{◌≡◌, ℕ, ◌+◌, List, [], ◌∷◌, ◌++◌, if◌then◌else◌, Option, Some, None, Result, Ok, Err, unwrap_or}
 use Rattle.pd_port.specs.declared.entry.Entry.{Entry}
 use Rattle.pd_run.specs.Shown.{Shows}
 use Rattle.pd_scenario.specs.Plans.{plan_of}
@@ -10,10 +10,11 @@ use Rattle.pd_explain.specs.declared.place.Place.TheVariants as place
 use Rattle.pd_scene.specs.Script.{after_line, at_line, line_text, refused_at}
 use Rattle.pd_text.specs.Fronts.{FrontData}
 use Rattle.pd_expect.specs.Details.{details}
-use Rattle.pd_expect.specs.Lines.{test_line}
+use Rattle.pd_expect.specs.Lines.{quoted, test_line, wrong_text}
 use Rattle.pd_expect.specs.Losses.{IsLoss}
 use Rattle.pd_expect.specs.Sentences.{IsFound, is_met, last_time, late_time, port_of, unknown_port}
-use Rattle.pd_expect.specs.Words.{bare_margin_line, empty_range_line, failure_line, late_line, loss_line, no_test_line, time_word}
+use Rattle.pd_expect.specs.Words.{bare_margin_line, empty_range_line, failure_line, late_line, loss_line, no_test_line}
+use Rattle.pd_expect.specs.Words.{no_text_line, time_word}
 use Rattle.pd_expect.specs.declared.found.Found.{Found}
 use Rattle.pd_expect.specs.declared.lines.Expectation.{Expectation}
 use Rattle.pd_expect.specs.declared.lines.Lost.{Lost}
@@ -55,7 +56,7 @@ pub record Answer : Type 0 where
 abbrev pub judged : ScenarioData → FrontData → List ℕ → TestTally → Expectation → Found → List (ℕ × Entry) → Answer
 judged c at line tally expectation what moves =
     if is_met expectation what then record { said = []; tally = one_passed tally; after = c }
-    else record { said = failure_line at line what (details expectation what moves); tally = one_failed tally; after = c }
+    else record { said = failure_line at line what (details expectation line what moves); tally = one_failed tally; after = c }
 
 -- it is held against the run of the scenario as edited by then
 abbrev pub Judges : ScenarioData → FrontData → List ℕ → TestTally → Expectation → Answer → Type 0
@@ -98,6 +99,8 @@ AnswersAs n c at line tally (line_is.EmptyRange span) answer =
     answer ≡ record { said = empty_range_line at span; tally = one_refused tally; after = c }
 AnswersAs n c at line tally (line_is.BareMargin bare) answer =
     answer ≡ record { said = bare_margin_line at bare; tally = one_refused tally; after = c }
+AnswersAs n c at line tally line_is.NoFaultText answer =
+    answer ≡ record { said = no_text_line at (unwrap_or (wrong_text (quoted line)) []); tally = one_refused tally; after = c }
 AnswersAs n c at line tally line_is.NoTest answer =
     answer ≡ record { said = no_test_line at line; tally = one_refused tally; after = c }
 

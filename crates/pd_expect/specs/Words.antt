@@ -8,10 +8,13 @@ use Rattle.pd_text.specs.Texts.{text_of_all}
 use Rattle.pd_text.specs.Fronts.{FrontData, line_with, said}
 use Rattle.pd_objects.specs.declared.contract.Contract.{Contract}
 use Rattle.pd_tell.specs.Members.{number_member}
+use Rattle.pd_hints.specs.Slips.{meant_text, nearest}
 use Rattle.pd_edit_lines.specs.Words.{next, words}
 use Rattle.pd_edit_lines.specs.declared.fault.EditFault.TheVariants.{Range, Syntax}
 use Rattle.pd_scene.specs.Script.{refused_at}
 use Rattle.pd_sweep.specs.Words.{obstacle_words}
+use Rattle.pd_report.specs.declared.least.Margin.{Margin}
+use Rattle.pd_expect.specs.FaultTexts.{short_texts}
 use Rattle.pd_expect.specs.declared.found.Found.{Found}
 use Rattle.pd_expect.specs.declared.found.Found.TheVariants as found
 use Rattle.pd_expect.specs.declared.loss.LoseFault.{LoseFault}
@@ -19,6 +22,7 @@ use Rattle.pd_expect.specs.declared.loss.LoseFault.TheVariants as fault
 use Rattle.pd_expect.specs.declared.lines.Expectation.{Expectation}
 use Rattle.pd_expect.specs.declared.lines.Expectation.TheVariants as expect
 use Rattle.pd_expect.specs.declared.lines.Period.{Period}
+use Rattle.pd_expect.specs.declared.low.Low.{Low}
 use Rattle.pd_expect.specs.declared.over_time.Break.{Break}
 use Rattle.pd_expect.specs.declared.span.Span.{Span}
 use Rattle.pd_expect.specs.declared.tally.TestTally.{TestTally}
@@ -40,10 +44,20 @@ abbrev pub stands_of : Option Break → Option Contract
 stands_of None = None
 stands_of (Some broken) = broken.stands
 
+-- what is left at an instant
+abbrev pub left_words : Margin → List ℕ
+left_words margin = codes "margin " ++ (decimal margin.left ++ (codes " at " ++ decimal margin.at))
+
+-- the least, where it is too little
+abbrev pub low_words : Option Low → List ℕ
+low_words None = []
+low_words (Some low) = left_words low.least
+
 -- what there is in place of what is expected
 unfoldable pub found_words : Found → List ℕ
 found_words (found.Contract broken) = contract_words (stands_of broken)
-found_words (found.Least margin) = codes "margin " ++ (decimal margin.left ++ (codes " at " ++ decimal margin.at))
+found_words (found.Least margin) = left_words margin
+found_words (found.Low low) = low_words low
 found_words (found.Faults count) = decimal count ++ faults_word count
 found_words (found.Fault there) = codes "no such fault"
 found_words (found.Packet there) = codes "no such packet"
@@ -66,12 +80,12 @@ failure_line at line what details =
 abbrev pub form_named : List ℕ → List ℕ
 form_named word =
     if bytes_eq word (codes "contract") then codes "`expect contract PORT TIME [voltage RANGE] [current RANGE] [power at_least POWER]`"
-    else if bytes_eq word (codes "no") then codes "`expect no contract PORT TIME`"
-    else if bytes_eq word (codes "margin") then codes "`expect margin at_least POWER`"
-    else if bytes_eq word (codes "faults") then codes "`expect faults none`"
+    else if bytes_eq word (codes "no") then codes "`expect no contract PORT TIME` or `expect no fault [PORT] [\"WORDS\"] [TIME]`"
+    else if bytes_eq word (codes "margin") then codes "`expect margin at_least POWER [TIME]`"
+    else if bytes_eq word (codes "faults") then codes "`expect faults none` or `expect faults PORT at_most NUMBER [but \"WORDS\"]..`"
     else if bytes_eq word (codes "fault") then codes "`expect fault PORT \"WORDS\"`"
     else if bytes_eq word (codes "packet") then codes "`expect packet PORT SIDE NAME between FROM TO`"
-    else codes "contract, no contract, margin, faults, fault or packet behind `expect`"
+    else codes "contract, no contract, no fault, margin, faults, fault or packet behind `expect`"
 
 abbrev pub form_behind : Option (List ℕ × List (List ℕ)) → List ℕ
 form_behind None = form_named []
@@ -106,6 +120,18 @@ bare_margin_line at n = line_with (refused_at at Syntax) (said [] (bare_margin_w
 unfoldable pub empty_range_line : FrontData → Span → List ℕ
 empty_range_line at span = line_with (refused_at at Syntax) (said [] (empty_range_words span) (codes "the lesser one comes first"))
 
+-- words in which no fault is told, which there are, and which may be meant
+abbrev pub no_text_words : List ℕ → List ℕ
+no_text_words text =
+    text_of_all Words
+    (line_words (codes "no fault is told as `") ∷ line_words text
+    ∷ line_words (codes "`; there are `SIDE no GoodCRC MESSAGE`, `soft reset by SIDE`, `hard reset by SIDE`, ")
+    ∷ line_words (codes "`source disabled`, `sink disabled`, `cable unread`, `mismatch`, `reject`, `wait` and ")
+    ∷ line_words (codes "`event N ignored`") ∷ [])
+
+unfoldable pub no_text_line : FrontData → List ℕ → List ℕ
+no_text_line at text = line_with (refused_at at Syntax) (said [] (no_text_words text) (meant_text (nearest text short_texts)))
+
 -- a period is one instant
 abbrev pub is_end_at : ℕ → Option ℕ → Bool
 is_end_at from None = false
@@ -124,6 +150,8 @@ period_word period = if is_instant period then codes "TIME" else end_word period
 
 abbrev pub time_word : Expectation → List ℕ
 time_word (expect.Contract port period wants) = period_word period
+time_word (expect.MarginOver period least) = period_word period
+time_word (expect.NoFault port told period) = period_word period
 time_word (expect.Packet port side kind from to) = codes "TO"
 time_word _ = codes "TIME"
 

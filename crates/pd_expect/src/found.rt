@@ -1,18 +1,24 @@
 //! What a run has of what is expected.
 
-ghost use Rattle.std.specs.Prelude.{◌≡◌};
+ghost use Rattle.std.specs.Prelude.{◌≡◌, IfOk, length, option_map, unwrap_or};
 ghost use Rattle.pd_scenario.specs.Plans.{plan_of};
-ghost use Rattle.pd_expect.specs.Lines.{quoted};
-ghost use Rattle.pd_expect.specs.Sentences.{IsFound, is_met, last_time, port_of, words_of};
+ghost use Rattle.pd_expect.specs.Counted.{counted};
+ghost use Rattle.pd_expect.specs.Lines.{quoted, words_of};
+ghost use Rattle.pd_expect.specs.Low.{IsFirstLow};
+ghost use Rattle.pd_expect.specs.Sentences.{IsFound, is_met, last_time, port_of, text_of, unexcepted};
 ghost use Rattle.pd_expect.specs.Words.{is_instant, period_word, time_word};
 
+use crate::counted::{counted, unexcepted};
+use crate::lines::words_of;
+use crate::low::{Low, first_low};
 use crate::over_time::{Break, first_break};
-use crate::seek::{Sought, has_fault};
-use crate::{Expectation, Period, quoted};
+use crate::seek::{has_fault, has_packet};
+use crate::{Expectation, Period};
 use pd_report::{Margin, least_margin};
 use pd_run::Runner;
 use pd_scenario::Scenario;
 use pd_sweep::summary_of;
+use std::alloc::{AllocError, Global};
 
 /// What a run has of what is expected.
 #[derive(Clone, Copy, Debug)]
@@ -21,6 +27,8 @@ pub enum Found {
     Contract(Option<Break>),
     /// The least that the contracts leave of the budget.
     Least(Margin),
+    /// Where over a time too little is left of it.
+    Low(Option<Low>),
     /// So many faults.
     Faults(u128),
     /// Whether the port has such a fault.
@@ -29,26 +37,69 @@ pub enum Found {
     Packet(bool),
 }
 
-/// What stands in the quotation marks of a line, and nothing where it has none.
-fn words_of(line: &[u8]) -> &[u8]
-    ensures { result.now ≡ words_of (quoted line.now) }
+/// These words, where some are wanted.
+pub(crate) fn text_of(told: bool, text: &[u8]) -> Option<&[u8]>
+    ensures { option_map (λ x. x.now) result ≡ text_of told text.now }
 {
-    match quoted(line) {
-        Some((words, _)) => words,
-        None => b"",
-    }
+    if told { Some(text) } else { None }
+}
+
+/// Where over a time too little is left of the budget, if it is.
+fn low_over<const N: usize, T: Runner<N>>(
+    alloc: Global,
+    run: &T,
+    scenario: &Scenario<N>,
+    least: u64,
+    period: Period,
+) -> Result<Option<Low>, AllocError>
+    ensures { IfOk result (λ low. IsFirstLow (plan_of scenario.now) (T.entries run.now) least period.from
+        (unwrap_or period.to (plan_of scenario.now).end) low) }
+{
+    let to = period.to.unwrap_or(scenario.end_time());
+    first_low(alloc, run, scenario, least, period.from, to)
+}
+
+/// How many faults there are on a port, or on any, at these instants; where it is told so, of those in the line's words.
+fn count_of<const N: usize, T: Runner<N>>(
+    alloc: Global,
+    run: &T,
+    port: Option<u64>,
+    period: Period,
+    told: bool,
+    line: &[u8],
+) -> Result<u128, AllocError>
+    ensures { IfOk result (λ count.
+        count ≡ length (counted port period (text_of told (words_of (quoted line.now))) (T.entries run.now))) }
+{
+    let notes = counted(alloc, run, port, period, text_of(told, words_of(line)))?;
+    Ok(notes.len() as u128)
+}
+
+/// How many faults of a port there are but those that a line excepts, if it excepts any.
+fn count_but<const N: usize, T: Runner<N>>(
+    alloc: Global,
+    run: &T,
+    port: u64,
+    but: bool,
+    line: &[u8],
+) -> Result<u128, AllocError>
+    ensures { IfOk result (λ count. count ≡ length (unexcepted port but line.now (T.entries run.now))) }
+{
+    let notes = unexcepted(alloc, run, port, but, line)?;
+    Ok(notes.len() as u128)
 }
 
 /// What a run has of what is expected by a line.
 pub(crate) fn found_in<const N: usize, T: Runner<N>>(
+    alloc: Global,
     expectation: &Expectation,
     run: &T,
     scenario: &Scenario<N>,
     line: &[u8],
-) -> Found
-    ensures { IsFound (plan_of scenario.now) (T.entries run.now) line.now expectation.now result }
+) -> Result<Found, AllocError>
+    ensures { IfOk result (λ found. IsFound (plan_of scenario.now) (T.entries run.now) line.now expectation.now found) }
 {
-    match *expectation {
+    let found = match *expectation {
         Expectation::Contract {
             port,
             period,
@@ -58,7 +109,16 @@ pub(crate) fn found_in<const N: usize, T: Runner<N>>(
             Found::Contract(first_break(run, port, wanted, period.from, to))
         }
         Expectation::Margin { .. } => Found::Least(least_margin(run, scenario)),
+        Expectation::MarginOver { period, least } => {
+            Found::Low(low_over(alloc, run, scenario, least, period)?)
+        }
         Expectation::NoFaults => Found::Faults(summary_of(run).mishaps.faults),
+        Expectation::NoFault { port, told, period } => {
+            Found::Faults(count_of(alloc, run, port, period, told, line)?)
+        }
+        Expectation::FaultsAtMost { port, but, .. } => {
+            Found::Faults(count_but(alloc, run, port, but, line)?)
+        }
         Expectation::Fault { port } => Found::Fault(has_fault(run, port, words_of(line))),
         Expectation::Packet {
             port,
@@ -66,17 +126,9 @@ pub(crate) fn found_in<const N: usize, T: Runner<N>>(
             kind,
             from,
             to,
-        } => {
-            let sought = Sought {
-                port,
-                side,
-                kind,
-                from,
-                to,
-            };
-            Found::Packet(sought.is_in(run))
-        }
-    }
+        } => Found::Packet(has_packet(run, port, side, kind, from, to)),
+    };
+    Ok(found)
 }
 
 /// Whether what a run has is what is expected.
@@ -86,7 +138,9 @@ pub(crate) fn is_met(expectation: &Expectation, found: &Found) -> bool
     match (*expectation, *found) {
         (Expectation::Contract { .. }, Found::Contract(broken)) => broken.is_none(),
         (Expectation::Margin { least }, Found::Least(margin)) => least <= margin.left,
-        (Expectation::NoFaults, Found::Faults(count)) => count == 0,
+        (Expectation::MarginOver { .. }, Found::Low(low)) => low.is_none(),
+        (Expectation::NoFaults | Expectation::NoFault { .. }, Found::Faults(count)) => count == 0,
+        (Expectation::FaultsAtMost { most, .. }, Found::Faults(count)) => count <= u128::from(most),
         (Expectation::Fault { .. }, Found::Fault(there))
         | (Expectation::Packet { .. }, Found::Packet(there)) => there,
         _ => false,
@@ -99,9 +153,11 @@ pub(crate) fn port_of(expectation: &Expectation) -> Option<u64>
 {
     match *expectation {
         Expectation::Contract { port, .. }
+        | Expectation::FaultsAtMost { port, .. }
         | Expectation::Fault { port }
         | Expectation::Packet { port, .. } => Some(port),
-        Expectation::Margin { .. } | Expectation::NoFaults => None,
+        Expectation::NoFault { port, .. } => port,
+        Expectation::Margin { .. } | Expectation::MarginOver { .. } | Expectation::NoFaults => None,
     }
 }
 
@@ -110,9 +166,14 @@ pub(crate) fn last_time(expectation: &Expectation) -> Option<u64>
     ensures { result ≡ last_time expectation.now }
 {
     match *expectation {
-        Expectation::Contract { period, .. } => Some(period.to.unwrap_or(period.from)),
+        Expectation::Contract { period, .. }
+        | Expectation::MarginOver { period, .. }
+        | Expectation::NoFault { period, .. } => Some(period.to.unwrap_or(period.from)),
         Expectation::Packet { to, .. } => Some(to),
-        Expectation::Margin { .. } | Expectation::NoFaults | Expectation::Fault { .. } => None,
+        Expectation::Margin { .. }
+        | Expectation::NoFaults
+        | Expectation::FaultsAtMost { .. }
+        | Expectation::Fault { .. } => None,
     }
 }
 
@@ -144,7 +205,9 @@ pub(crate) fn time_word(expectation: &Expectation) -> &'static [u8]
     ensures { result.now ≡ time_word expectation.now }
 {
     match *expectation {
-        Expectation::Contract { period, .. } => period_word(period),
+        Expectation::Contract { period, .. }
+        | Expectation::MarginOver { period, .. }
+        | Expectation::NoFault { period, .. } => period_word(period),
         Expectation::Packet { .. } => b"TO",
         _ => b"TIME",
     }

@@ -1,12 +1,16 @@
 //! Test scripts: what is expected of the runs of a scenario, and whether it is so.
 #![tactic(auto)]
 
+mod buts;
 mod contract;
+mod counted;
 mod details;
+mod fault_texts;
 mod found;
 pub mod laws;
 mod lines;
 mod loss;
+mod low;
 mod named;
 mod near;
 mod notes;
@@ -21,11 +25,12 @@ mod words;
 pub use found::Found;
 pub use lines::{Expectation, Lost, Period, TestLine, Wanted, quoted};
 pub use loss::{LoseFault, lose};
+pub use low::Low;
 pub use named::scenario_name;
 pub use over_time::Break;
 pub use pd_scene::SceneFault;
 pub use pd_text::Form;
 pub use script::{TestReport, test_lines, test_script};
-pub use span::Span;
+pub use span::{Span, cut, ends_of};
 pub use tally::TestTally;
 pub use texts::test_text;

@@ -6,10 +6,15 @@ ghost use Rattle.pd_header.specs.Kinds.{name_of};
 ghost use Rattle.pd_expect.specs.Lines.{after_word, alone, contract_of, expect_line, expectation_named, expectation_of, fault_of};
 ghost use Rattle.pd_expect.specs.Lines.{faults_of, is_comment, is_over, kind_at, kind_named, line_named, lose_line, lost_of};
 ghost use Rattle.pd_expect.specs.Lines.{empty_span, first_span, if_empty};
-ghost use Rattle.pd_expect.specs.Lines.{margin_of, no_contract_of, optional_span, packet_of, quantity_at, quoted, side_named, span_at};
+ghost use Rattle.pd_expect.specs.Lines.{all_buts, at_most_of, has_text, is_of_no_fault, most_but, with_buts};
+ghost use Rattle.pd_expect.specs.Lines.{margin_in, margin_of, margin_over, no_contract_of, no_fault_of};
+ghost use Rattle.pd_expect.specs.Lines.{no_named, no_of, optional_span, packet_of, quantity_at, quoted, side_named, span_at};
+ghost use Rattle.pd_expect.specs.Lines.{words_of};
 ghost use Rattle.pd_expect.specs.Lines.{at_time, bare_margin, empty_ends, empty_wanted, from_time, no_expectation, optional_power};
-ghost use Rattle.pd_expect.specs.Lines.{period_at, period_by, power_at, test_line, to_time, with_unit_of};
+ghost use Rattle.pd_expect.specs.Lines.{opens, optional_period, optional_port, optional_text, period_at, period_by, told_in};
+ghost use Rattle.pd_expect.specs.Lines.{power_at, test_line, to_time, with_unit_of};
 
+use crate::buts::{behind_buts, behind_of, wrong_text};
 use crate::span::{Span, cut};
 use pd_edit_lines::{next, number};
 use pd_header::{Kind, Side};
@@ -48,8 +53,26 @@ pub enum Expectation {
     Margin {
         least: u64,
     },
+    /// They do so at the end of each of these instants.
+    MarginOver {
+        period: Period,
+        least: u64,
+    },
     /// Nothing goes wrong.
     NoFaults,
+    /// On the port, or on any, nothing goes wrong at any of these instants; or, where it is told so, not what the line has in
+    /// quotation marks.
+    NoFault {
+        port: Option<u64>,
+        told: bool,
+        period: Period,
+    },
+    /// On the port go wrong so many things at the most; those that the line excepts, if it does, aren't counted.
+    FaultsAtMost {
+        port: u64,
+        most: u64,
+        but: bool,
+    },
     /// What the line has in quotation marks goes wrong on the port.
     Fault {
         port: u64,
@@ -83,12 +106,14 @@ pub enum TestLine {
     EmptyRange(Span),
     /// It would be an expectation of a margin, but for the unit that this number lacks.
     BareMargin(u64),
+    /// It would be an expectation of a fault, but no fault is told in its words.
+    NoFaultText,
     /// It begins as one of the others, and is none.
     NoTest,
 }
 
 /// The kinds of messages that have names.
-const KINDS: [Kind; 13] = [
+pub(crate) const KINDS: [Kind; 13] = [
     Kind::GoodCrc,
     Kind::Accept,
     Kind::Reject,
@@ -124,7 +149,7 @@ fn is_comment(word: &[u8]) -> bool
 }
 
 /// What stands behind a word.
-fn after_word<'a>(word: &[u8], line: &'a [u8]) -> Option<&'a [u8]>
+pub(crate) fn after_word<'a>(word: &[u8], line: &'a [u8]) -> Option<&'a [u8]>
     ensures { option_map (λ x. words x.now) result ≡ after_word word.now (words line.now) }
 {
     let (first, rest) = next(line)?;
@@ -132,7 +157,7 @@ fn after_word<'a>(word: &[u8], line: &'a [u8]) -> Option<&'a [u8]>
 }
 
 /// The first word as a number, and what stands behind it.
-fn number_at(line: &[u8]) -> Option<(u64, &[u8])>
+pub(crate) fn number_at(line: &[u8]) -> Option<(u64, &[u8])>
     ensures { option_map (λ x. (x.0, words x.1.now)) result ≡ number_at (words line.now) }
 {
     let (word, rest) = next(line)?;
@@ -315,12 +340,11 @@ fn contract_of(line: &[u8]) -> Option<Expectation>
     }
 }
 
-/// `contract PORT TIME`.
+/// `PORT TIME`.
 fn no_contract_of(line: &[u8]) -> Option<Expectation>
     ensures { result ≡ no_contract_of (words line.now) }
 {
-    let rest = after_word(b"contract", line)?;
-    let (port, rest) = number_at(rest)?;
+    let (port, rest) = number_at(line)?;
     let (period, rest) = period_at(rest)?;
     let expectation = Expectation::Contract {
         port,
@@ -334,38 +358,107 @@ fn no_contract_of(line: &[u8]) -> Option<Expectation>
     }
 }
 
-/// `at_least POWER`.
-fn margin_of(line: &[u8]) -> Option<Expectation>
-    ensures { result ≡ margin_of (words line.now) }
+/// The instants over which a margin is expected.
+fn margin_over(least: u64, line: &[u8]) -> Option<Expectation>
+    ensures { result ≡ margin_over least (words line.now) }
 {
-    let rest = after_word(b"at_least", line)?;
-    let (least, rest) = power_at(rest)?;
+    let (period, rest) = period_at(line)?;
     if is_over(rest) {
-        Some(Expectation::Margin { least })
+        Some(Expectation::MarginOver { period, least })
     } else {
         None
     }
 }
 
-/// `margin at_least NUMBER`: the number, whose unit is left out.
+/// The same, or nothing where it is expected of the whole run.
+fn margin_in(least: u64, line: &[u8]) -> Option<Expectation>
+    ensures { result ≡ margin_in least (words line.now) }
+{
+    if is_over(line) {
+        Some(Expectation::Margin { least })
+    } else {
+        margin_over(least, line)
+    }
+}
+
+/// `at_least POWER [TIME]`.
+fn margin_of(line: &[u8]) -> Option<Expectation>
+    ensures { result ≡ margin_of (words line.now) }
+{
+    let rest = after_word(b"at_least", line)?;
+    let (least, rest) = power_at(rest)?;
+    margin_in(least, rest)
+}
+
+/// `margin at_least NUMBER [TIME]`: the number, whose unit is left out.
 fn bare_margin(line: &[u8]) -> Option<u64>
     ensures { result ≡ bare_margin (words line.now) }
 {
     let rest = after_word(b"margin", line)?;
     let rest = after_word(b"at_least", rest)?;
     let (bare, rest) = number_at(rest)?;
-    if is_over(rest) { Some(bare) } else { None }
+    let _ = margin_in(bare, rest)?;
+    Some(bare)
 }
 
-/// `none`.
-fn faults_of(line: &[u8]) -> Option<Expectation>
-    ensures { result ≡ faults_of (words line.now) }
+/// The line is over behind all words that are excepted.
+fn all_buts(port: u64, most: u64, rest: &[u8]) -> Option<Expectation>
+    ensures { result ≡ all_buts port most rest.now }
 {
-    let rest = after_word(b"none", line)?;
-    if is_over(rest) {
-        Some(Expectation::NoFaults)
+    if is_over(behind_buts(rest, rest)) {
+        let but = true;
+        Some(Expectation::FaultsAtMost { port, most, but })
     } else {
         None
+    }
+}
+
+/// `but "WORDS"`, once or more often.
+fn with_buts(line: &[u8], port: u64, most: u64, rest: &[u8]) -> Option<Expectation>
+    ensures { result ≡ with_buts line.now port most (words rest.now) }
+{
+    let named = after_word(b"but", rest)?;
+    match next(named) {
+        Some((word, _)) if opens(word) => all_buts(port, most, behind_of(line)),
+        _ => None,
+    }
+}
+
+/// `[but "WORDS"]..`.
+fn most_but(line: &[u8], port: u64, most: u64, rest: &[u8]) -> Option<Expectation>
+    ensures { result ≡ most_but line.now port most (words rest.now) }
+{
+    if is_over(rest) {
+        let but = false;
+        return Some(Expectation::FaultsAtMost { port, most, but });
+    }
+    with_buts(line, port, most, rest)
+}
+
+/// `PORT at_most NUMBER [but "WORDS"]..`.
+fn at_most_of(line: &[u8], rest: &[u8]) -> Option<Expectation>
+    ensures { result ≡ at_most_of line.now (words rest.now) }
+{
+    let (port, rest) = number_at(rest)?;
+    let rest = after_word(b"at_most", rest)?;
+    let (most, rest) = number_at(rest)?;
+    most_but(line, port, most, rest)
+}
+
+/// `none`, or a port and how many.
+fn faults_of(line: &[u8], rest: &[u8]) -> Option<Expectation>
+    ensures { result ≡ faults_of line.now (words rest.now) }
+{
+    match next(rest) {
+        None => None,
+        Some((word, more)) if word == b"none".as_slice() => {
+            if is_over(more) {
+                Some(Expectation::NoFaults)
+            } else {
+                None
+            }
+        }
+        Some(_) => at_most_of(line, rest),
     }
 }
 
@@ -388,6 +481,120 @@ fn fault_of(line: &[u8], rest: &[u8]) -> Option<Expectation>
     } else {
         None
     }
+}
+
+/// A port, where there is one, and what stands behind it.
+fn optional_port(line: &[u8]) -> (Option<u64>, &[u8])
+    ensures { (result.0, words result.1.now) ≡ optional_port (words line.now) }
+{
+    match number_at(line) {
+        None => (None, line),
+        Some((port, rest)) => (Some(port), rest),
+    }
+}
+
+fn opens(word: &[u8]) -> bool
+    ensures { result ≡ opens word.now }
+{
+    match word {
+        [] => false,
+        [byte, ..] => *byte == b'"',
+    }
+}
+
+/// Whether a line has words in quotation marks here, and what stands behind them.
+fn optional_text<'a>(line: &'a [u8], rest: &'a [u8]) -> Option<(bool, &'a [u8])>
+    ensures { option_map (λ x. (x.0, words x.1.now)) result ≡ optional_text line.now (words rest.now) }
+{
+    match next(rest) {
+        Some((word, _)) if opens(word) => {
+            let (_, behind) = quoted(line)?;
+            Some((true, behind))
+        }
+        _ => Some((false, rest)),
+    }
+}
+
+/// Some instants, or all of the run.
+fn optional_period(line: &[u8]) -> Option<(Period, &[u8])>
+    ensures { option_map (λ x. (x.0, words x.1.now)) result ≡ optional_period (words line.now) }
+{
+    if is_over(line) {
+        let period = Period { from: 0, to: None };
+        return Some((period, line));
+    }
+    period_at(line)
+}
+
+/// What isn't to go wrong on a port.
+fn told_in(port: Option<u64>, told: bool, line: &[u8]) -> Option<Expectation>
+    ensures { result ≡ told_in port (told, words line.now) }
+{
+    let (period, rest) = optional_period(line)?;
+    if is_over(rest) {
+        Some(Expectation::NoFault { port, told, period })
+    } else {
+        None
+    }
+}
+
+/// `[PORT] ["WORDS"] [TIME]`.
+fn no_fault_of(line: &[u8], rest: &[u8]) -> Option<Expectation>
+    ensures { result ≡ no_fault_of line.now (words rest.now) }
+{
+    let (port, rest) = optional_port(rest);
+    let (told, rest) = optional_text(line, rest)?;
+    told_in(port, told, rest)
+}
+
+/// What isn't to be, by the word behind `no` and what stands behind that.
+fn no_named(line: &[u8], word: &[u8], rest: &[u8]) -> Option<Expectation>
+    ensures { result ≡ no_named line.now word.now (words rest.now) }
+{
+    if word == b"contract".as_slice() {
+        return no_contract_of(rest);
+    }
+    if word == b"fault".as_slice() {
+        return no_fault_of(line, rest);
+    }
+    None
+}
+
+/// What isn't to be, by what stands behind `no`.
+fn no_of(line: &[u8], rest: &[u8]) -> Option<Expectation>
+    ensures { result ≡ no_of line.now (words rest.now) }
+{
+    let (word, rest) = next(rest)?;
+    no_named(line, word, rest)
+}
+
+/// What stands in the quotation marks of a line, and nothing where it has none.
+pub(crate) fn words_of(line: &[u8]) -> &[u8]
+    ensures { result.now ≡ words_of (quoted line.now) }
+{
+    match quoted(line) {
+        Some((words, _)) => words,
+        None => b"",
+    }
+}
+
+/// Whether what the line has in quotation marks is expected.
+fn has_text(expectation: &Expectation) -> bool
+    ensures { result ≡ has_text expectation.now }
+{
+    match *expectation {
+        Expectation::Fault { .. } => true,
+        Expectation::NoFault { told, .. } => told,
+        Expectation::FaultsAtMost { but, .. } => but,
+        _ => false,
+    }
+}
+
+/// Whether no fault is told in the words that are expected.
+fn is_of_no_fault(line: &[u8], expectation: &Expectation) -> bool
+    ensures { result ≡ is_of_no_fault line.now expectation.now }
+{
+    has_text(expectation) && wrong_text(line).is_some()
 }
 
 /// `PORT SIDE NAME between FROM TO`.
@@ -423,13 +630,13 @@ fn expectation_named(line: &[u8], word: &[u8], rest: &[u8]) -> Option<Expectatio
         return contract_of(rest);
     }
     if word == b"no".as_slice() {
-        return no_contract_of(rest);
+        return no_of(line, rest);
     }
     if word == b"margin".as_slice() {
         return margin_of(rest);
     }
     if word == b"faults".as_slice() {
-        return faults_of(rest);
+        return faults_of(line, rest);
     }
     if word == b"fault".as_slice() {
         return fault_of(line, rest);
@@ -517,6 +724,9 @@ fn empty_span(expectation: &Expectation) -> Option<Span>
             empty_ends(period.from, period.to),
             empty_wanted(wanted),
         ),
+        Expectation::MarginOver { period, .. } | Expectation::NoFault { period, .. } => {
+            empty_ends(period.from, period.to)
+        }
         Expectation::Packet { from, to, .. } => if_empty(Span { from, to }),
         _ => None,
     }
@@ -533,12 +743,15 @@ fn no_expectation(bare: Option<u64>) -> TestLine
 }
 
 /// What a line is by what is expected, if anything is.
-fn expect_line(expectation: Option<Expectation>, bare: Option<u64>) -> TestLine
-    ensures { result ≡ expect_line expectation bare }
+fn expect_line(line: &[u8], expectation: Option<Expectation>, bare: Option<u64>) -> TestLine
+    ensures { result ≡ expect_line line.now expectation bare }
 {
     let Some(expectation) = expectation else {
         return no_expectation(bare);
     };
+    if is_of_no_fault(line, &expectation) {
+        return TestLine::NoFaultText;
+    }
     match empty_span(&expectation) {
         None => TestLine::Expect(expectation),
         Some(span) => TestLine::EmptyRange(span),
@@ -555,7 +768,7 @@ impl TestLine {
             return TestLine::Edit;
         };
         if word == b"expect".as_slice() {
-            return expect_line(expectation_of(line, rest), bare_margin(rest));
+            return expect_line(line, expectation_of(line, rest), bare_margin(rest));
         }
         if word == b"lose".as_slice() {
             return match lost_of(rest) {

@@ -17,6 +17,8 @@ use std::alloc::AllocError;
 pub(crate) enum Sign {
     /// The contract of the port changes.
     Change { port: u64 },
+    /// The contract of a port changes.
+    AnyChange,
     /// A packet of the side and the kind starts on the port.
     Packet { port: u64, side: Side, kind: Kind },
 }
@@ -28,6 +30,7 @@ impl Sign {
     {
         match *self {
             Sign::Change { port: wanted } => port as u64 == wanted && entry.contract.is_some(),
+            Sign::AnyChange => entry.contract.is_some(),
             Sign::Packet {
                 port: wanted,
                 side,

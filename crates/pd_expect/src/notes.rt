@@ -2,7 +2,8 @@
 
 ghost use Rattle.std.specs.Prelude.{◌≡◌, ◌<◌, ◌++◌, IfOk, MatchOption, OnOk, length, map, slice_get, take};
 ghost use Rattle.pd_sweep.specs.Choices.{is_of_port};
-ghost use Rattle.pd_expect.specs.Details.{first_notes, listed, more_words, most_notes, note_of, note_words, notes_at, notes_of};
+ghost use Rattle.pd_expect.specs.Counted.{note_of, notes_at, notes_of};
+ghost use Rattle.pd_expect.specs.Details.{first_notes, listed, more_words, most_notes, note_words};
 ghost use Rattle.pd_expect.specs.Details.{but_words, no_other_words, other_word, others_words};
 
 use pd_line::Fault;
@@ -53,7 +54,7 @@ fn push_faults(
 }
 
 /// Adds the faults of an entry of a port, where that is asked for.
-#[tactic(auto, unfolding(crate::specs::Details::notes_at))]
+#[tactic(auto, unfolding(crate::specs::Counted::notes_at))]
 fn push_entry(
     notes: &mut Vec<FaultNote>,
     wanted: Option<u64>,

@@ -1,16 +1,18 @@
 //! The lines of a test script, one after the other.
 
-ghost use Rattle.std.specs.Prelude.{◌≡◌, ◌+◌, ◌-◌, ◌<◌, ◌≤◌, ◌^◌, ◌++◌, IfOk, OnOk};
+ghost use Rattle.std.specs.Prelude.{[], ◌≡◌, ◌+◌, ◌-◌, ◌<◌, ◌≤◌, ◌^◌, ◌++◌, IfOk, OnOk, unwrap_or};
 ghost use Rattle.std.specs.Str.Lines.{lines};
 ghost use Rattle.pd_scenario.specs.Plans.{plan_of};
 ghost use Rattle.pd_text.specs.Fronts.{front_of_file};
 ghost use Rattle.pd_expect.specs.Details.{details};
+ghost use Rattle.pd_expect.specs.Lines.{quoted, wrong_text};
 ghost use Rattle.pd_expect.specs.Named.{script_lines};
 ghost use Rattle.pd_expect.specs.Sentences.{last_time, late_time, port_of, unknown_port};
 ghost use Rattle.pd_expect.specs.Tests.{AnswersAs, Expects, ExpectsInTime, IsAnswer, Judges, Loses, Tests, answered, no_test, one_refused};
-ghost use Rattle.pd_expect.specs.Words.{bare_margin_line, empty_range_line, failure_line, late_line, no_test_line, time_word};
+ghost use Rattle.pd_expect.specs.Words.{bare_margin_line, empty_range_line, failure_line, late_line, no_test_line, no_text_line, time_word};
 ghost use Rattle.pd_expect.specs.declared.lines.TestLine.TheVariants.{Edit as line_is_edit};
 
+use crate::buts::wrong_text;
 use crate::details::details;
 use crate::found::{Found, found_in, is_met, last_time, port_of, time_word};
 use crate::loss::lose;
@@ -18,6 +20,7 @@ use crate::named::without_mark;
 use crate::tally::TestTally;
 use crate::words::{
     push_bare_margin, push_empty_range, push_failure, push_late, push_loss, push_no_test,
+    push_no_text,
 };
 use crate::{Expectation, Lost, Span, TestLine};
 use pd_edit_lines::EditFault;
@@ -76,9 +79,9 @@ fn push_unmet<const N: usize, T: Runner<N>>(
     found: &Found,
 ) -> Result<(), AllocError>
     ensures { OnOk result (text.new.items ≡ text.old.items
-        ++ failure_line at.now line.now found.now (details expectation.now found.now (T.entries run.now))) }
+        ++ failure_line at.now line.now found.now (details expectation.now line.now found.now (T.entries run.now))) }
 {
-    let details = details(alloc, expectation, run, found)?;
+    let details = details(alloc, expectation, run, line, found)?;
     push_failure(alloc, text, at, line, found, details.as_slice())
 }
 
@@ -99,7 +102,7 @@ fn judge<const N: usize, T: Runner<N>>(
     ensures room { IfOk result (λ report. answered report.tally ≤ answered tally + 1) }
 {
     run.replace(alloc, scenario, meter)?;
-    let found = found_in(expectation, run, scenario, line);
+    let found = found_in(alloc, expectation, run, scenario, line)?;
     let mut text = Vec::new(alloc);
     if is_met(expectation, &found) {
         let tally = tally.one_passed();
@@ -268,6 +271,34 @@ fn refuse_margin(
     Ok(TestReport { text, tally })
 }
 
+/// Words of a line in which no fault is told, and nothing where it has none.
+fn wrong_words(line: &[u8]) -> &[u8]
+    ensures { result.now ≡ unwrap_or (wrong_text (quoted line.now)) [] }
+{
+    match wrong_text(line) {
+        Some(words) => words,
+        None => b"",
+    }
+}
+
+/// Says that no fault is told in the words of a line.
+fn refuse_text(
+    alloc: Global,
+    at: &Front,
+    line: &[u8],
+    tally: TestTally,
+) -> Result<TestReport, AllocError>
+    requires room { answered tally < 2 ^ 64 - 1 }
+    ensures text { IfOk result (λ report. report.text.items ≡ no_text_line at.now (unwrap_or (wrong_text (quoted line.now)) [])) }
+    ensures tally { IfOk result (λ report. report.tally ≡ one_refused tally) }
+    ensures room { IfOk result (λ report. answered report.tally ≤ answered tally + 1) }
+{
+    let mut text = Vec::new(alloc);
+    push_no_text(alloc, &mut text, at, wrong_words(line))?;
+    let tally = tally.one_refused();
+    Ok(TestReport { text, tally })
+}
+
 /// What a line of a test script comes to.
 fn answer_line<const N: usize, T: Runner<N>>(
     alloc: Global,
@@ -291,6 +322,7 @@ fn answer_line<const N: usize, T: Runner<N>>(
         TestLine::Lose(lost) => lose_named(alloc, run, scenario, at, &lost, tally, meter),
         TestLine::EmptyRange(span) => refuse_range(alloc, at, span, tally),
         TestLine::BareMargin(bare) => refuse_margin(alloc, at, bare, tally),
+        TestLine::NoFaultText => refuse_text(alloc, at, line, tally),
         TestLine::NoTest => refuse(alloc, at, line, tally),
     }
 }

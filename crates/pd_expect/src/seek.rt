@@ -15,7 +15,7 @@ use pd_run::{Note, Runner};
 use pd_tell::side_text;
 
 /// Whether a fault is told in these words.
-fn is_told(fault: Fault, words: &[u8]) -> bool
+pub(crate) fn is_told(fault: Fault, words: &[u8]) -> bool
     ensures { result ≡ bytes_eq (fault_words fault) words.now }
 {
     fault_words(fault).as_slice() == words
@@ -121,4 +121,25 @@ impl Sought {
         }
         found
     }
+}
+
+/// Whether a packet of a side and a kind starts on a port at one of these times, in microseconds.
+pub(crate) fn has_packet<const N: usize, T: Runner<N>>(
+    run: &T,
+    port: u64,
+    side: Side,
+    kind: Kind,
+    from: u64,
+    to: u64,
+) -> bool
+    ensures { result ≡ list_any (has_packet port side kind from to) (T.entries run.now) }
+{
+    let sought = Sought {
+        port,
+        side,
+        kind,
+        from,
+        to,
+    };
+    sought.is_in(run)
 }

@@ -22,7 +22,7 @@ fn place_of(bytes: &[u8], byte: u8) -> Option<usize>
 }
 
 /// The bytes before the first of a kind, and those behind it.
-pub(crate) fn cut(byte: u8, bytes: &[u8]) -> Option<(&[u8], &[u8])>
+pub fn cut(byte: u8, bytes: &[u8]) -> Option<(&[u8], &[u8])>
     ensures value { option_map (λ x. (x.0.now, x.1.now)) result ≡ cut byte bytes.now }
     ensures lengths { IfSome result (λ x. length x.0.now + 1 + length x.1.now ≡ length bytes.now) }
 {
@@ -54,7 +54,7 @@ fn later_ends<'a>(word: &'a [u8], before: &[u8], behind: &'a [u8]) -> Option<(&'
 }
 
 /// The ends of `A..B`, around its two dots.
-fn ends_of(word: &[u8]) -> Option<(&[u8], &[u8])>
+pub fn ends_of(word: &[u8]) -> Option<(&[u8], &[u8])>
     ensures { option_map (λ x. (x.0.now, x.1.now)) result ≡ ends_of word.now }
 {
     let (before, behind) = cut(b'.', word)?;

@@ -4,16 +4,20 @@ ghost use Rattle.std.specs.Prelude.{◌≡◌, ◌++◌, OnOk, decimal};
 ghost use Rattle.pd_text.specs.Pieces.{piece_of};
 ghost use Rattle.pd_edit_lines.specs.Words.{next, words};
 ghost use Rattle.pd_expect.specs.Words.{contract_words, failure_line, found_words, faults_word, known_words};
-ghost use Rattle.pd_expect.specs.Words.{empty_range_line, form_behind, form_named, form_of, late_line, loss_line, loss_words, there_words};
-ghost use Rattle.pd_expect.specs.Words.{empty_range_words, late_words, loss_piece, no_packet_words, no_test_line, no_test_words};
+ghost use Rattle.pd_expect.specs.Words.{empty_range_line, form_behind, form_named, form_of, late_line, loss_line, loss_words};
+ghost use Rattle.pd_expect.specs.Words.{there_words};
+ghost use Rattle.pd_expect.specs.Words.{empty_range_words, no_text_line, no_text_words, late_words, left_words, low_words};
+ghost use Rattle.pd_expect.specs.Words.{loss_piece, no_packet_words, no_test_line, no_test_words};
 ghost use Rattle.pd_expect.specs.Words.{bare_margin_line, bare_margin_words, numbered_piece, stands_of, there};
 
+use crate::fault_texts::push_near_text;
 use crate::found::Found;
 use crate::loss::LoseFault;
-use crate::{Break, Span};
+use crate::{Break, Low, Span};
 use itoa::Buffer;
 use pd_edit_lines::{EditFault, next};
 use pd_objects::Contract;
+use pd_report::Margin;
 use pd_scene::refused_at;
 use pd_sweep::push_obstacle;
 use pd_tell::push_number;
@@ -75,6 +79,26 @@ fn stands_of(broken: &Option<Break>) -> Option<Contract>
     }
 }
 
+/// Writes what is left at an instant.
+fn push_left(text: &mut Vec<u8>, margin: &Margin) -> Result<(), AllocError>
+    ensures { OnOk result (text.new.items ≡ text.old.items ++ left_words margin.now) }
+{
+    text.extend_from_slice(b"margin ")?;
+    push_number(text, margin.left)?;
+    text.extend_from_slice(b" at ")?;
+    push_number(text, margin.at)
+}
+
+/// Writes the least that is left over a time, where it is too little.
+fn push_least(text: &mut Vec<u8>, low: &Option<Low>) -> Result<(), AllocError>
+    ensures { OnOk result (text.new.items ≡ text.old.items ++ low_words low.now) }
+{
+    match low {
+        None => Ok(()),
+        Some(low) => push_left(text, &low.least),
+    }
+}
+
 /// Writes what there is in place of what is expected.
 #[tactic(auto, unfolding(crate::specs::Words::found_words))]
 fn push_found(text: &mut Vec<u8>, found: &Found) -> Result<(), AllocError>
@@ -82,12 +106,8 @@ fn push_found(text: &mut Vec<u8>, found: &Found) -> Result<(), AllocError>
 {
     match found {
         Found::Contract(broken) => push_contract(text, &stands_of(broken)),
-        Found::Least(margin) => {
-            text.extend_from_slice(b"margin ")?;
-            push_number(text, margin.left)?;
-            text.extend_from_slice(b" at ")?;
-            push_number(text, margin.at)
-        }
+        Found::Least(margin) => push_left(text, margin),
+        Found::Low(low) => push_least(text, low),
         Found::Faults(count) => {
             push_wide(text, *count)?;
             text.extend_from_slice(faults_word(*count))
@@ -145,13 +165,13 @@ fn form_named(word: &[u8]) -> &'static [u8]
         return b"`expect contract PORT TIME [voltage RANGE] [current RANGE] [power at_least POWER]`";
     }
     if word == b"no".as_slice() {
-        return b"`expect no contract PORT TIME`";
+        return b"`expect no contract PORT TIME` or `expect no fault [PORT] [\"WORDS\"] [TIME]`";
     }
     if word == b"margin".as_slice() {
-        return b"`expect margin at_least POWER`";
+        return b"`expect margin at_least POWER [TIME]`";
     }
     if word == b"faults".as_slice() {
-        return b"`expect faults none`";
+        return b"`expect faults none` or `expect faults PORT at_most NUMBER [but \"WORDS\"]..`";
     }
     if word == b"fault".as_slice() {
         return b"`expect fault PORT \"WORDS\"`";
@@ -159,7 +179,7 @@ fn form_named(word: &[u8]) -> &'static [u8]
     if word == b"packet".as_slice() {
         return b"`expect packet PORT SIDE NAME between FROM TO`";
     }
-    b"contract, no contract, margin, faults, fault or packet behind `expect`"
+    b"contract, no contract, no fault, margin, faults, fault or packet behind `expect`"
 }
 
 /// The form of a line, by what stands behind `expect`.
@@ -274,6 +294,45 @@ pub(crate) fn push_bare_margin(
     let mut sentence = Vec::new(alloc);
     push_bare_margin_words(&mut sentence, bare)?;
     front.say(text, b"", sentence.as_slice(), b"")
+}
+
+/// Writes that no fault is told in these words, and in which they are.
+fn push_no_text_words(text: &mut Vec<u8>, words: &[u8]) -> Result<(), AllocError>
+    ensures { OnOk result (text.new.items ≡ text.old.items ++ no_text_words words.now) }
+{
+    push_pieces(
+        text,
+        Form::Words,
+        &[
+            LineWords(b"no fault is told as `"),
+            LineWords(words),
+            LineWords(
+                b"`; there are `SIDE no GoodCRC MESSAGE`, `soft reset by SIDE`, `hard reset by SIDE`, ",
+            ),
+            LineWords(
+                b"`source disabled`, `sink disabled`, `cable unread`, `mismatch`, `reject`, `wait` and ",
+            ),
+            LineWords(b"`event N ignored`"),
+        ],
+    )
+}
+
+/// Writes that a line is refused for words in which no fault is told.
+#[tactic(auto, unfolding(crate::specs::Words::no_text_line))]
+pub(crate) fn push_no_text(
+    alloc: Global,
+    text: &mut Vec<u8>,
+    at: &Front,
+    words: &[u8],
+) -> Result<(), AllocError>
+    ensures { OnOk result (text.new.items ≡ text.old.items ++ no_text_line at.now words.now) }
+{
+    let front = refused_at(alloc, at, EditFault::Syntax)?;
+    let mut sentence = Vec::new(alloc);
+    push_no_text_words(&mut sentence, words)?;
+    let mut hint = Vec::new(alloc);
+    push_near_text(&mut hint, words)?;
+    front.say(text, b"", sentence.as_slice(), hint.as_slice())
 }
 
 /// Writes that a time is after the end.

@@ -1,4 +1,4 @@
-use Rattle.pd_expect.specs.Details.{notes_at}
+use Rattle.pd_expect.specs.Counted.{notes_at}
 use Rattle.pd_sweep.proofs.FoldLemmas.{flat_more}
 use Rattle.pd_expect.proofs.notes.notes_of.Goals as goal
 

@@ -1,6 +1,6 @@
 use Rattle.std.proofs.Common.{◌≡◌, take}
 use Rattle.std.specs.List.{flat_map}
-use Rattle.pd_expect.specs.Details.{notes_at}
+use Rattle.pd_expect.specs.Counted.{notes_at}
 use Rattle.pd_expect.proofs.notes.notes_of.Given as goal
 
 abbrev pub invariant-loop-index : goal.invariant-loop-index

@@ -1,5 +1,5 @@
 use Rattle.std.proofs.Common.{◌≡◌, ◌++◌, map, take}
-use Rattle.pd_expect.specs.Details.{note_of}
+use Rattle.pd_expect.specs.Counted.{note_of}
 use Rattle.pd_expect.proofs.notes.push_faults.Given as goal
 
 abbrev pub invariant-loop-fault : goal.invariant-loop-fault
