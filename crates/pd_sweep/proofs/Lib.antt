@@ -1,5 +1,5 @@
 mod BesideLemmas
-mod ChangeLemmas
+pub mod ChangeLemmas
 mod EffectLemmas
 pub mod FoldLemmas
 mod HitLemmas

@@ -24,7 +24,7 @@ pub struct Effect {
 
 impl Effect {
     /// What the run of a variant comes to beside the base, up to an end.
-    pub(crate) fn of<const N: usize, T: Runner<N>>(
+    pub fn of<const N: usize, T: Runner<N>>(
         alloc: Global,
         run: &T,
         variant: &Scenario<N>,

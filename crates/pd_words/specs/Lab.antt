@@ -22,6 +22,10 @@ several name = record (new_rule name) { required = true; action = Some Append }
 abbrev pub value : Text → Rule
 value name = record (new_rule name) { long = Some name; action = Some Set }
 
+-- the same, which stands once or more
+abbrev pub values : Text → Rule
+values name = record (new_rule name) { long = Some name; required = true; action = Some Append }
+
 abbrev pub letter : ℕ → Text → Rule
 letter code name = record (new_rule name) { short = Some code; action = Some Set }
 
@@ -33,6 +37,7 @@ rule (slot.Must name) = must name.now
 rule (slot.May name) = may name.now
 rule (slot.Several name) = several name.now
 rule (slot.Value name) = value name.now
+rule (slot.Values name) = values name.now
 rule (slot.Letter code name) = letter code name.now
 rule (slot.Flag name) = flag name.now
 
@@ -70,12 +75,16 @@ sweep = command (codes "sweep") (must (codes "SCENARIO") ∷ may (codes "EDITS")
     ∷ value (codes "port") ∷ value (codes "from") ∷ value (codes "to") ∷ value (codes "kind") ∷ flag (codes "damage")
     ∷ value (codes "in-a-row") ∷ value (codes "reserve") ∷ flag (codes "json") ∷ flag (codes "csv") ∷ [])
 
+abbrev pub vary : Shape
+vary = command (codes "vary") (must (codes "SCENARIO") ∷ may (codes "EDITS") ∷ keep_going ∷ values (codes "set") ∷ value (codes "tell")
+    ∷ flag (codes "json") ∷ flag (codes "csv") ∷ [])
+
 abbrev pub test : Shape
 test = command (codes "test") (several (codes "SCRIPT") ∷ flag (codes "json") ∷ [])
 
 abbrev pub draw : Shape
 draw = command (codes "draw") (must (codes "SCENARIO") ∷ may (codes "EDITS") ∷ keep_going ∷ out
-    ∷ value (codes "port") ∷ value (codes "from") ∷ value (codes "to") ∷ value (codes "width") ∷ [])
+    ∷ value (codes "port") ∷ value (codes "from") ∷ value (codes "to") ∷ value (codes "width") ∷ flag (codes "holds") ∷ [])
 
 abbrev pub page : Shape
 page = command (codes "page") (must (codes "SCENARIO") ∷ may (codes "EDITS") ∷ keep_going ∷ out ∷ value (codes "page") ∷ [])
@@ -90,7 +99,7 @@ decode = command (codes "decode") (may (codes "FILE") ∷ flag (codes "json") �
 unfoldable pub lab : App
 lab = record {
   top = record (new_shape (codes "pdlab")) { is_leaf = false };
-  subs = live ∷ show ∷ why ∷ guarantee ∷ sweep ∷ test ∷ draw ∷ page ∷ explain ∷ decode ∷ [];
+  subs = live ∷ show ∷ why ∷ guarantee ∷ sweep ∷ vary ∷ test ∷ draw ∷ page ∷ explain ∷ decode ∷ [];
 }
 
 abbrev pub with_command : App → Text → List Rule → App

@@ -40,6 +40,7 @@ pub data Asked : Type 0 where
   why : Files → WhyOptions → Asked
   guarantee : Files → (json : Bool) → Asked
   sweep : Files → SweepOptions → Asked
+  vary : Files → (sets : List Text) → (tell : Option Text) → Form → Asked
   test : (scripts : List Text) → (json : Bool) → Asked
   draw : Files → DrawOptions → Asked
   page : Files → (page : Option Text) → Asked
@@ -167,6 +168,10 @@ sweep_by rows = option_and_then (λ files. option_and_then (λ window. option_an
     })) (form_by rows)) (behind_by rows)) (given_by named (first_of (codes "kind") rows))) (quantity_of Milliwatts (codes "reserve") rows))
     (window_by rows)) (scene_by rows)
 
+abbrev pub vary_by : List Row → Option Asked
+vary_by rows = option_and_then (λ files. option_and_then (λ form. option_map (λ sets.
+    vary files sets (first_of (codes "tell") rows) form) (all_of (codes "set") rows)) (form_by rows)) (scene_by rows)
+
 abbrev pub test_by : List Row → Option Asked
 test_by rows = option_and_then (λ scripts. if is_twice scripts then None else Some (test scripts (is_on (codes "json") rows)))
     (all_of (codes "SCRIPT") rows)
@@ -180,8 +185,11 @@ abbrev pub width_by : List Row → Option ℕ
 width_by rows = option_and_then width_with (number_of (codes "width") rows)
 
 abbrev pub draw_by : List Row → Option Asked
-draw_by rows = option_and_then (λ files. option_and_then (λ window. option_map (λ width.
-    draw files (record { window = window; width = width })) (width_by rows)) (window_by rows)) (scene_by rows)
+draw_by rows = option_and_then (λ files. option_and_then (λ window. option_map (λ width. draw files (record {
+  window = window;
+  width = width;
+  holds = is_on (codes "holds") rows;
+})) (width_by rows)) (window_by rows)) (scene_by rows)
 
 abbrev pub page_by : List Row → Option Asked
 page_by rows = option_map (λ files. page files (first_of (codes "page") rows)) (scene_by rows)
@@ -202,11 +210,12 @@ asked_by found = if bytes_eq found.0 (codes "live") then live_by found.1
     else (if bytes_eq found.0 (codes "why") then why_by found.1
     else (if bytes_eq found.0 (codes "guarantee") then guarantee_by found.1
     else (if bytes_eq found.0 (codes "sweep") then sweep_by found.1
+    else (if bytes_eq found.0 (codes "vary") then vary_by found.1
     else (if bytes_eq found.0 (codes "test") then test_by found.1
     else (if bytes_eq found.0 (codes "draw") then draw_by found.1
     else (if bytes_eq found.0 (codes "page") then page_by found.1
     else (if bytes_eq found.0 (codes "explain") then explain_by found.1
-    else (if bytes_eq found.0 (codes "decode") then decode_by found.1 else None)))))))))
+    else (if bytes_eq found.0 (codes "decode") then decode_by found.1 else None))))))))))
 
 -- ---- a whole line: words that clap takes, and what the command is that they name
 
@@ -233,6 +242,8 @@ asked (task.Show scene options) = show (files scene) options
 asked (task.Why scene options) = why (files scene) options
 asked (task.Guarantee scene json) = guarantee (files scene) json
 asked (task.Sweep scene options) = sweep (files scene) options
+asked (task.Vary scene options) =
+    vary (files scene) (map (λ x. x.now) options.sets.items) (option_map (λ x. x.now) options.tell) options.form
 asked (task.Test scripts json) = test (map (λ x. x.now) scripts.items) json
 asked (task.Draw scene options) = draw (files scene) options
 asked (task.Page scene name) = page (files scene) (option_map (λ x. x.now) name)

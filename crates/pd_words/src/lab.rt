@@ -19,13 +19,15 @@ pub enum Slot<'a> {
     Several(&'a str),
     /// An option with a word behind it.
     Value(&'a str),
+    /// The same, which stands once or more.
+    Values(&'a str),
     /// An option of a letter with a word behind it.
     Letter(char, &'a str),
     /// An option that is alone.
     Flag(&'a str),
 }
 
-use Slot::{Flag, Letter, May, Must, Several, Value};
+use Slot::{Flag, Letter, May, Must, Several, Value, Values};
 
 /// The same, as the library has it.
 fn argument<'a>(alloc: Global, slot: Slot<'a>) -> Arg<'a>
@@ -39,6 +41,10 @@ fn argument<'a>(alloc: Global, slot: Slot<'a>) -> Arg<'a>
             .required(true)
             .action(ArgAction::Append),
         Value(name) => Arg::new(alloc, name).long(name).action(ArgAction::Set),
+        Values(name) => Arg::new(alloc, name)
+            .long(name)
+            .required(true)
+            .action(ArgAction::Append),
         Letter(letter, name) => Arg::new(alloc, name).short(letter).action(ArgAction::Set),
         Flag(name) => Arg::new(alloc, name).long(name).action(ArgAction::SetTrue),
     }
@@ -128,9 +134,19 @@ const SWEEP: [Slot; 12] = [
     CSV,
 ];
 
+const VARY: [Slot; 7] = [
+    SCENARIO,
+    EDITS,
+    KEEP_GOING,
+    Values("set"),
+    Value("tell"),
+    JSON,
+    CSV,
+];
+
 const TEST: [Slot; 2] = [Several("SCRIPT"), JSON];
 
-const DRAW: [Slot; 8] = [
+const DRAW: [Slot; 9] = [
     SCENARIO,
     EDITS,
     KEEP_GOING,
@@ -139,6 +155,7 @@ const DRAW: [Slot; 8] = [
     FROM,
     TO,
     Value("width"),
+    Flag("holds"),
 ];
 
 const PAGE: [Slot; 5] = [SCENARIO, EDITS, KEEP_GOING, OUT, Value("page")];
@@ -155,6 +172,7 @@ pub fn slots_of(command: &str) -> &'static [Slot<'static>] {
         "why" => &WHY,
         "guarantee" => &GUARANTEE,
         "sweep" => &SWEEP,
+        "vary" => &VARY,
         "test" => &TEST,
         "draw" => &DRAW,
         "page" => &PAGE,
@@ -174,6 +192,7 @@ pub fn lab<'a>(alloc: Global) -> Result<Command<'a>, AllocError>
     let program = with_command(alloc, program, "why", &WHY)?;
     let program = with_command(alloc, program, "guarantee", &GUARANTEE)?;
     let program = with_command(alloc, program, "sweep", &SWEEP)?;
+    let program = with_command(alloc, program, "vary", &VARY)?;
     let program = with_command(alloc, program, "test", &TEST)?;
     let program = with_command(alloc, program, "draw", &DRAW)?;
     let program = with_command(alloc, program, "page", &PAGE)?;

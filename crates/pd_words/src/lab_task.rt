@@ -59,11 +59,20 @@ pub struct SweepOptions {
     pub form: Form,
 }
 
-/// What is drawn of a run, so many pixels wide, 1,000 to 10,000.
+/// Which edit lines are varied, each with its values, and what is measured of each run, where that is said.
+#[derive(Drop)]
+pub struct VaryOptions<'a> {
+    pub sets: Vec<&'a str>,
+    pub tell: Option<&'a str>,
+    pub form: Form,
+}
+
+/// What is drawn of a run, so many pixels wide, 1,000 to 10,000, and whether what the ports hold is drawn too.
 #[derive(Clone, Copy)]
 pub struct DrawOptions {
     pub window: Window,
     pub width: u32,
+    pub holds: bool,
 }
 
 /// How it is told why a scenario or lines are refused: as JSON objects, or in words; and whether warnings count as refusals.
@@ -86,6 +95,8 @@ pub enum LabTask<'a> {
     Guarantee(Scene<'a>, bool),
     /// What a lost packet leads to.
     Sweep(Scene<'a>, SweepOptions),
+    /// What comes of each combination of values of edit lines.
+    Vary(Scene<'a>, VaryOptions<'a>),
     /// Whether runs are as test scripts expect them.
     Test(Vec<&'a str>, bool),
     /// A picture of a run.

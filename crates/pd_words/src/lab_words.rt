@@ -7,13 +7,13 @@ ghost use Rattle.clap.specs.Words.{all_of, first_of, found_of, kind_of, rows_of,
 ghost use Rattle.pd_words.specs.LabTasks.{asked, asked_by, behind_by, decode_by, draw_by, explain_by, files, form_by, given_by};
 ghost use Rattle.pd_words.specs.LabTasks.{is_on, is_twice, lab_asked, live_by, number_of, scene_by, show_by, sweep_by, test_by};
 ghost use Rattle.pd_words.specs.LabTasks.{is_number, number, page_by, quantity, quantity_of, scene_with, why_by, why_with};
-ghost use Rattle.pd_words.specs.LabTasks.{guarantee_by, why_words, width_by, window_by};
+ghost use Rattle.pd_words.specs.LabTasks.{guarantee_by, vary_by, why_words, width_by, window_by};
 ghost use Rattle.pd_words.specs.Names.{named};
 
 use crate::lab::lab;
 use crate::lab_task::{
-    DrawOptions, ExplainOptions, Form, LabFault, LabTask, Scene, ShowOptions, SweepOptions, Wanted,
-    WhyOptions, Window,
+    DrawOptions, ExplainOptions, Form, LabFault, LabTask, Scene, ShowOptions, SweepOptions,
+    VaryOptions, Wanted, WhyOptions, Window,
 };
 use crate::meant::{meant_command, meant_option, topic_of};
 use crate::names::named;
@@ -399,6 +399,22 @@ fn sweep_of<'a>(matches: &ArgMatches<'a>) -> Result<LabTask<'a>, LabFault<'a>>
     Ok(LabTask::Sweep(scene, options))
 }
 
+/// `vary SCENARIO [EDITS]`
+fn vary_of<'a>(alloc: Global, matches: &ArgMatches<'a>) -> Result<LabTask<'a>, LabFault<'a>>
+    ensures ok { IfOk result (λ task. vary_by (rows_of (found_of matches.now)) ≡ Some (asked task)) }
+    ensures err { IfErr result (λ fault. (fault ≡ LabFault.Memory) ⊎ (vary_by (rows_of (found_of matches.now)) ≡ None)) }
+{
+    let (scene, form) = (scene_of(matches)?, form_of(matches)?);
+    let Some(sets) = all(matches, "set") else {
+        return Err(LabFault::Words(None));
+    };
+    let tell = first(matches, "tell");
+    match sets.to_vec(alloc) {
+        Ok(sets) => Ok(LabTask::Vary(scene, VaryOptions { sets, tell, form })),
+        Err(_) => Err(LabFault::Memory),
+    }
+}
+
 /// How wide a picture is, in pixels.
 ///
 /// # Errors
@@ -424,8 +440,12 @@ fn draw_of<'a>(matches: &ArgMatches<'a>) -> Result<LabTask<'a>, LabFault<'a>>
     ensures { option_map asked (result_ok result) ≡ draw_by (rows_of (found_of matches.now)) }
 {
     let (scene, window) = (scene_of(matches)?, window_of(matches)?);
-    let width = width_of(matches)?;
-    Ok(LabTask::Draw(scene, DrawOptions { window, width }))
+    let options = DrawOptions {
+        window,
+        width: width_of(matches)?,
+        holds: is_on(matches, "holds"),
+    };
+    Ok(LabTask::Draw(scene, options))
 }
 
 /// `page SCENARIO [EDITS]`
@@ -487,6 +507,7 @@ fn task_of<'a>(
         "why" => why_of(matches),
         "guarantee" => guarantee_of(matches),
         "sweep" => sweep_of(matches),
+        "vary" => vary_of(alloc, matches),
         "test" => test_of(alloc, matches),
         "draw" => draw_of(matches),
         "page" => page_of(matches),

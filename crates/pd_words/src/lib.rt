@@ -10,8 +10,8 @@ mod program;
 mod task;
 
 pub use lab_task::{
-    DrawOptions, ExplainOptions, Form, LabFault, LabTask, Scene, ShowOptions, SweepOptions, Wanted,
-    WhyOptions, Window,
+    DrawOptions, ExplainOptions, Form, LabFault, LabTask, Scene, ShowOptions, SweepOptions,
+    VaryOptions, Wanted, WhyOptions, Window,
 };
 pub use lab_words::read_lab_task;
 pub use meant::{meant_command, topic_of};

@@ -7,12 +7,13 @@ ghost use Rattle.pd_words.specs.Meant.{behind_name, front, meant, names, topic};
 use crate::lab::{Slot, slots_of};
 use pd_hints::{is_slip, nearest};
 
-const COMMANDS: [&str; 10] = [
+const COMMANDS: [&str; 11] = [
     "live",
     "show",
     "why",
     "guarantee",
     "sweep",
+    "vary",
     "test",
     "draw",
     "page",
@@ -85,7 +86,7 @@ pub fn meant_command(word: &str) -> Option<&'static str>
 /// The name of an option of several letters.
 fn long_name(slot: Slot<'static>) -> Option<&'static str> {
     match slot {
-        Slot::Value(name) | Slot::Flag(name) => Some(name),
+        Slot::Value(name) | Slot::Values(name) | Slot::Flag(name) => Some(name),
         _ => None,
     }
 }

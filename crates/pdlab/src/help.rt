@@ -8,14 +8,15 @@ pub fn usage_of(word: &str) -> &'static str {
         "why" => "usage: pdlab why [OPTIONS] SCENARIO [EDITS] PORT [AT]",
         "guarantee" => "usage: pdlab guarantee [OPTIONS] SCENARIO [EDITS]",
         "sweep" => "usage: pdlab sweep SCENARIO [EDITS] [OPTIONS]",
+        "vary" => "usage: pdlab vary SCENARIO [EDITS] --set 'LINE=VALUES' [OPTIONS]",
         "test" => "usage: pdlab test [--json] SCRIPT..",
         "draw" => "usage: pdlab draw SCENARIO [EDITS] [OPTIONS]",
         "page" => "usage: pdlab page SCENARIO [EDITS] [OPTIONS]",
         "explain" => "usage: pdlab explain [--json] [--strict] SCENARIO [EDITS]",
         "decode" => "usage: pdlab decode [--json] [FILE]",
         _ => {
-            "usage: pdlab COMMAND ..; there are live, show, why, guarantee, sweep, test, draw, page, explain and \
-             decode; pdlab --help tells of them"
+            "usage: pdlab COMMAND ..; there are live, show, why, guarantee, sweep, vary, test, draw, page, explain \
+             and decode; pdlab --help tells of them"
         }
     }
 }
@@ -34,6 +35,8 @@ usage: pdlab COMMAND ..
                             what is sure for each port, whatever is attached
   sweep SCENARIO [EDITS] [OPTIONS]
                             each packet lost in turn, and what that leads to
+  vary SCENARIO [EDITS] --set 'LINE=VALUES' [OPTIONS]
+                            each combination of values of edit lines, and its run
   test [--json] SCRIPT..    whether runs are as scripts expect them
   draw SCENARIO [EDITS] [OPTIONS]
                             a picture of a run, as SVG for a browser
@@ -242,14 +245,17 @@ Runs the charger of the file SCENARIO, as the edit script EDITS leaves it (one o
 them may be -, standard input), and writes a picture of the run, an SVG that any browser shows:
 the shared budget as a line over time, the contracts of the ports stacked below it,
 and the least margin with its value and its time; and below that a lane for each
-port, with the phases of its source, events, contracts, faults and packets. A
-browser tells more of each where the pointer is on it. Where a line of EDITS is
-refused, nothing is drawn, and standard error says why.
+port, with the phases of its source, events, contracts, faults and packets. A packet
+that is lost or damaged is a red cross, with the event that did it. A browser tells
+more of each where the pointer is on it. Where a line of EDITS is refused, nothing is
+drawn, and standard error says why.
 
   --port P       the lane of this port alone; ports are numbered from 1
   --from T       from this time on: 3s, 54.9ms, or microseconds
   --to T         up to this time
   --width PX     the width of the picture, 1000 to 10000 pixels; 1200 if left out
+  --holds        with what each port holds of the budget, as a broken line from the
+                 contracts of the ports before it
   -o FILE        writes the file FILE in place of standard output
   --keep-going   passes over refused lines of EDITS: they change nothing, and the status
                  is 1 all the same
@@ -283,6 +289,45 @@ status: 0 the page was written, 1 the scenario or a line of EDITS is refused,
         2 the words are others, 3 a file can't be read, or is no page, or a fault
 ";
 
+/// What `vary --help` prints.
+pub const VARY_HELP: &str = "pdlab vary: each combination of values of edit lines, and its run
+
+usage: pdlab vary SCENARIO [EDITS] --set 'LINE=VALUES' [OPTIONS]
+
+Makes edits on the scenario of the file SCENARIO, as the edit script EDITS leaves it
+(one of them may be -, standard input), runs what they leave, and tells what is measured
+of that run: a line for each combination of values, the values of the first --set
+turning slowest. Where an edit is refused, the line says which, by its number and why,
+and nothing is run. There are at most 1000000 lines. These are the names of what may be
+told; those in the first four lines have a port behind them, as power 1
+
+  voltage, current, power      of the port's contract at the end
+  least power, greatest power  of all its contracts
+  less power, more power       for how long its power is less, or more, than without the
+                               edits
+  differs until                until when its contract is another
+  margin, lowest at            the least that is left of the budget, and when that is
+                               first
+  faults, hard resets          how many there are
+
+  --set 'LINE=VALUES'  LINE is a line of an edit script with one place {} in it, and
+                       VALUES are what stands there in turn: with commas between them,
+                       or a range FROM..TO/STEP. Numbers may have units: 60W, 3.25A,
+                       20V, 500ms. It may stand several times
+  --tell NAMES         what is told, with commas between the names: margin, faults, hard
+                       resets where it isn't given
+  --json               a JSON object for each line, with units in its keys (_us, _mv)
+  --csv                comma-separated values, with a head
+  --keep-going         passes over refused lines of EDITS: they change nothing, and the
+                       status is 1 all the same
+
+example: pdlab vary examples/dock_100w.toml --set 'floor 1 {}=45W..65W/5W' \\
+           --tell 'least power 1, less power 2, margin'
+
+status: 0 it was told, 1 the scenario or a line of EDITS is refused, or there is no
+        such port, 2 the words are others, 3 a file can't be read, or a fault
+";
+
 /// What `test --help` prints.
 pub const TEST_HELP: &str = "pdlab test: whether runs are as scripts expect them
 
@@ -292,10 +337,12 @@ Goes through the file SCRIPT, whose line `# scenario FILE` names the scenario, a
 beside it; one SCRIPT may be -, standard input, with the file in this folder. Its other
 lines are those of an edit script, and beside them
 
-  expect contract PORT at TIME [voltage RANGE] [current RANGE]
-  expect no contract PORT at TIME
-  expect margin at_least POWER
+  expect contract PORT TIME [voltage RANGE] [current RANGE] [power at_least POWER]
+  expect no contract PORT TIME
+  expect margin at_least POWER [TIME]
   expect faults none
+  expect no fault [PORT] [\"WORDS\"] [TIME]
+  expect faults PORT at_most NUMBER [but \"WORDS\"]..
   expect fault PORT \"WORDS\"
   expect packet PORT SIDE NAME between FROM TO
   lose NTH NAME of port PORT
@@ -303,10 +350,11 @@ lines are those of an edit script, and beside them
 Each expectation is held against the run of the scenario as the lines before it left
 it. Times are in microseconds, voltages in mV, currents in mA, or have their unit behind
 them, as 54.9ms, 20V and 1.5A; a POWER always has its unit, as 5W. RANGE is a number, or
-two as 1500..3000; TIME means the end of that instant, and a margin is left at the end
-of every one; WORDS are those of show faults; SIDE is src, snk or cbl, and NAME that of
-a message, as Request. lose loses the NTH such packet of the run, wherever edits have
-moved it. What stands behind a # is passed over, and shows are too.
+two as 1500..3000. TIME is at T, from T to T, from T, or to T: it is so at the end of
+each of these instants, and without TIME of all up to the end. WORDS are those of show
+faults; others are refused. SIDE is src, snk or cbl, and NAME that of a message, as
+Request. lose loses the NTH such packet of the run, wherever edits have moved it. What
+stands behind a # is passed over, and shows are too.
 
 Each line that fails is told with what there is, and each that is refused with the
 reason; at the end how many expectations passed and failed. A script that can't be
@@ -406,6 +454,7 @@ pub fn help_of(word: &str) -> &'static str {
         "why" => WHY_HELP,
         "guarantee" => GUARANTEE_HELP,
         "sweep" => SWEEP_HELP,
+        "vary" => VARY_HELP,
         "test" => TEST_HELP,
         "draw" => DRAW_HELP,
         "page" => PAGE_HELP,

@@ -1,4 +1,5 @@
-//! The engineer's desk as a program: `pdlab live`, `show`, `why`, `guarantee`, `sweep`, `test`, `draw`, `page`, `explain` and `decode`.
+//! The engineer's desk as a program: `pdlab live`, `show`, `why`, `guarantee`, `sweep`, `vary`, `test`, `draw`, `page`, `explain` and
+//! `decode`.
 #![tactic(auto)]
 
 mod answers;
@@ -15,6 +16,7 @@ mod runs;
 mod script_file;
 mod sweep;
 mod test;
+mod vary;
 
 use at_keyboard::live;
 use explained::explained;
@@ -30,6 +32,7 @@ use std::rt::{Clock, Env, Files};
 use std::{env, io};
 use sweep::sweep;
 use test::test;
+use vary::vary;
 
 /// How the program ends.
 #[derive(Clone, Copy, Debug, PartialEq, Eq)]
@@ -86,6 +89,7 @@ where
         LabTask::Why(scene, options) => why(rt, errors, scene, &options),
         LabTask::Guarantee(scene, json) => guarantee(rt, errors, scene, json),
         LabTask::Sweep(scene, options) => sweep(rt, errors, scene, &options),
+        LabTask::Vary(scene, options) => vary(rt, errors, scene, &options),
         LabTask::Test(scripts, json) => test(rt, errors, scripts.as_slice(), json),
         LabTask::Draw(scene, options) => draw(rt, errors, scene, &options),
         LabTask::Page(scene, file) => page(rt, errors, scene, file),

@@ -211,6 +211,7 @@ pub fn draw<R: Files + Input + Print + Alloc<A = Global>, E: Print>(
         to: options.window.to,
         width: options.width,
         port: options.window.port,
+        holds: options.holds,
     };
     match draw_text(
         rt.alloc(),

@@ -17,8 +17,9 @@ returns c =
     let why = more _ _ _ _ _ c.in_ok-program-3.ensures show in
     let guarantee = more _ _ _ _ _ c.in_ok-program-4.ensures why in
     let sweep = more _ _ _ _ _ c.in_ok-program-5.ensures guarantee in
-    let test = more _ _ _ _ _ c.in_ok-program-6.ensures sweep in
-    let draw = more _ _ _ _ _ c.in_ok-program-7.ensures test in
-    let page = more _ _ _ _ _ c.in_ok-program-8.ensures draw in
-    let explain = more _ _ _ _ _ c.in_ok-program-9.ensures page in
-    IfOk-weaker c.with_command-10.result _ _ (λ program added. more _ _ _ _ _ added explain) c.with_command-10.ensures
+    let vary = more _ _ _ _ _ c.in_ok-program-6.ensures sweep in
+    let test = more _ _ _ _ _ c.in_ok-program-7.ensures vary in
+    let draw = more _ _ _ _ _ c.in_ok-program-8.ensures test in
+    let page = more _ _ _ _ _ c.in_ok-program-9.ensures draw in
+    let explain = more _ _ _ _ _ c.in_ok-program-10.ensures page in
+    IfOk-weaker c.with_command-11.result _ _ (λ program added. more _ _ _ _ _ added explain) c.with_command-11.ensures

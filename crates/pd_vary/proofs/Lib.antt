@@ -1,0 +1,5 @@
+pub mod NameLemmas
+pub mod PartLemmas
+pub mod RowLemmas
+pub mod Rows
+pub mod SetLemmas

@@ -1,0 +1,51 @@
+use Rattle.std.proofs.Common.{◌∙◌, List, ℕ, inr, sym, subst, arith}
+use Rattle.std.specs.Io.KnownBytes.{Appends}
+use Rattle.std.proofs.lemmas.Result.{err_from_is_err_and}
+use Rattle.pd_device.specs.Device.{WrotePart}
+use Rattle.pd_vary.specs.Varies.{sets_of}
+use Rattle.pd_vary.proofs.RowLemmas.{began_head, began_so_far, began_torn, progress_more, progress_none}
+use Rattle.pd_vary.proofs.SetLemmas.{few_are}
+use Rattle.pd_vary.proofs.walk.vary.Goals as goal
+
+pub returns-in_err-write_all-clause-text : goal.returns-in_err-write_all-clause-text
+returns-in_err-write_all-clause-text g c =
+    let p = err_from_is_err_and c.from_residual-in_err-write_all.result c.from_residual-in_err-write_all.ensures.1 in
+    let part : List ℕ → Type 0 =
+    λ text. WrotePart (g.W.TextOut.taken c.args.writer.now) (g.W.TextOut.taken c.write_all.new.writer) text in
+    rw (p.1) (inr (began_head g.row.N c.args.scenario.now c.args.question.now _ _
+    (subst part (c.as_slice.ensures.value ∙ c.in-Ok-head.ensures) c.in_err-write_all.ensures.text.1)))
+
+pub loop-row-init : goal.loop-row-init
+loop-row-init g c =
+    let whole : List ℕ → Type 0 =
+    λ text. Appends (g.W.TextOut.taken c.args.writer.now) (g.W.TextOut.taken c.write_all.new.writer) text in
+    record {
+      progress =
+          progress_none g.row.N c.args.scenario.now c.args.question.now _ _
+          (subst whole (c.as_slice.ensures.value ∙ c.in-Ok-head.ensures) c.in_ok-write_all.ensures.text);
+      counts = c.in_ok-write_all.ensures.counts;
+    }
+
+pub returns-in_err-text-clause-text : goal.returns-in_err-text-clause-text
+returns-in_err-text-clause-text g c =
+    let p = err_from_is_err_and c.from_residual-in_err-text.result c.from_residual-in_err-text.ensures.1 in
+    let all = few_are (sets_of c.args.question.now) c.in-Some.rows (sym c.in-Some.ensures.value) in
+    rw (p.1) (inr (began_so_far g.row.N c.args.scenario.now c.args.question.now c.loop-row.row _ _
+    (omega (arith, all, c.loop-row-test.true)) c.loop-row.invariant.progress))
+
+pub returns-in_err-write_all-2-clause-text : goal.returns-in_err-write_all-2-clause-text
+returns-in_err-write_all-2-clause-text g c =
+    let p = err_from_is_err_and c.from_residual-in_err-write_all-2.result c.from_residual-in_err-write_all-2.ensures.1 in
+    let all = few_are (sets_of c.args.question.now) c.in-Some.rows (sym c.in-Some.ensures.value) in
+    rw (p.1) (inr (began_torn g.row.N c.args.scenario.now c.args.question.now c.loop-row.row _ _ _ c.in_ok-text.text.items
+    (omega (arith, all, c.loop-row-test.true)) c.loop-row.invariant.progress c.in_ok-text.ensures.value
+    (rw (sym c.as_slice-in-loop-row.ensures.value) c.in_err-write_all-2.ensures.text.1)))
+
+pub loop-row-preserved : goal.loop-row-preserved
+loop-row-preserved g c = record {
+  progress =
+      progress_more g.row.N c.args.scenario.now c.args.question.now c.loop-row.row _ _ _ c.in_ok-text.text.items
+      c.loop-row.invariant.progress c.in_ok-text.ensures.value
+      (rw (sym c.as_slice-in-loop-row.ensures.value) c.in_ok-write_all-2.ensures.text);
+  counts = c.in_ok-write_all-2.ensures.counts ∙ c.loop-row.invariant.counts;
+}

@@ -1,0 +1,135 @@
+//! `pdlab vary SCENARIO [EDITS]`.
+
+use crate::Ending;
+use crate::fault::{output, tell};
+use crate::help::usage_of;
+use crate::opened::{Opened, open, tell_scene};
+use pd_device::BenchFault;
+use pd_port::Meter;
+use pd_vary::{Ask, EditSet, Form, Question, SetFault, few_rows, read_asks, read_set, vary_text};
+use pd_words::{Form as Asked, Scene, VaryOptions};
+use std::alloc::Global;
+use std::rt::Files;
+
+/// What is measured where the words don't say.
+const USUAL: &str = "margin, faults, hard resets";
+
+/// Tells how the command is used.
+fn usage<E: Print>(errors: &E) -> Ending {
+    let _ = errors.println(usage_of("vary"));
+    Ending::Usage
+}
+
+/// Reads the sets.
+///
+/// # Errors
+/// One of them is none, or there is no memory; that is told.
+fn sets_of<R: Alloc<A = Global>, E: Print>(
+    rt: &R,
+    errors: &E,
+    words: &[&str],
+) -> Result<Vec<EditSet>, Ending> {
+    let mut sets = Vec::new(rt.alloc());
+    for word in words {
+        let set = match read_set(rt.alloc(), word.as_bytes()) {
+            Ok(set) => set,
+            Err(SetFault::Memory) => return Err(tell(errors, BenchFault::Memory)),
+            Err(fault) => {
+                let _ = println!(errors; "--set `{word}`: {fault}");
+                return Err(usage(errors));
+            }
+        };
+        let Ok(()) = sets.push(set) else {
+            return Err(tell(errors, BenchFault::Memory));
+        };
+    }
+    if few_rows(sets.as_slice()).is_none() {
+        let _ = errors.println("--set: the values have more than 1000000 combinations");
+        return Err(usage(errors));
+    }
+    Ok(sets)
+}
+
+/// Reads what is asked.
+///
+/// # Errors
+/// It names nothing, or there is no memory; that is told.
+fn asks_of<R: Alloc<A = Global>, E: Print>(
+    rt: &R,
+    errors: &E,
+    tell_words: Option<&str>,
+) -> Result<Vec<Ask>, Ending> {
+    let words = tell_words.unwrap_or(USUAL);
+    match read_asks(rt.alloc(), words.as_bytes()) {
+        Ok(Some(asks)) => Ok(asks),
+        Ok(None) => {
+            let _ = println!(errors;
+                "--tell `{words}`: there are voltage, current, power, least power, greatest power, less power, more power and \
+                 differs until, each with the number of a port, 1 to 8, and margin, lowest at, faults and hard resets, with commas \
+                 between them"
+            );
+            Err(usage(errors))
+        }
+        Err(_) => Err(tell(errors, BenchFault::Memory)),
+    }
+}
+
+/// How it is told.
+fn form_of(form: Asked) -> Form {
+    match form {
+        Asked::Words => Form::Words,
+        Asked::Json => Form::Json,
+        Asked::Csv => Form::Csv,
+    }
+}
+
+/// Makes the rows, and writes what comes of each.
+///
+/// # Errors
+/// Something kept it from being told; that is told.
+fn varied<R: Print + Alloc<A = Global>, E: Print>(
+    rt: &R,
+    errors: &E,
+    opened: &Opened<'_>,
+    question: &Question<'_>,
+) -> Result<(), Ending> {
+    let (text, script) = (opened.text.as_slice(), opened.script.as_slice());
+    let (mut out, mut meter) = (output(rt), Meter::new());
+    let port = question.asks.iter().map(|ask| ask.port).max();
+    match vary_text(
+        rt.alloc(),
+        text,
+        script,
+        opened.refused,
+        question,
+        &mut out,
+        &mut meter,
+    ) {
+        Ok(_) => Ok(()),
+        Err(_) if out.writer.is_closed => Err(Ending::Closed),
+        Err(fault) => Err(tell_scene(rt, errors, opened, port, fault)),
+    }
+}
+
+/// Makes each combination of values of edit lines on the scenario of a file, as the edits of a script leave it, and tells what is measured
+/// of its run.
+///
+/// # Errors
+/// Something kept it from being told; that is told.
+pub fn vary<R: Files + Input + Print + Alloc<A = Global>, E: Print>(
+    rt: &R,
+    errors: &E,
+    scene: Scene<'_>,
+    options: &VaryOptions<'_>,
+) -> Result<Ending, Ending> {
+    let sets = sets_of(rt, errors, options.sets.as_slice())?;
+    let asks = asks_of(rt, errors, options.tell)?;
+    let opened = open(rt, errors, scene)?;
+    let question = Question {
+        sets: sets.as_slice(),
+        asks: asks.as_slice(),
+        form: form_of(options.form),
+    };
+    varied(rt, errors, &opened, &question)?;
+    Ok(opened.ending)
+}
