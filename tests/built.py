@@ -20,7 +20,7 @@ HANGS = 120
 
 
 class Wrong(Exception):
-    """What a program did is not what docs/FORMATS.md says."""
+    """What a program did is not what docs/FORMATS.md or docs/LAB.md says."""
 
 
 class Answer(typing.NamedTuple):
