@@ -519,7 +519,7 @@ class Page {
     else if (this.theme) dataset.theme = this.theme;
     else delete dataset.theme;
     const { packets, sweep, tables } = this;
-    if (isPaper) for (const it of [packets.table, sweep.table, sweep.groups, ...Object.values(tables)]) it.unroll(MOST_ON_PAPER);
+    for (const it of [packets.table, sweep.table, sweep.groups, ...Object.values(tables)]) it.unroll(isPaper ? MOST_ON_PAPER : 0);
     this.recolour();
     this.picture.paintNow();
   }

@@ -20,7 +20,7 @@ export function element(name, { words, ...given } = {}, ...children) {
 export class Table {
   /** `columns`: title, width in pixels (none: what is left) and side; `cells(row)`: its texts; `open(row)`: it was chosen. */
   constructor({ label, columns, cells, kind = () => "", open = () => {}, hover = () => {}, none = "nothing" }) {
-    Object.assign(this, { columns, cells, kind, open, hover, none, count: 0, selected: -1, nodes: new Map() });
+    Object.assign(this, { columns, cells, kind, open, hover, none, count: 0, selected: -1, nodes: new Map(), paper: 0 });
     this.name = `table${++tables}`;
     this.body = element("div", { class: "rows", role: "rowgroup" });
     this.heads = columns.map((it) => this.cell(it, it.title, "columnheader"));
@@ -51,13 +51,15 @@ export class Table {
     this.fill();
   }
 
-  /** The rows that are in sight, and some more. */
+  /** The rows that are in sight, and some more; on paper as many as it takes, whatever is scrolled or resized meanwhile. */
   inSight() {
+    if (this.paper) return [0, Math.min(this.count, this.paper)];
     const top = this.host.scrollTop, height = this.host.clientHeight || 300;
     return [Math.max(Math.floor(top / ROW) - MORE, 0), Math.min(Math.ceil((top + height) / ROW) + MORE, this.count)];
   }
 
-  fill([from, to] = this.inSight()) {
+  fill() {
+    const [from, to] = this.inSight();
     for (const [row, node] of this.nodes) {
       if (row >= from && row < to) continue;
       node.remove();
@@ -117,9 +119,10 @@ export class Table {
     this.choose(Math.min(Math.max(this.selected + steps[event.key], 0), this.count - 1));
   }
 
-  /** All rows, for paper: not more than so many. */
+  /** On paper all rows, but not more than so many; on the screen again (0) those in sight. */
   unroll(most) {
-    this.fill([0, Math.min(this.count, most)]);
+    this.paper = most;
+    this.fill();
   }
 }
 
