@@ -9,8 +9,8 @@ const KEYS = [
 ];
 const ABOUT = [
   "Left stands a scenario, a charger with its ports, cables, sinks and events, and a script of edits, which are made before the run; " +
-    "right what comes of it. The picture shows the budget as a line, contracts as areas, holds as broken lines, and for each port a " +
-    "lane: its phases, events, faults, and packets with their true durations, SOP apart from SOP'.",
+    "right what comes of it. The picture shows the budget as a line, contracts as areas, holds as broken lines where you choose them, " +
+    "and for each port a lane: its phases, events, faults, and packets with their true durations, SOP apart from SOP'.",
   "The dotted lines and the empty boxes are the run before the last edit; Differences lists what that took away and brought.",
   "Everything that is shown comes from the proved module in this file; the page sends nothing anywhere. Proved are the module's " +
     "exports; the compiler that made the module, its heap, the browser and the page's own script are not.",

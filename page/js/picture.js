@@ -13,6 +13,8 @@ const FEW = 500, DENSE = 300, REST = 150;
 const PORTS = ["#e69f00", "#56b4e9", "#009e73", "#f0e442", "#0072b2", "#d55e00", "#cc79a7", "#999999"];
 const PHASE_HEIGHTS = [3, 12, 15, 15, 6];
 const STEPS = [1, 2, 5];
+/** Units of time, each with the least end of a window that is in it. */
+const TIMES = [["s", 1e6], ["ms", 1e3], ["µs", 0]];
 
 /** Dashes; a long curve has none, since they take longer than all else. */
 const dashes = (points, dash) => (points.length < FEW ? dash : undefined);
@@ -32,7 +34,7 @@ export class Picture {
     this.cursors = [null, null];
     this.hidden = new Set();
     this.view = { from: 0, to: 1 };
-    this.holds = true;
+    this.holds = false;
     this.ghost = true;
     this.width = 800;
     this.heat = null;
@@ -175,7 +177,7 @@ export class Picture {
       const x = Math.round(this.x(at));
       lines.push(x, HEAD, 1, bottom + 4 - HEAD, x, bottom + AXIS - 3, 1, height - bottom - AXIS + 3);
       const isLast = x > width - RIGHT - 24;
-      paint.text(isLast ? width - 4 : x, bottom + 14, this.tick(at, step), colours.faint, { align: isLast ? "right" : "center" });
+      paint.text(isLast ? width - 4 : x, bottom + 14, this.tick(at), colours.faint, { align: isLast ? "right" : "center" });
     }
     const top = this.top(), watt = niceStep(top, 4);
     for (let power = 0; power <= top; power += watt) {
@@ -187,10 +189,16 @@ export class Picture {
     paint.rects(lines, colours.grid);
   }
 
-  tick(at, step) {
-    if (step >= 1e6) return `${Math.round(at / 1e6)} s`;
-    if (step >= 1e3) return `${(at / 1e6).toFixed(step >= 1e5 ? 1 : step >= 1e4 ? 2 : 3)} s`;
-    return `${seconds(at)} s`;
+  /** A time of the axis, in the unit that fits the window, without zeros at its end. */
+  tick(at) {
+    const [unit, size] = TIMES.find(([, least]) => this.view.to >= least);
+    return `${Number((at / (size || 1)).toFixed(6))} ${unit}`;
+  }
+
+  /** The least margin of the window, and the step that has it. */
+  leastShown() {
+    const { curves } = this.run, [first, last] = this.stepsOf(curves), least = curves.leastMargin(first, Math.max(last, first + 1));
+    return { ...least, at: Math.max(least.at, this.view.from) };
   }
 
   top() {
@@ -242,7 +250,7 @@ export class Picture {
   }
 
   paintChart(paint, bottom) {
-    const { run, colours } = this, { curves } = run, { least } = curves, [first, last] = this.stepsOf(curves);
+    const { run, colours } = this, { curves } = run, least = this.leastShown(), [first, last] = this.stepsOf(curves);
     const rough = this.moves && last - first > DENSE;
     const areas = curves.contracts.map((values, port) => ({ points: this.corners(curves, values, bottom, rough), fill: PORTS[port] }));
     paint.areas(areas, bottom, colours.area, colours.paper);
@@ -257,7 +265,7 @@ export class Picture {
     }
     if (this.ghost && this.before) this.paintGhost(paint, bottom, rough);
     paint.path(this.corners(curves, curves.budget, bottom), { stroke: colours.ink, width: 2 });
-    if (least.at < this.view.from || least.at > this.view.to) return;
+    if (!curves.all[least.step]) return;
     const x = this.x(least.at), y = this.y(curves.budget[least.step], bottom), lower = this.y(curves.all[least.step], bottom);
     paint.line(x, y, x, Math.max(lower, y + 3), colours.fault, { width: 4 });
   }
@@ -271,7 +279,7 @@ export class Picture {
   }
 
   paintLegend(paint, width) {
-    const { colours, run } = this, { least } = run.curves;
+    const { colours, run } = this, least = this.leastShown();
     let x = LEFT;
     const words = (text, colour = colours.faint) => {
       paint.text(x, 11, text, colour);
@@ -295,9 +303,9 @@ export class Picture {
       x += 18;
       words("before the edit");
     }
-    if (this.isLess && x < width - 470) words("what stands close is drawn together: zoom in");
-    const told = `least margin ${watts(least.left)} at ${seconds(least.at)} s`;
-    if (x < width - 250) paint.text(width - RIGHT, 11, told, colours.fault, { align: "right" });
+    if (this.isLess && x < width - 560) words("what stands close is drawn together: zoom in");
+    const told = `least margin in this window: ${watts(least.left)} at ${seconds(least.at)} s`;
+    if (x < width - 340) paint.text(width - RIGHT, 11, told, colours.fault, { align: "right" });
   }
 
   paintLaneNames(paint, port, top, width) {
@@ -444,12 +452,26 @@ export class Picture {
     const fill = isReset || run.fate[line] === 2 ? colours.fault : run.fate[line] === 1 ? colours.paper : colours.sides[run.side[line]];
     const stroke = run.fate[line] || wide > 4 ? (run.fate[line] ? colours.fault : colours.edge) : undefined;
     paint.rect(x, y + 1, wide, ROW - 3, fill, { stroke, alpha, dash: run.fate[line] === 1 && wide > 6 ? [3, 2] : undefined });
+    if (run.fate[line]) this.paintCross(paint, x, y + ROW / 2 - 0.5, alpha);
     if (line === this.selected) paint.rect(x - 2, y - 1, wide + 4, ROW, null, { stroke: colours.select });
+  }
+
+  /** The cross at the start of a packet that is lost or damaged. */
+  paintCross(paint, x, y, alpha) {
+    for (const down of [4, -4]) paint.line(x - 4, y - down, x + 4, y + down, this.colours.fault, { width: 2, alpha });
+  }
+
+  /** What stands at a packet: its message, and what became of it by which event where it didn't arrive whole. */
+  packetWords(line) {
+    const { run } = this, message = run.messages[run.message[line]];
+    if (!run.fate[line]) return message;
+    const { fate, by_event: event } = run.line(line);
+    return `${message} ${fate} by ${event}`;
   }
 
   /** A label in the box of a packet, or behind it up to the next packet of its row. */
   labelPacket(paint, lane, place, x, y, wide, alpha) {
-    const { run, colours } = this, line = lane.packets[place], words = run.messages[run.message[line]], room = words.length * 5.9 + 6;
+    const { run, colours } = this, line = lane.packets[place], words = this.packetWords(line), room = words.length * 5.9 + 6;
     if (wide >= room) {
       const from = Math.max(x, LEFT), ink = run.fate[line] === 1 ? colours.ink : colours.onSide;
       if (x + wide - from >= room) paint.text(from + 3, y + 10, words, ink, { size: 10, alpha });

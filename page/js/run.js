@@ -63,33 +63,31 @@ class Curves {
     this.changed = false;
   }
 
-  /** Makes of each curve a column: the budget, and what the contracts and the holds of the first ports take together. */
+  /** Makes of each curve a column: the budget, what the contracts of the first ports take together, and upon those of the ports before
+   * it what a port holds. */
   end() {
     this.settle();
     const { at, values, wide, ports } = this, count = at.length;
     const column = (value) => Float64Array.from({ length: count }, (_, step) => value(step * wide));
-    const stacked = (first) => {
-      const sums = [];
-      for (let port = 0; port < ports; port++) {
-        const below = sums[port - 1];
-        sums.push(column((begin) => (below ? below[begin / wide] : 0) + values[begin + first + port]));
-      }
-      return sums;
+    const uponContracts = (port, place) => {
+      const below = this.contracts[port - 1];
+      return column((begin) => (below ? below[begin / wide] : 0) + values[begin + place]);
     };
     this.at = Uint32Array.from(at);
     this.budget = column((begin) => values[begin]);
-    this.contracts = stacked(1);
-    this.holds = stacked(1 + ports);
+    this.contracts = [];
+    for (let port = 0; port < ports; port++) this.contracts.push(uponContracts(port, 1 + port));
+    this.holds = this.contracts.map((_, port) => uponContracts(port, 1 + ports + port));
     this.values = null;
     this.all = this.contracts[ports - 1];
-    this.least = this.leastMargin();
+    this.least = this.leastMargin(0, count);
     this.greatest = this.budget.reduce((most, it) => Math.max(most, it), 1e6);
   }
 
-  /** The step that leaves least of the budget, the first of them. */
-  leastMargin() {
-    let found = 0, least = Infinity;
-    for (let step = 0; step < this.at.length; step++) {
+  /** Of some steps that which leaves least of the budget, the first of them. */
+  leastMargin(from, to) {
+    let found = from, least = Infinity;
+    for (let step = from; step < to; step++) {
       const left = this.budget[step] - this.all[step];
       if (left < least) [found, least] = [step, left];
     }
