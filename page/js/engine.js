@@ -5,7 +5,7 @@ export const Ending = { DONE: 0, REFUSED: 1, NO_PORT: 2, MEMORY: 3, LONG: 4, STO
 
 const FOREVER = 2n ** 64n - 1n;
 /** The exports that run nothing, and so count no steps. */
-const RUN_NOTHING = new Set(["page_list", "page_decode"]);
+const RUN_NOTHING = new Set(["page_list", "page_guarantee", "page_decode"]);
 /** The longest answer of most scenarios has room in it. */
 const FIRST_ROOM = 16n << 20n;
 /** A module that has nothing but a memory of 64 bits. */
@@ -136,6 +136,11 @@ export class Engine {
   /** The stories of a port's offers up to a time. */
   why(scenario, script, port, to) {
     return this.call("page_why", [scenario, script], [port, 1, BigInt(to)]);
+  }
+
+  /** What is sure for each port, in every run of the charger. */
+  guarantee(scenario, script) {
+    return this.call("page_guarantee", [scenario, script]);
   }
 
   explain(scenario, script) {

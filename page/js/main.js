@@ -63,6 +63,7 @@ class Page {
       { name: "Warnings", parts: [tables.warnings.host] },
       { name: "Differences", parts: [tables.differences.host], opened: () => this.showDifferences() },
       { name: "Sweep", parts: [sweep.tools, sweep.summary, sweep.table.host, sweep.groups.host] },
+      { name: "Guarantee", parts: [tables.guarantee.host], opened: () => this.showGuarantee() },
       { name: "Session", parts: [this.session], opened: () => this.showSession() },
       { name: "Tests", parts: [this.tests, tables.tests.host], opened: () => this.showTests() },
       { name: "Decode", parts: [this.log, tables.log.host], opened: () => this.showLog() },
@@ -285,6 +286,12 @@ class Page {
     const found = shows && old ? differences(old, shows) : [];
     this.tables.differences.give(found);
     this.tabs.count("Differences", found.length);
+  }
+
+  /** What is sure whatever is plugged in: of the charger, not of the run. */
+  showGuarantee() {
+    const answer = this.engine.guarantee(this.scenario.text, this.script.text);
+    this.tables.guarantee.give(answer.ending === Ending.DONE ? objectsOf(answer.text) : []);
   }
 
   showSession() {

@@ -63,6 +63,8 @@ class Rows extends Table {
 }
 
 const time = (us) => seconds(Number(us));
+const volt = (mv) => `${mv / 1000} V`;
+const amps = (ma) => `${(ma / 1000).toFixed(2)} A`;
 const watt = (uw) => `${Number((uw / 1e6).toFixed(6))} W`;
 
 /** The short tables. `go(at, port)`: to a place of the picture; `goToTold(it)`: to a line of the texts. */
@@ -76,7 +78,7 @@ export function shownTables(go, goToTold) {
     cells: (row) => {
       const it = words(made.contracts.rows[row]);
       return it[3] === "none" ? [time(it[0]), it[2], "", "", "", "no contract any more"]
-        : [time(it[0]), it[2], it[4], `${it[5] / 1000} V`, `${(it[7] / 1000).toFixed(2)} A`, ""];
+        : [time(it[0]), it[2], it[4], volt(it[5]), amps(it[7]), ""];
     },
     kind: (row) => (made.contracts.rows[row].endsWith("none") ? "bad" : ""),
     open: (row) => go(Number(words(made.contracts.rows[row])[0]), Number(words(made.contracts.rows[row])[2])),
@@ -118,6 +120,21 @@ export function shownTables(go, goToTold) {
     },
     kind: (row) => (made.differences.rows[row].sign === "+" ? "come" : "gone"),
       open: (row) => go(Number(words(made.differences.rows[row].line)[0])),
+  });
+  made.guarantee = new Rows({
+    label: "What is sure for each port", none: "the scenario is refused",
+    columns: [{ title: "port", width: 50, right: true }, { title: "supply", width: 60, right: true },
+      { title: "voltage", width: 80, right: true }, { title: "offered at least", width: 120, right: true },
+      { title: "cable of 3 A", width: 100, right: true }, { title: "free at least", width: 100, right: true },
+      { title: "free at most", width: 100, right: true }, { title: "never reset up to", width: 130, right: true }, { title: "" }],
+    cells: (row) => {
+      const it = made.guarantee.rows[row];
+      if (it.kind === "supply") {
+        return [it.port, it.position, volt(it.voltage_mv), amps(it.at_least_ma), amps(it.at_least_3a_ma), "", "", "", ""];
+      }
+      return [it.port, "", "", "", "", watt(it.free_at_least_uw), watt(it.free_at_most_uw), watt(it.kept_up_to_uw),
+        it.always_kept ? "always kept" : ""];
+    },
   });
   made.tests = new Rows({
     label: "Tests", none: "no test script: lines of edits, expect and lose",

@@ -253,6 +253,7 @@ tells n s d (Some (colon.Why port to)) file text d' stands h = unchanged n s d.d
 tells n s d (Some colon.Quit) file text d' stands h = unchanged n s d.desk d'.desk stands h.1.0
 tells n s d (Some (colon.Show port)) file text d' stands h = unchanged n s d.desk d'.desk stands h.1.0
 tells n s d (Some colon.Warn) file text d' stands h = unchanged n s d.desk d'.desk stands h.1.0
+tells n s d (Some colon.Guarantee) file text d' stands h = unchanged n s d.desk d'.desk stands h.1.0
 tells n s d (Some colon.Test) file text d' stands h = unchanged n s d.desk d'.desk stands h.1.0
 
 fails : (n : ℕ) (s : ScenarioData) (d : WithShelf) (own : Option Colon) (file : Option (List ℕ)) (fault : OwnFault) (d' : WithShelf) →
@@ -268,6 +269,7 @@ fails n s d (Some (colon.Save what is_over)) file fault d' stands h = unchanged 
 fails n s d (Some (colon.Why port to)) file fault d' stands h = unchanged n s d.desk d'.desk stands h.1.0
 fails n s d (Some (colon.Show port)) file fault d' stands h = unchanged n s d.desk d'.desk stands h.1.0
 fails n s d (Some colon.Warn) file fault d' stands h = unchanged n s d.desk d'.desk stands h.1.0
+fails n s d (Some colon.Guarantee) file fault d' stands h = unchanged n s d.desk d'.desk stands h.1.0
 fails n s d (Some colon.Test) file fault d' stands h = unchanged n s d.desk d'.desk stands h.1.0
 fails n s d (Some colon.Quit) file fault d' stands h = absurd h
 

@@ -63,6 +63,7 @@ unfoldable pub asked_run : List ℕ → List (List ℕ) → Option Colon
 asked_run word more =
     if bytes_eq word (codes ":show") then show_of more
     else if bytes_eq word (codes ":warn") then alone colon.Warn more
+    else if bytes_eq word (codes ":guarantee") then alone colon.Guarantee more
     else if bytes_eq word (codes ":test") then test_of more
     else if bytes_eq word (codes ":draw") then save_of saved.Picture false more
     else if bytes_eq word (codes ":draw!") then save_of saved.Picture true more
@@ -110,6 +111,16 @@ abbrev pub second : List (List ℕ) → Option (List ℕ)
 second (word ∷ file ∷ more) = Some file
 second _ = None
 
+-- of the name of another command, the desk's line that does the same
+unfoldable pub meant_run : List ℕ → Option (List ℕ)
+meant_run word =
+    if bytes_eq word (codes "why") then Some (codes ":why")
+    else if bytes_eq word (codes "warn") then Some (codes ":warn")
+    else if bytes_eq word (codes "guarantee") then Some (codes ":guarantee")
+    else if bytes_eq word (codes "test") then Some (codes ":test FILE")
+    else if bytes_eq word (codes "draw") then Some (codes ":draw FILE")
+    else None
+
 -- Of a word that begins no line of an edit script, the command that is meant: one of these without its colon, or what other
 -- programs say for it.
 unfoldable pub meant : List ℕ → Option (List ℕ)
@@ -122,9 +133,5 @@ meant word =
     else if bytes_eq word (codes "undo") then Some (codes ":undo")
     else if bytes_eq word (codes "redo") then Some (codes ":redo")
     else if bytes_eq word (codes "diff") then Some (codes ":diff")
-    else if bytes_eq word (codes "why") then Some (codes ":why")
     else if bytes_eq word (codes "save") then Some (codes ":save FILE")
-    else if bytes_eq word (codes "warn") then Some (codes ":warn")
-    else if bytes_eq word (codes "test") then Some (codes ":test FILE")
-    else if bytes_eq word (codes "draw") then Some (codes ":draw FILE")
-    else None
+    else meant_run word

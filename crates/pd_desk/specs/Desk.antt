@@ -31,7 +31,7 @@ use Rattle.pd_desk.specs.History.{NotesData, StepData, no_notes, noted, notes_da
 use Rattle.pd_desk.specs.Reasons.{as_line}
 use Rattle.pd_desk.specs.OwnFaults.{own_sentence}
 use Rattle.pd_desk.specs.Shelf.{Holds, IsNotPut, IsPut, IsFree, IsTaken, Shelved}
-use Rattle.pd_desk.specs.Tellings.{Draws, TellsShow, TellsTests, TellsWarned}
+use Rattle.pd_desk.specs.Tellings.{Draws, TellsGuarantee, TellsShow, TellsTests, TellsWarned}
 use Rattle.pd_desk.specs.declared.own.OwnFault.{OwnFault}
 use Rattle.pd_desk.specs.declared.own.OwnFault.TheVariants.{Unknown, NoEdit, FewEdits, NoRedo, NoSuchPort}
 use Rattle.pd_desk.specs.declared.own.OwnFault.TheVariants.{Differs, Stands, NotSaved, NotRead, Memory}
@@ -230,6 +230,7 @@ Tells n d (Some (colon.Why port to)) file text d' =
     TellsWhy Words (plan_of d.desk.scenario) (record { port = port; to = to }) [] text × IsSame d d'
 Tells n d (Some (colon.Show port)) file text d' = TellsShow d.desk.scenario port text × IsSame d d'
 Tells n d (Some colon.Warn) file text d' = TellsWarned n d.desk.scenario text × IsSame d d'
+Tells n d (Some colon.Guarantee) file text d' = TellsGuarantee d.desk.scenario text × IsSame d d'
 Tells n d (Some colon.Test) file text d' = TellsTested n d file text × IsSame d d'
 Tells n d (Some colon.Quit) file text d' = (text ≡ []) × IsSame d d'
 
@@ -290,6 +291,7 @@ Fails n d (Some (colon.Save what is_over)) file fault d' =
 Fails n d (Some (colon.Why port to)) file fault d' = FailsWhy n port fault × IsSame d d'
 Fails n d (Some (colon.Show port)) file fault d' = FailsShow n port fault × IsSame d d'
 Fails n d (Some colon.Warn) file fault d' = (fault ≡ Memory) × IsSame d d'
+Fails n d (Some colon.Guarantee) file fault d' = (fault ≡ Memory) × IsSame d d'
 Fails n d (Some colon.Test) file fault d' = FailsTest file fault × IsSame d d'
 Fails n d (Some colon.Quit) file fault d' = ⊥
 

@@ -17,6 +17,7 @@ help_text =
     ++ (help_row (codes ":why PORT [AT]") (codes "what bounds a port: its last offer, or each one up to a time, as 60ms")
     ++ (help_row (codes ":show [PORT]") (codes "the run as a transcript, of one port or of all, as pdlab show tells it")
     ++ (help_row (codes ":warn") (codes "what the scenario is warned of, as pdlab explain warns")
+    ++ (help_row (codes ":guarantee") (codes "what is sure for each port, whatever is plugged in, as pdlab guarantee tells it")
     ++ (help_row (codes ":test FILE") (codes "the lines of a test script that fail over the scenario, and how many passed")
     ++ (help_row (codes ":save FILE") (codes "writes the scenario to a new file, which reads back as the same")
     ++ (help_row (codes ":save-edits FILE") (codes "writes the accepted edits since the start to a new file, an edit script")
@@ -24,4 +25,4 @@ help_text =
     ++ (help_row (codes ":save! FILE") (codes "as :save, in the place of a file that is there; :save-edits! and :draw! too")
     ++ (help_row (codes ":quit") (codes "ends the session, as Ctrl-D does")
     ++ (help_row (codes ":help") (codes "this")
-    ++ codes "insert, remove, move, change, cable, sink, caps, floor, budget, end and show are lines of edit scripts\n"))))))))))))))))
+    ++ codes "insert, remove, move, change, cable, sink, caps, floor, budget, end and show are lines of edit scripts\n")))))))))))))))))

@@ -5,8 +5,8 @@ use Rattle.pd_desk.specs.declared.own.OwnFault.TheVariants as own_faults
 
 abbrev pub own_sentence : OwnFault → List ℕ
 own_sentence own_faults.Unknown =
-    codes "the desk's own lines are :list, :undo, :redo, :diff, :why, :show, :warn, :test, :draw, "
-    ++ codes ":save, :save-edits and :quit; :help tells of them\n"
+    codes "the desk's own lines are :list, :undo, :redo, :diff, :why, :show, :warn, :guarantee, :test, "
+    ++ codes ":draw, :save, :save-edits and :quit; :help tells of them\n"
 own_sentence own_faults.NoEdit = codes "no accepted edit is left to take back\n"
 own_sentence (own_faults.FewEdits left) = codes "fewer edits can be taken back: " ++ decimal left ++ codes "\n"
 own_sentence own_faults.NoRedo = codes "no edit that was taken back is left to make again\n"

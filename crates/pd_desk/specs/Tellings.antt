@@ -1,4 +1,4 @@
--- What the desk has of other commands: the transcript, the picture, the warnings and the tests of a scenario.
+-- What the desk has of other commands: the transcript, the picture, the warnings, the guarantee and the tests of a scenario.
 use Rattle.std.specs.Prelude.{◌≡◌, ℕ, List, [], ◌∷◌, ◌++◌, codes, Option, Some, None, false}
 use Rattle.std.specs.List.{flat_map}
 use Rattle.pd_scenario.specs.Scenarios.{ScenarioData}
@@ -11,6 +11,8 @@ use Rattle.pd_draw.specs.Picture.{DrewRun}
 use Rattle.pd_warn.specs.Warnings.{AreWarnings}
 use Rattle.pd_warn.specs.declared.warning.Warning.{Warning}
 use Rattle.pd_explain_text.specs.Sentences.{sentence}
+use Rattle.pd_guarantee.specs.Charger.{charger_of}
+use Rattle.pd_guarantee.specs.Tellings.{charger_text}
 use Rattle.pd_text.specs.Fronts.{front_of_file}
 use Rattle.pd_text.specs.declared.piece.Form.TheVariants.{Words}
 use Rattle.pd_expect.specs.Named.{script_lines}
@@ -44,6 +46,10 @@ warned_text ws = flat_map (λ w. warned_line w) ws
 -- behind a head, what a scenario of n ports is warned of
 abbrev pub TellsWarned : ℕ → ScenarioData → List ℕ → Type 0
 TellsWarned n s text = (ws : List Warning) × AreWarnings n s ws × (text ≡ codes "= warnings\n" ++ warned_text ws)
+
+-- behind a head, what is sure for each port of the scenario's charger
+abbrev pub TellsGuarantee : ScenarioData → List ℕ → Type 0
+TellsGuarantee s text = text ≡ codes "= guarantee\n" ++ charger_text Words (charger_of s)
 
 -- what is told of the lines of a test script of this name, over a scenario of n ports, and how many of them passed and failed
 abbrev pub TellsTests : ℕ → ScenarioData → List ℕ → List ℕ → List ℕ → Type 0

@@ -3,7 +3,7 @@
 ghost use Rattle.std.specs.Prelude.{◌≡◌, option_map};
 ghost use Rattle.pd_edit_lines.specs.Words.{words};
 ghost use Rattle.pd_desk.specs.Commands.{alone, asked, asked_by, asked_run, asked_save, colon_of, diff_of, is_colon, is_quit};
-ghost use Rattle.pd_desk.specs.Commands.{meant, save_of, second, show_of, test_of, undo_of, why_of};
+ghost use Rattle.pd_desk.specs.Commands.{meant, meant_run, save_of, second, show_of, test_of, undo_of, why_of};
 
 use pd_edit_lines::{next, number};
 use pd_units::{Unit, number_in};
@@ -45,6 +45,8 @@ pub enum Colon {
     Show { port: Option<u64> },
     /// What the scenario that stands is warned of.
     Warn,
+    /// What is sure for each port of its charger.
+    Guarantee,
     /// What the expectations of a file, which the line names, come to.
     Test,
     /// Ends the session.
@@ -172,6 +174,9 @@ fn asked_run(word: &[u8], rest: &[u8]) -> Option<Colon>
     if word == b":warn".as_slice() {
         return alone(Colon::Warn, rest);
     }
+    if word == b":guarantee".as_slice() {
+        return alone(Colon::Guarantee, rest);
+    }
     if word == b":test".as_slice() {
         return test_of(rest);
     }
@@ -262,6 +267,29 @@ pub fn file_of(line: &[u8]) -> Option<&[u8]>
     Some(file)
 }
 
+/// The command that is meant by a word of another command's name, where one is.
+#[tactic(auto, unfolding(crate::specs::Commands::meant_run))]
+fn meant_run(word: &[u8]) -> Option<&'static [u8]>
+    ensures { option_map (λ x. x.now) result ≡ meant_run word.now }
+{
+    if word == b"why".as_slice() {
+        return Some(b":why");
+    }
+    if word == b"warn".as_slice() {
+        return Some(b":warn");
+    }
+    if word == b"guarantee".as_slice() {
+        return Some(b":guarantee");
+    }
+    if word == b"test".as_slice() {
+        return Some(b":test FILE");
+    }
+    if word == b"draw".as_slice() {
+        return Some(b":draw FILE");
+    }
+    None
+}
+
 /// The command that is meant by a word without a colon, as `quit`, where one is.
 #[tactic(auto, unfolding(crate::specs::Commands::meant))]
 pub(crate) fn meant(word: &[u8]) -> Option<&'static [u8]>
@@ -285,20 +313,8 @@ pub(crate) fn meant(word: &[u8]) -> Option<&'static [u8]>
     if word == b"diff".as_slice() {
         return Some(b":diff");
     }
-    if word == b"why".as_slice() {
-        return Some(b":why");
-    }
     if word == b"save".as_slice() {
         return Some(b":save FILE");
     }
-    if word == b"warn".as_slice() {
-        return Some(b":warn");
-    }
-    if word == b"test".as_slice() {
-        return Some(b":test FILE");
-    }
-    if word == b"draw".as_slice() {
-        return Some(b":draw FILE");
-    }
-    None
+    meant_run(word)
 }

@@ -16,6 +16,7 @@ const HELP: &[u8] = b"= help
 :why PORT [AT]     what bounds a port: its last offer, or each one up to a time, as 60ms
 :show [PORT]       the run as a transcript, of one port or of all, as pdlab show tells it
 :warn              what the scenario is warned of, as pdlab explain warns
+:guarantee         what is sure for each port, whatever is plugged in, as pdlab guarantee tells it
 :test FILE         the lines of a test script that fail over the scenario, and how many passed
 :save FILE         writes the scenario to a new file, which reads back as the same
 :save-edits FILE   writes the accepted edits since the start to a new file, an edit script

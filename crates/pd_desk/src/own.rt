@@ -19,7 +19,7 @@ ghost use Rattle.pd_desk.specs.declared.colon.Saved.TheVariants as saved;
 use crate::desk::Desk;
 use crate::help::help_text;
 use crate::steps::{redo, undo};
-use crate::tellings::{drawn, shown, tested, warned};
+use crate::tellings::{drawn, guaranteed, shown, tested, warned};
 use crate::{Colon, Saved, Shelf, ShelfFault, file_of, run_diff, why_port};
 use pd_device::Text;
 use pd_port::Meter;
@@ -69,9 +69,9 @@ impl OwnFault {
         match self {
             OwnFault::Unknown => {
                 text.push_all(
-                    b"the desk's own lines are :list, :undo, :redo, :diff, :why, :show, :warn, :test, :draw, ",
+                    b"the desk's own lines are :list, :undo, :redo, :diff, :why, :show, :warn, :guarantee, :test, ",
                 );
-                text.push_all(b":save, :save-edits and :quit; :help tells of them\n");
+                text.push_all(b":draw, :save, :save-edits and :quit; :help tells of them\n");
             }
             OwnFault::NoEdit => text.push_all(b"no accepted edit is left to take back\n"),
             OwnFault::FewEdits { left } => {
@@ -311,6 +311,7 @@ pub(crate) fn own_text<const N: usize, T: Runner<N>, S: Shelf>(
         Some(Colon::Why { port, to }) => bounds(alloc, &desk.state.scenario, port, to, meter),
         Some(Colon::Show { port }) => show(alloc, &desk.state.scenario, port, meter),
         Some(Colon::Warn) => Ok(warned(alloc, &desk.state.scenario, meter)?),
+        Some(Colon::Guarantee) => Ok(guaranteed(alloc, &desk.state.scenario)?),
         Some(Colon::Test) => test(alloc, line, desk, shelf, meter),
         Some(Colon::Quit) => Ok(Vec::new(alloc)),
     }

@@ -1,13 +1,14 @@
-//! What the desk has of other commands: the transcript, the picture, the warnings and the tests of a scenario.
+//! What the desk has of other commands: the transcript, the picture, the warnings, the guarantee and the tests of a scenario.
 
 ghost use Rattle.std.specs.Prelude.{◌≡◌, ◌++◌, IfOk, OnOk};
-ghost use Rattle.pd_desk.specs.Tellings.{Draws, TellsShow, TellsTests, TellsWarned, warned_line, warned_text};
+ghost use Rattle.pd_desk.specs.Tellings.{Draws, TellsGuarantee, TellsShow, TellsTests, TellsWarned, warned_line, warned_text};
 
 use crate::copy::copied;
 use pd_device::Output;
 use pd_draw::{Look, draw};
 use pd_expect::{Form as TestForm, TestReport, test_script};
 use pd_explain_text::push_sentence;
+use pd_guarantee::{Form as BoundsForm, guarantee};
 use pd_keep::Kept;
 use pd_port::Meter;
 use pd_run::{Plan, Runner};
@@ -102,6 +103,23 @@ pub(crate) fn warned<const N: usize>(
     let mut text = Vec::new(alloc);
     text.extend_from_slice(b"= warnings\n")?;
     push_warned(&mut text, &found)?;
+    Ok(text)
+}
+
+/// What is sure for each port of a scenario's charger, a line for the port and one for each of its supplies.
+///
+/// # Errors
+/// There is no memory for it.
+pub(crate) fn guaranteed<const N: usize>(
+    alloc: Global,
+    scenario: &Scenario<N>,
+) -> Result<Vec<u8>, AllocError>
+    ensures { IfOk result (λ text. TellsGuarantee scenario.now text.items) }
+{
+    let said = guarantee(alloc, scenario, BoundsForm::Words)?;
+    let mut text = Vec::new(alloc);
+    text.extend_from_slice(b"= guarantee\n")?;
+    text.extend_from_slice(said.as_slice())?;
     Ok(text)
 }
 

@@ -12,4 +12,4 @@ pub use bounds::{PortBounds, SupplyBounds};
 pub use pd_scene::{Refused, SceneFault};
 pub use pd_text::Form;
 pub use tell::push_charger;
-pub use texts::guarantee_text;
+pub use texts::{guarantee, guarantee_text};

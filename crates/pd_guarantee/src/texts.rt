@@ -37,7 +37,7 @@ impl<const N: usize> JobOn<N, ()> for Telling {
         ensures { MatchResult result (λ said. said.items ≡ charger_text self.now.form (charger_of scenario.entry))
             (λ fault. fault ≡ memory) }
     {
-        match tell(alloc, &scenario, self.form) {
+        match guarantee(alloc, &scenario, self.form) {
             Ok(said) => Ok(said),
             Err(_) => Err(BenchFault::Memory),
         }
@@ -64,9 +64,13 @@ pub fn guarantee_text(
     on_scene(alloc, text, script, refused, &Telling { form }, &mut ())
 }
 
-// What is sure for each port of a scenario's charger.
+/// What is sure for each port of a scenario's charger, in a form: a line for the port and one for each of its supplies. Its cables and
+/// sinks don't count, and of its events the changes of the budget up to the end alone.
+///
+/// # Errors
+/// There is no memory for it.
 #[tactic(auto, unfolding(crate::specs::Charger::charger_of))]
-fn tell<const N: usize>(
+pub fn guarantee<const N: usize>(
     alloc: Global,
     scenario: &Scenario<N>,
     form: Form,

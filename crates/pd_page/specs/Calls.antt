@@ -17,6 +17,8 @@ use Rattle.pd_text.specs.Fronts.{front_of_file}
 use Rattle.pd_text.specs.declared.piece.Form.TheVariants as form
 use Rattle.pd_why.specs.Answers.{TellsWhy}
 use Rattle.pd_why.specs.declared.question.Question.{Question}
+use Rattle.pd_guarantee.specs.Charger.{charger_of}
+use Rattle.pd_guarantee.specs.Tellings.{charger_text}
 use Rattle.pd_sweep.specs.Counts.{HasPackets}
 use Rattle.pd_sweep.specs.Sweeps.{WroteSweep}
 use Rattle.pd_sweep.specs.declared.choice.Campaign.{Campaign}
@@ -72,6 +74,10 @@ Shows choice script = Tells [] choice.port (λ n s out. WroteRun (plan_of (left_
 abbrev pub Asks : Question → List ℕ → List ℕ → Ending → List ℕ → Type 0
 Asks question script =
     Tells [] (Some question.port) (λ n s out. TellsWhy form.Json (plan_of (left_by script n s)) question [] out)
+
+-- what is sure for each port of its charger
+abbrev pub Guarantees : List ℕ → List ℕ → Ending → List ℕ → Type 0
+Guarantees script = Tells [] None (λ n s out. out ≡ charger_text form.Json (charger_of (left_by script n s)))
 
 -- a part of its sweep, and the summary of that part
 abbrev pub Sweeps : Campaign → Part → List ℕ → List ℕ → Ending → List ℕ → Type 0

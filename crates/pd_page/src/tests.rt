@@ -2,8 +2,8 @@
 //! the scenario, of docs/FORMATS.md and of docs/TABLES.md.
 
 use crate::{
-    page_decode, page_draw, page_explain, page_hard_reset_duration, page_list, page_packet_count,
-    page_packet_duration, page_run, page_show, page_sweep, page_test, page_why,
+    page_decode, page_draw, page_explain, page_guarantee, page_hard_reset_duration, page_list,
+    page_packet_count, page_packet_duration, page_run, page_show, page_sweep, page_test, page_why,
 };
 use pd_port::Meter;
 use std::test::*;
@@ -348,6 +348,26 @@ fn scripts_are_tested(rt: HostRuntime) -> Result<(), Fail> {
     assert_eq!(rt; ending, DONE);
     assert!(rt; text.starts_with(b"{\"file\":\"it.test\",\"line\":2,\"expected\":".as_slice()));
     assert!(rt; text.ends_with(b"{\"passed\":1,\"failed\":1,\"refused\":1}\n".as_slice()));
+    Ok(())
+}
+
+/// What is sure for one port that has 60 W for itself, and by an edit 10 W: its 3 A are offered whole, and then 2 A.
+#[test]
+fn ports_are_sure_of(rt: HostRuntime) -> Result<(), Fail> {
+    let mut room = room_of(&rt, ENOUGH)?;
+    let mut len = 0;
+    let edits: [(&[u8], &[u8]); 2] = [
+        (b"", b"\"voltage_mv\":5000,\"at_least_ma\":3000,"),
+        (
+            b"budget 10000",
+            b"\"voltage_mv\":5000,\"at_least_ma\":2000,",
+        ),
+    ];
+    for (script, words) in edits {
+        let ending = page_guarantee(rt.alloc(), PHONE, script, room.as_mut_slice(), &mut len);
+        assert_eq!(rt; ending, DONE);
+        assert!(rt; has(text_in(room.as_slice(), len), words));
+    }
     Ok(())
 }
 

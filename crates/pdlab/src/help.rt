@@ -77,6 +77,7 @@ do nothing, standard error says why:
   :why PORT [AT]     what bounds a port: its last offer, or each one up to AT
   :show [PORT]       the run, as show tells it: of a port, or of all
   :warn              what the scenario is warned of, as explain warns
+  :guarantee         what is sure for each port, whatever is plugged in
   :test FILE         the lines of a test script that fail, and how many passed
   :save FILE         writes the scenario to a new file, which reads back as the same
   :save-edits FILE   writes the edits that led to it to a new file, a script
