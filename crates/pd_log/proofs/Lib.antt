@@ -4,3 +4,4 @@ pub mod ByteByByte
 pub mod ObjectByObject
 pub mod PartByPart
 pub mod Joined
+pub mod BehindName

@@ -8,5 +8,6 @@ pub mod Answers
 pub mod Words
 pub mod Begun
 pub mod Bytes
+pub mod Names
 pub mod Lines
 pub mod Objects

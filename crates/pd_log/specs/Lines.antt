@@ -11,7 +11,7 @@ use Rattle.pd_log.specs.declared.mark.Mark.TheVariants.{Whole, Lost, Damaged}
 use Rattle.pd_log.specs.declared.answer.Answer.{Answer}
 use Rattle.pd_log.specs.declared.answer.Answer.TheVariants.{Nothing, Packet, Supplies, Bytes, Either, Fault, HardReset}
 use Rattle.pd_log.specs.declared.answer.Answer.TheVariants.{Header, Miscounted, Unknown}
-use Rattle.pd_content.specs.Texts.{header_text, packet_text}
+use Rattle.pd_log.specs.Names.{header_line, packet_line}
 
 abbrev pub mark_text : Mark → List ℕ
 mark_text Whole = []
@@ -35,23 +35,23 @@ told_text header = codes ", told by the header " ++ decimal (count_of header)
 
 -- a header that tells of other objects than there are
 unfoldable pub counts_text : ℕ → ℕ → List ℕ
-counts_text header there = header_text Sop header ++ (codes " | objects there " ++ (decimal there ++ told_text header))
+counts_text header there = header_line Sop header ++ (codes " | objects there " ++ (decimal there ++ told_text header))
 
 -- a packet whose supplies are a kernel's words
 unfoldable pub supplies_text : Contents → List ℕ
-supplies_text p = packet_text p ++ codes " (as the log's words tell it)"
+supplies_text p = packet_line p ++ codes " (as the log's words tell it)"
 
 -- a packet that was read as bytes
 unfoldable pub bytes_text : Contents → List ℕ
-bytes_text p = packet_text p ++ codes " (as bytes, low first)"
+bytes_text p = packet_line p ++ codes " (as bytes, low first)"
 
 -- a packet of words, and that of the bytes
 unfoldable pub either_text : Contents → Contents → List ℕ
-either_text p q = packet_text p ++ (codes "; or as bytes, low first: " ++ packet_text q)
+either_text p q = packet_line p ++ (codes "; or as bytes, low first: " ++ packet_line q)
 
 unfoldable pub said : Answer → List ℕ
 said Nothing = []
-said (Packet p mark) = packet_text p ++ mark_text mark
+said (Packet p mark) = packet_line p ++ mark_text mark
 said (Supplies p) = supplies_text p
 said (Bytes p) = bytes_text p
 said (Either p q) = either_text p q

@@ -10,7 +10,7 @@ use Rattle.pd_log.specs.declared.mark.Mark.TheVariants.{Whole, Lost, Damaged}
 use Rattle.pd_log.specs.declared.answer.Answer.{Answer}
 use Rattle.pd_log.specs.declared.answer.Answer.TheVariants.{Nothing, Packet, Supplies, Bytes, Either, Fault, HardReset}
 use Rattle.pd_log.specs.declared.answer.Answer.TheVariants.{Header, Miscounted, Unknown}
-use Rattle.pd_content.specs.Members.{header_members, packet_members}
+use Rattle.pd_log.specs.Names.{header_object, packet_object}
 use Rattle.pd_log.specs.Lines.{fault_words}
 
 abbrev pub mark_name : Mark → List ℕ
@@ -33,28 +33,28 @@ told_member header = codes ",\"objects_told\":" ++ decimal (count_of header)
 
 unfoldable pub counts_members : ℕ → ℕ → List ℕ
 counts_members header there =
-    codes "\"header\",\"objects_there\":" ++ (decimal there ++ (told_member header ++ (codes "," ++ header_members Sop header)))
+    codes "\"header\",\"objects_there\":" ++ (decimal there ++ (told_member header ++ (codes "," ++ header_object Sop header)))
 
 unfoldable pub reset_members : Mark → List ℕ
 reset_members mark = codes "\"hard_reset\"" ++ mark_member mark
 
 -- a packet whose supplies are a kernel's words
 unfoldable pub supplies_members : Contents → List ℕ
-supplies_members p = codes "\"packet\",\"mark\":\"whole\",\"read_as\":\"words\"," ++ packet_members p
+supplies_members p = codes "\"packet\",\"mark\":\"whole\",\"read_as\":\"words\"," ++ packet_object p
 
 -- a packet that was read as bytes
 unfoldable pub bytes_members : Contents → List ℕ
-bytes_members p = codes "\"packet\",\"mark\":\"whole\",\"read_as\":\"bytes\"," ++ packet_members p
+bytes_members p = codes "\"packet\",\"mark\":\"whole\",\"read_as\":\"bytes\"," ++ packet_object p
 
 -- a packet of words, and that of the bytes
 unfoldable pub either_members : Contents → Contents → List ℕ
 either_members p q =
-    codes "\"packet\",\"mark\":\"whole\"," ++ (packet_members p ++ (codes ",\"or_as_bytes\":{" ++ (packet_members q ++ codes "}")))
+    codes "\"packet\",\"mark\":\"whole\"," ++ (packet_object p ++ (codes ",\"or_as_bytes\":{" ++ (packet_object q ++ codes "}")))
 
 -- the kind, and the members of that kind
 unfoldable pub members : Answer → List ℕ
 members Nothing = codes "\"nothing\""
-members (Packet p mark) = codes "\"packet\"" ++ (mark_member mark ++ 44 ∷ packet_members p)
+members (Packet p mark) = codes "\"packet\"" ++ (mark_member mark ++ 44 ∷ packet_object p)
 members (Supplies p) = supplies_members p
 members (Bytes p) = bytes_members p
 members (Either p q) = either_members p q

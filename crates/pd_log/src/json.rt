@@ -5,8 +5,9 @@ ghost use Rattle.pd_log.specs.Objects.{bytes_members, counts_members, either_mem
 ghost use Rattle.pd_log.specs.Objects.{mark_name, members, reason_member, reset_members, supplies_members, time_member, told_member};
 
 use crate::line::fault_words;
+use crate::names::{push_header_object, push_packet_object};
 use crate::{Answer, Mark};
-use pd_content::{push_header_members, push_number, push_packet_members};
+use pd_content::push_number;
 use pd_header::header_count;
 use pd_packet::{Packet, PacketFault};
 use pd_symbols::Channel;
@@ -76,7 +77,7 @@ fn push_counts(text: &mut Vec<u8>, header: u16, there: usize) -> Result<(), Allo
     push_number(text, there as u64)?;
     push_told(text, header)?;
     text.extend_from_slice(b",")?;
-    push_header_members(text, Channel::Sop, header)?;
+    push_header_object(text, Channel::Sop, header)?;
     Ok(())
 }
 
@@ -96,7 +97,7 @@ fn push_supplies(text: &mut Vec<u8>, packet: &Packet) -> Result<(), AllocError>
     ensures { OnOk result (text.new.items ≡ text.old.items ++ supplies_members packet.now) }
 {
     text.extend_from_slice(b"\"packet\",\"mark\":\"whole\",\"read_as\":\"words\",")?;
-    push_packet_members(text, packet)?;
+    push_packet_object(text, packet)?;
     Ok(())
 }
 
@@ -106,7 +107,7 @@ fn push_bytes(text: &mut Vec<u8>, packet: &Packet) -> Result<(), AllocError>
     ensures { OnOk result (text.new.items ≡ text.old.items ++ bytes_members packet.now) }
 {
     text.extend_from_slice(b"\"packet\",\"mark\":\"whole\",\"read_as\":\"bytes\",")?;
-    push_packet_members(text, packet)?;
+    push_packet_object(text, packet)?;
     Ok(())
 }
 
@@ -116,9 +117,9 @@ fn push_either(text: &mut Vec<u8>, packet: &Packet, bytes: &Packet) -> Result<()
     ensures { OnOk result (text.new.items ≡ text.old.items ++ either_members packet.now bytes.now) }
 {
     text.extend_from_slice(b"\"packet\",\"mark\":\"whole\",")?;
-    push_packet_members(text, packet)?;
+    push_packet_object(text, packet)?;
     text.extend_from_slice(b",\"or_as_bytes\":{")?;
-    push_packet_members(text, bytes)?;
+    push_packet_object(text, bytes)?;
     text.extend_from_slice(b"}")?;
     Ok(())
 }
@@ -134,7 +135,7 @@ fn push_members(text: &mut Vec<u8>, answer: &Answer) -> Result<(), AllocError>
             text.extend_from_slice(b"\"packet\"")?;
             push_mark(text, *mark)?;
             text.push(b',')?;
-            push_packet_members(text, packet)
+            push_packet_object(text, packet)
         }
         Answer::Supplies(packet) => push_supplies(text, packet),
         Answer::Bytes(packet) => push_bytes(text, packet),

@@ -4,8 +4,9 @@ ghost use Rattle.std.specs.Prelude.{◌≡◌, ◌++◌, OnOk, option_map};
 ghost use Rattle.pd_log.specs.Lines.{bytes_text, counts_text, either_text, fault_text, fault_words, line_text, mark_text, said};
 ghost use Rattle.pd_log.specs.Lines.{supplies_text, time_text, told_text};
 
+use crate::names::{push_header_line, push_packet_line};
 use crate::{Answer, Mark};
-use pd_content::{push_header, push_number, push_packet};
+use pd_content::push_number;
 use pd_header::header_count;
 use pd_packet::{Packet, PacketFault};
 use pd_symbols::Channel;
@@ -63,7 +64,7 @@ fn push_told(text: &mut Vec<u8>, header: u16) -> Result<(), AllocError>
 fn push_counts(text: &mut Vec<u8>, header: u16, there: usize) -> Result<(), AllocError>
     ensures { OnOk result (text.new.items ≡ text.old.items ++ counts_text header there) }
 {
-    push_header(text, Channel::Sop, header)?;
+    push_header_line(text, Channel::Sop, header)?;
     text.extend_from_slice(b" | objects there ")?;
     push_number(text, there as u64)?;
     push_told(text, header)
@@ -74,7 +75,7 @@ fn push_counts(text: &mut Vec<u8>, header: u16, there: usize) -> Result<(), Allo
 fn push_supplies(text: &mut Vec<u8>, packet: &Packet) -> Result<(), AllocError>
     ensures { OnOk result (text.new.items ≡ text.old.items ++ supplies_text packet.now) }
 {
-    push_packet(text, packet)?;
+    push_packet_line(text, packet)?;
     text.extend_from_slice(b" (as the log's words tell it)")
 }
 
@@ -83,7 +84,7 @@ fn push_supplies(text: &mut Vec<u8>, packet: &Packet) -> Result<(), AllocError>
 fn push_bytes(text: &mut Vec<u8>, packet: &Packet) -> Result<(), AllocError>
     ensures { OnOk result (text.new.items ≡ text.old.items ++ bytes_text packet.now) }
 {
-    push_packet(text, packet)?;
+    push_packet_line(text, packet)?;
     text.extend_from_slice(b" (as bytes, low first)")
 }
 
@@ -92,9 +93,9 @@ fn push_bytes(text: &mut Vec<u8>, packet: &Packet) -> Result<(), AllocError>
 fn push_either(text: &mut Vec<u8>, packet: &Packet, bytes: &Packet) -> Result<(), AllocError>
     ensures { OnOk result (text.new.items ≡ text.old.items ++ either_text packet.now bytes.now) }
 {
-    push_packet(text, packet)?;
+    push_packet_line(text, packet)?;
     text.extend_from_slice(b"; or as bytes, low first: ")?;
-    push_packet(text, bytes)?;
+    push_packet_line(text, bytes)?;
     Ok(())
 }
 
@@ -106,7 +107,7 @@ fn push_said(text: &mut Vec<u8>, answer: &Answer) -> Result<(), AllocError>
     match answer {
         Answer::Nothing => Ok(()),
         Answer::Packet(packet, mark) => {
-            push_packet(text, packet)?;
+            push_packet_line(text, packet)?;
             text.extend_from_slice(mark_text(*mark).as_bytes())
         }
         Answer::Supplies(packet) => push_supplies(text, packet),

@@ -6,4 +6,4 @@ pub returns : goal.returns
 unfolding counts_members
 returns c =
     five _ _ _ _ _ _ _ _ _ _ _ c.in_ok-extend_from_slice.ensures.items c.in_ok-push_number.ensures c.in_ok-push_told.ensures
-    c.in_ok-extend_from_slice-2.ensures.items c.in_ok-push_header_members.ensures
+    c.in_ok-extend_from_slice-2.ensures.items c.in_ok-push_header_object.ensures

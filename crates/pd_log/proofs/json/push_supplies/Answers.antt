@@ -4,4 +4,4 @@ use Rattle.pd_log.proofs.json.push_supplies.Goals as goal
 
 pub returns : goal.returns
 unfolding supplies_members
-returns c = two _ _ _ _ _ c.in_ok-extend_from_slice.ensures.items c.in_ok-push_packet_members.ensures
+returns c = two _ _ _ _ _ c.in_ok-extend_from_slice.ensures.items c.in_ok-push_packet_object.ensures
