@@ -304,8 +304,9 @@ export class Picture {
       words("before the edit");
     }
     if (this.isLess && x < width - 560) words("what stands close is drawn together: zoom in");
-    const told = `least margin in this window: ${watts(least.left)} at ${seconds(least.at)} s`;
-    if (x < width - 340) paint.text(width - RIGHT, 11, told, colours.fault, { align: "right" });
+    const margin = `${watts(least.left)} at ${seconds(least.at)} s`;
+    const told = x < width - 340 ? `least margin in this window: ${margin}` : `least margin ${margin}`;
+    if (x < width - 250) paint.text(width - RIGHT, 11, told, colours.fault, { align: "right" });
   }
 
   paintLaneNames(paint, port, top, width) {

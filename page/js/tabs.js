@@ -123,10 +123,10 @@ export function shownTables(go, goToTold) {
   });
   made.guarantee = new Rows({
     label: "What is sure for each port", none: "the scenario is refused",
-    columns: [{ title: "port", width: 50, right: true }, { title: "supply", width: 60, right: true },
-      { title: "voltage", width: 80, right: true }, { title: "offered at least", width: 120, right: true },
-      { title: "cable of 3 A", width: 100, right: true }, { title: "free at least", width: 100, right: true },
-      { title: "free at most", width: 100, right: true }, { title: "never reset up to", width: 130, right: true }, { title: "" }],
+    columns: [{ title: "port", width: 50, right: true }, { title: "supply", width: 74, right: true },
+      { title: "voltage", width: 80, right: true }, { title: "offered at least", width: 136, right: true },
+      { title: "cable of 3 A", width: 110, right: true }, { title: "free at least", width: 110, right: true },
+      { title: "free at most", width: 110, right: true }, { title: "never reset up to", width: 146, right: true }, { title: "" }],
     cells: (row) => {
       const it = made.guarantee.rows[row];
       if (it.kind === "supply") {
