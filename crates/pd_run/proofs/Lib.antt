@@ -2,7 +2,6 @@ pub mod Alike
 pub mod Awaited
 pub mod Contracts
 pub mod Cut
-pub mod Distinct
 pub mod First
 pub mod Follow
 pub mod Forces

@@ -1,6 +1,5 @@
 pub mod Beside
 pub mod Cost
-pub mod Distinct
 pub mod Held
 pub mod Laws
 pub mod Live

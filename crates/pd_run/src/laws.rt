@@ -1,6 +1,5 @@
 //! What holds of runs.
 
-ghost use Rattle.pd_run.specs.Distinct.{NoMoveTwice};
 ghost use Rattle.pd_run.specs.Laws.{OneRun, AlwaysFit, ContractsAlwaysFit};
 ghost use Rattle.pd_run.specs.Sheds.{ShedsAlwaysLast};
 ghost use Rattle.pd_run.specs.Sound.{RunsAreSound};
@@ -9,11 +8,6 @@ ghost use Rattle.pd_run.specs.UpTo.{GoOnAlike, AnsweredAlike, PortsGoOnAlike};
 /// A plan has at most one run.
 pub fn one_run()
     ensures { OneRun }
-{}
-
-/// No move stands twice in a run: no two of one port go on from the same record for the same due.
-pub fn no_move_twice()
-    ensures { NoMoveTwice }
 {}
 
 /// The ports' holds fit the budget of the time at the end of each instant of a run.
