@@ -18,7 +18,8 @@ may name = record (new_rule name) { action = Some Set }
 abbrev pub several : Text → Rule
 several name = record (new_rule name) { required = true; action = Some Append }
 
--- an option with a word behind it, as `--port 2` or `--port=2`, one of a letter, as `-o FILE`, and one that is alone
+-- an option with a word behind it, as `--port 2` or `--port=2`, one of a letter, as `-o FILE`, one that is alone, and one that is alone
+-- and may be its letter, too, as `-v`
 abbrev pub value : Text → Rule
 value name = record (new_rule name) { long = Some name; action = Some Set }
 
@@ -32,6 +33,9 @@ letter code name = record (new_rule name) { short = Some code; action = Some Set
 abbrev pub flag : Text → Rule
 flag name = record (new_rule name) { long = Some name; action = Some SetTrue }
 
+abbrev pub switch : ℕ → Text → Rule
+switch code name = record (new_rule name) { short = Some code; long = Some name; action = Some SetTrue }
+
 abbrev pub rule : Slot → Rule
 rule (slot.Must name) = must name.now
 rule (slot.May name) = may name.now
@@ -40,6 +44,7 @@ rule (slot.Value name) = value name.now
 rule (slot.Values name) = values name.now
 rule (slot.Letter code name) = letter code name.now
 rule (slot.Flag name) = flag name.now
+rule (slot.Switch code name) = switch code name.now
 
 -- ---- the commands
 
@@ -80,7 +85,7 @@ vary = command (codes "vary") (must (codes "SCENARIO") ∷ may (codes "EDITS") �
     ∷ flag (codes "json") ∷ flag (codes "csv") ∷ [])
 
 abbrev pub test : Shape
-test = command (codes "test") (several (codes "SCRIPT") ∷ flag (codes "json") ∷ [])
+test = command (codes "test") (several (codes "SCRIPT") ∷ flag (codes "json") ∷ switch 118 (codes "verbose") ∷ value (codes "junit") ∷ [])
 
 abbrev pub draw : Shape
 draw = command (codes "draw") (must (codes "SCENARIO") ∷ may (codes "EDITS") ∷ keep_going ∷ out
@@ -93,14 +98,24 @@ abbrev pub explain : Shape
 explain = command (codes "explain") (must (codes "SCENARIO") ∷ may (codes "EDITS") ∷ flag (codes "json") ∷ flag (codes "strict") ∷ [])
 
 abbrev pub decode : Shape
-decode = command (codes "decode") (may (codes "FILE") ∷ flag (codes "json") ∷ [])
+decode = command (codes "decode") (may (codes "FILE") ∷ flag (codes "json") ∷ flag (codes "with-line") ∷ [])
 
--- beside these clap has `help`, `--help` and `-h`
+-- a scenario to begin with, of so many ports
+abbrev pub new : Shape
+new = command (codes "new") (may (codes "PORTS") ∷ [])
+
+abbrev pub schema : Shape
+schema = command (codes "schema") []
+
+-- beside these clap has `help`, `--help` and `-h`, `--version` and `-V`
 unfoldable pub lab : App
 lab = record {
-  top = record (new_shape (codes "pdlab")) { is_leaf = false };
-  subs = live ∷ show ∷ why ∷ guarantee ∷ sweep ∷ vary ∷ test ∷ draw ∷ page ∷ explain ∷ decode ∷ [];
+  top = record (new_shape (codes "pdlab")) { is_leaf = false; has_version = true };
+  subs = live ∷ show ∷ why ∷ guarantee ∷ sweep ∷ vary ∷ test ∷ draw ∷ page ∷ explain ∷ decode ∷ new ∷ schema ∷ [];
 }
+
+abbrev pub with_version : App → App
+with_version app = record app { top = record app.top { has_version = true } }
 
 abbrev pub with_command : App → Text → List Rule → App
 with_command app name rules = with_subcommand app (command name rules)

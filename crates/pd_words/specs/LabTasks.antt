@@ -12,6 +12,7 @@ use Rattle.pd_units.specs.declared.unit.Unit.{Unit}
 use Rattle.pd_units.specs.declared.unit.Unit.TheVariants.{Microseconds, Milliwatts}
 use Rattle.pd_words.specs.Lab.{lab}
 use Rattle.pd_words.specs.Names.{named}
+use Rattle.pd_words.specs.declared.lab_task.DecodeOptions.{DecodeOptions}
 use Rattle.pd_words.specs.declared.lab_task.DrawOptions.{DrawOptions}
 use Rattle.pd_words.specs.declared.lab_task.ExplainOptions.{ExplainOptions}
 use Rattle.pd_words.specs.declared.lab_task.Form.{Form}
@@ -32,6 +33,12 @@ pub record Files : Type 0 where
   pub keep_going : Bool
   pub out : Option Text
 
+-- how test scripts are told: as JSON or in words, also the lines that pass, and as JUnit in a file, where one is named
+pub record Look : Type 0 where
+  pub json : Bool
+  pub verbose : Bool
+  pub junit : Option Text
+
 -- ---- what may be asked
 
 pub data Asked : Type 0 where
@@ -41,11 +48,13 @@ pub data Asked : Type 0 where
   guarantee : Files → (json : Bool) → Asked
   sweep : Files → SweepOptions → Asked
   vary : Files → (sets : List Text) → (tell : Option Text) → Form → Asked
-  test : (scripts : List Text) → (json : Bool) → Asked
+  test : (scripts : List Text) → Look → Asked
   draw : Files → DrawOptions → Asked
   page : Files → (page : Option Text) → Asked
   explain : Files → ExplainOptions → Asked
-  decode : (file : Text) → (json : Bool) → Asked
+  decode : (file : Text) → DecodeOptions → Asked
+  new : (ports : ℕ) → Asked
+  schema : Asked
 
 -- ---- a word or an option, by what was found
 
@@ -173,8 +182,11 @@ vary_by rows = option_and_then (λ files. option_and_then (λ form. option_map (
     vary files sets (first_of (codes "tell") rows) form) (all_of (codes "set") rows)) (form_by rows)) (scene_by rows)
 
 abbrev pub test_by : List Row → Option Asked
-test_by rows = option_and_then (λ scripts. if is_twice scripts then None else Some (test scripts (is_on (codes "json") rows)))
-    (all_of (codes "SCRIPT") rows)
+test_by rows = option_and_then (λ scripts. if is_twice scripts then None else Some (test scripts (record {
+  json = is_on (codes "json") rows;
+  verbose = is_on (codes "verbose") rows;
+  junit = first_of (codes "junit") rows;
+}))) (all_of (codes "SCRIPT") rows)
 
 -- a picture is 1,000 to 10,000 pixels wide, 1,200 where nothing is asked
 abbrev pub width_with : Option ℕ → Option ℕ
@@ -202,7 +214,18 @@ explain_by rows = option_map (λ files. explain files (record {
 
 -- standard input where no file is named
 abbrev pub decode_by : List Row → Option Asked
-decode_by rows = Some (decode (unwrap_or (first_of (codes "FILE") rows) (codes "-")) (is_on (codes "json") rows))
+decode_by rows = Some (decode (unwrap_or (first_of (codes "FILE") rows) (codes "-")) (record {
+  json = is_on (codes "json") rows;
+  with_line = is_on (codes "with-line") rows;
+}))
+
+-- 1 to 8 ports, 2 where nothing is asked
+abbrev pub ports_with : Option ℕ → Option ℕ
+ports_with None = Some 2
+ports_with (Some ports) = if nat_lt 0 ports && nat_lt ports 9 then Some ports else None
+
+abbrev pub new_by : List Row → Option Asked
+new_by rows = option_map (λ ports. new ports) (option_and_then ports_with (number_of (codes "PORTS") rows))
 
 abbrev pub asked_by : Text × List Row → Option Asked
 asked_by found = if bytes_eq found.0 (codes "live") then live_by found.1
@@ -215,7 +238,9 @@ asked_by found = if bytes_eq found.0 (codes "live") then live_by found.1
     else (if bytes_eq found.0 (codes "draw") then draw_by found.1
     else (if bytes_eq found.0 (codes "page") then page_by found.1
     else (if bytes_eq found.0 (codes "explain") then explain_by found.1
-    else (if bytes_eq found.0 (codes "decode") then decode_by found.1 else None))))))))))
+    else (if bytes_eq found.0 (codes "decode") then decode_by found.1
+    else (if bytes_eq found.0 (codes "new") then new_by found.1
+    else (if bytes_eq found.0 (codes "schema") then Some schema else None))))))))))))
 
 -- ---- a whole line: words that clap takes, and what the command is that they name
 
@@ -244,8 +269,11 @@ asked (task.Guarantee scene json) = guarantee (files scene) json
 asked (task.Sweep scene options) = sweep (files scene) options
 asked (task.Vary scene options) =
     vary (files scene) (map (λ x. x.now) options.sets.items) (option_map (λ x. x.now) options.tell) options.form
-asked (task.Test scripts json) = test (map (λ x. x.now) scripts.items) json
+asked (task.Test scripts options) = test (map (λ x. x.now) scripts.items)
+    (record { json = options.json; verbose = options.verbose; junit = option_map (λ x. x.now) options.junit })
 asked (task.Draw scene options) = draw (files scene) options
 asked (task.Page scene name) = page (files scene) (option_map (λ x. x.now) name)
 asked (task.Explain scene options) = explain (files scene) options
-asked (task.Decode file json) = decode file.now json
+asked (task.Decode file options) = decode file.now options
+asked (task.New ports) = new ports
+asked task.Schema = schema

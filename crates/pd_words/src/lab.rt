@@ -3,7 +3,7 @@
 ghost use Rattle.std.specs.Prelude.{◌≡◌, IfOk, false, map};
 ghost use Rattle.clap.specs.Words.{app_of, rule_of, shape_of};
 ghost use Rattle.clap.specs.declared.builder.command.Command.TheViews.{out-Command as fields_of};
-ghost use Rattle.pd_words.specs.Lab.{command, lab, rule, with_command};
+ghost use Rattle.pd_words.specs.Lab.{command, lab, rule, with_command, with_version};
 
 use clap::{Arg, ArgAction, Command};
 use std::alloc::{AllocError, Global};
@@ -25,9 +25,11 @@ pub enum Slot<'a> {
     Letter(char, &'a str),
     /// An option that is alone.
     Flag(&'a str),
+    /// The same, which may be its letter, too.
+    Switch(char, &'a str),
 }
 
-use Slot::{Flag, Letter, May, Must, Several, Value, Values};
+use Slot::{Flag, Letter, May, Must, Several, Switch, Value, Values};
 
 /// The same, as the library has it.
 fn argument<'a>(alloc: Global, slot: Slot<'a>) -> Arg<'a>
@@ -47,6 +49,10 @@ fn argument<'a>(alloc: Global, slot: Slot<'a>) -> Arg<'a>
             .action(ArgAction::Append),
         Letter(letter, name) => Arg::new(alloc, name).short(letter).action(ArgAction::Set),
         Flag(name) => Arg::new(alloc, name).long(name).action(ArgAction::SetTrue),
+        Switch(letter, name) => Arg::new(alloc, name)
+            .short(letter)
+            .long(name)
+            .action(ArgAction::SetTrue),
     }
 }
 
@@ -60,6 +66,13 @@ fn command<'a>(alloc: Global, name: &'a str, slots: &[Slot<'a>]) -> Result<Comma
         command = command.arg(argument(alloc, *slot))?;
     }
     Ok(command)
+}
+
+/// A program that tells its version.
+fn with_version<'a>(program: Command<'a>) -> Command<'a>
+    ensures { app_of result ≡ with_version (app_of program.entry) }
+{
+    program.version(VERSION)
 }
 
 /// A program with one command more.
@@ -144,7 +157,12 @@ const VARY: [Slot; 7] = [
     CSV,
 ];
 
-const TEST: [Slot; 2] = [Several("SCRIPT"), JSON];
+const TEST: [Slot; 4] = [
+    Several("SCRIPT"),
+    JSON,
+    Switch('v', "verbose"),
+    Value("junit"),
+];
 
 const DRAW: [Slot; 9] = [
     SCENARIO,
@@ -162,7 +180,12 @@ const PAGE: [Slot; 5] = [SCENARIO, EDITS, KEEP_GOING, OUT, Value("page")];
 
 const EXPLAIN: [Slot; 4] = [SCENARIO, EDITS, JSON, Flag("strict")];
 
-const DECODE: [Slot; 2] = [May("FILE"), JSON];
+const DECODE: [Slot; 3] = [May("FILE"), JSON, Flag("with-line")];
+
+const NEW: [Slot; 1] = [May("PORTS")];
+
+/// The version of both programs, as CHANGELOG has it.
+pub const VERSION: &str = "1.0.0";
 
 /// What may stand behind the name of a command of `pdlab`.
 pub fn slots_of(command: &str) -> &'static [Slot<'static>] {
@@ -178,6 +201,7 @@ pub fn slots_of(command: &str) -> &'static [Slot<'static>] {
         "page" => &PAGE,
         "explain" => &EXPLAIN,
         "decode" => &DECODE,
+        "new" => &NEW,
         _ => &[],
     }
 }
@@ -186,7 +210,7 @@ pub fn slots_of(command: &str) -> &'static [Slot<'static>] {
 pub fn lab<'a>(alloc: Global) -> Result<Command<'a>, AllocError>
     ensures { IfOk result (λ c. app_of c ≡ lab) }
 {
-    let program = Command::new(alloc, "pdlab");
+    let program = with_version(Command::new(alloc, "pdlab"));
     let program = with_command(alloc, program, "live", &LIVE)?;
     let program = with_command(alloc, program, "show", &SHOW)?;
     let program = with_command(alloc, program, "why", &WHY)?;
@@ -197,5 +221,7 @@ pub fn lab<'a>(alloc: Global) -> Result<Command<'a>, AllocError>
     let program = with_command(alloc, program, "draw", &DRAW)?;
     let program = with_command(alloc, program, "page", &PAGE)?;
     let program = with_command(alloc, program, "explain", &EXPLAIN)?;
-    with_command(alloc, program, "decode", &DECODE)
+    let program = with_command(alloc, program, "decode", &DECODE)?;
+    let program = with_command(alloc, program, "new", &NEW)?;
+    with_command(alloc, program, "schema", &[])
 }

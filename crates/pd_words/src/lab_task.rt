@@ -82,6 +82,22 @@ pub struct ExplainOptions {
     pub strict: bool,
 }
 
+/// How it is told whether runs are as test scripts expect them: as JSON objects, or in words; whether the lines that pass are told
+/// in words, too; and the file that JUnit's form of it is written to, where one is named.
+#[derive(Clone, Copy)]
+pub struct TestOptions<'a> {
+    pub json: bool,
+    pub verbose: bool,
+    pub junit: Option<&'a str>,
+}
+
+/// How a log is told: as JSON objects, or in words; and whether each of its lines is repeated.
+#[derive(Clone, Copy)]
+pub struct DecodeOptions {
+    pub json: bool,
+    pub with_line: bool,
+}
+
 /// What a command line asks for, by the name of its command. The last value of some tells whether JSON objects are wanted.
 #[derive(Drop)]
 pub enum LabTask<'a> {
@@ -98,7 +114,7 @@ pub enum LabTask<'a> {
     /// What comes of each combination of values of edit lines.
     Vary(Scene<'a>, VaryOptions<'a>),
     /// Whether runs are as test scripts expect them.
-    Test(Vec<&'a str>, bool),
+    Test(Vec<&'a str>, TestOptions<'a>),
     /// A picture of a run.
     Draw(Scene<'a>, DrawOptions),
     /// The page with a scenario in it, which is made of the file of this name.
@@ -106,7 +122,11 @@ pub enum LabTask<'a> {
     /// Why a scenario or lines of its edit script are refused.
     Explain(Scene<'a>, ExplainOptions),
     /// What the lines of a log say.
-    Decode(&'a str, bool),
+    Decode(&'a str, DecodeOptions),
+    /// A scenario of so many ports to begin with, 1 to 8.
+    New(usize),
+    /// What may be in a scenario file, as a JSON Schema.
+    Schema,
 }
 
 /// A number that a command may be given: its name in the help, and what it may be.
@@ -121,6 +141,8 @@ pub struct Wanted {
 pub enum LabFault<'a> {
     /// It asks how the program is used, or the command of this name.
     Help(&'a str),
+    /// It asks for the program's version.
+    Version,
     /// There is no memory to read it.
     Memory,
     /// Its words are others; a sentence says which is wrong, where that is known.

@@ -7,13 +7,13 @@ ghost use Rattle.clap.specs.Words.{all_of, first_of, found_of, kind_of, rows_of,
 ghost use Rattle.pd_words.specs.LabTasks.{asked, asked_by, behind_by, decode_by, draw_by, explain_by, files, form_by, given_by};
 ghost use Rattle.pd_words.specs.LabTasks.{is_on, is_twice, lab_asked, live_by, number_of, scene_by, show_by, sweep_by, test_by};
 ghost use Rattle.pd_words.specs.LabTasks.{is_number, number, page_by, quantity, quantity_of, scene_with, why_by, why_with};
-ghost use Rattle.pd_words.specs.LabTasks.{guarantee_by, vary_by, why_words, width_by, window_by};
+ghost use Rattle.pd_words.specs.LabTasks.{guarantee_by, new_by, ports_with, vary_by, why_words, width_by, window_by};
 ghost use Rattle.pd_words.specs.Names.{named};
 
 use crate::lab::lab;
 use crate::lab_task::{
-    DrawOptions, ExplainOptions, Form, LabFault, LabTask, Scene, ShowOptions, SweepOptions,
-    VaryOptions, Wanted, WhyOptions, Window,
+    DecodeOptions, DrawOptions, ExplainOptions, Form, LabFault, LabTask, Scene, ShowOptions,
+    SweepOptions, TestOptions, VaryOptions, Wanted, WhyOptions, Window,
 };
 use crate::meant::{meant_command, meant_option, topic_of};
 use crate::names::named;
@@ -174,6 +174,11 @@ const RESERVE: Wanted = Wanted {
 const PORT_WORD: Wanted = Wanted {
     name: "PORT",
     range: PORTS,
+};
+
+const PORTS_WORD: Wanted = Wanted {
+    name: "PORTS",
+    range: "a number of ports, 1 to 8",
 };
 
 const AT: Wanted = Wanted {
@@ -466,8 +471,13 @@ fn test_of<'a>(alloc: Global, matches: &ArgMatches<'a>) -> Result<LabTask<'a>, L
     if is_twice(scripts) {
         return Err(LabFault::Twice);
     }
+    let options = TestOptions {
+        json: is_on(matches, "json"),
+        verbose: is_on(matches, "verbose"),
+        junit: first(matches, "junit"),
+    };
     match scripts.to_vec(alloc) {
-        Ok(scripts) => Ok(LabTask::Test(scripts, is_on(matches, "json"))),
+        Ok(scripts) => Ok(LabTask::Test(scripts, options)),
         Err(_) => Err(LabFault::Memory),
     }
 }
@@ -489,7 +499,38 @@ fn decode_of<'a>(matches: &ArgMatches<'a>) -> LabTask<'a>
     ensures { Some (asked result) ≡ decode_by (rows_of (found_of matches.now)) }
 {
     let file = first(matches, "FILE").unwrap_or("-");
-    LabTask::Decode(file, is_on(matches, "json"))
+    let options = DecodeOptions {
+        json: is_on(matches, "json"),
+        with_line: is_on(matches, "with-line"),
+    };
+    LabTask::Decode(file, options)
+}
+
+/// How many ports a scenario to begin with has.
+///
+/// # Errors
+/// That is no number from 1 to 8.
+fn ports_of<'a>(matches: &ArgMatches<'a>) -> Result<u64, LabFault<'a>>
+    ensures { result_ok result ≡ option_and_then ports_with (number_of (codes "PORTS") (rows_of (found_of matches.now))) }
+{
+    match number_of(matches, "PORTS", PORTS_WORD)? {
+        None => Ok(2),
+        Some(ports) if 0 < ports && ports < 9 => Ok(ports),
+        Some(_) => {
+            let word = first(matches, "PORTS").unwrap_or("");
+            Err(LabFault::Number {
+                wanted: PORTS_WORD,
+                word,
+            })
+        }
+    }
+}
+
+/// `new [PORTS]`
+fn new_of<'a>(matches: &ArgMatches<'a>) -> Result<LabTask<'a>, LabFault<'a>>
+    ensures { option_map asked (result_ok result) ≡ new_by (rows_of (found_of matches.now)) }
+{
+    Ok(LabTask::New(ports_of(matches)? as usize))
 }
 
 /// What the command of this name is given.
@@ -513,6 +554,8 @@ fn task_of<'a>(
         "page" => page_of(matches),
         "explain" => explain_of(matches),
         "decode" => Ok(decode_of(matches)),
+        "new" => new_of(matches),
+        "schema" => Ok(LabTask::Schema),
         _ => Err(LabFault::Words(None)),
     }
 }
@@ -597,6 +640,7 @@ fn fault_of<'a>(alloc: Global, error: &Error, words: &'a [String]) -> LabFault<'
     match error.kind() {
         ErrorKind::OutOfMemory => LabFault::Memory,
         ErrorKind::DisplayHelp => LabFault::Help(topic_of(words)),
+        ErrorKind::DisplayVersion => LabFault::Version,
         kind => match below_zero(words) {
             Some(fault) if kind == ErrorKind::UnknownArgument => fault,
             _ => LabFault::Words(told(alloc, error, words)),

@@ -9,9 +9,10 @@ mod names;
 mod program;
 mod task;
 
+pub use lab::VERSION;
 pub use lab_task::{
-    DrawOptions, ExplainOptions, Form, LabFault, LabTask, Scene, ShowOptions, SweepOptions,
-    VaryOptions, Wanted, WhyOptions, Window,
+    DecodeOptions, DrawOptions, ExplainOptions, Form, LabFault, LabTask, Scene, ShowOptions,
+    SweepOptions, TestOptions, VaryOptions, Wanted, WhyOptions, Window,
 };
 pub use lab_words::read_lab_task;
 pub use meant::{meant_command, topic_of};

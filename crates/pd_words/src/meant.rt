@@ -7,7 +7,7 @@ ghost use Rattle.pd_words.specs.Meant.{behind_name, front, meant, names, topic};
 use crate::lab::{Slot, slots_of};
 use pd_hints::{is_slip, nearest};
 
-const COMMANDS: [&str; 11] = [
+const COMMANDS: [&str; 13] = [
     "live",
     "show",
     "why",
@@ -19,6 +19,8 @@ const COMMANDS: [&str; 11] = [
     "page",
     "explain",
     "decode",
+    "new",
+    "schema",
 ];
 
 /// The names of the commands.
@@ -86,7 +88,9 @@ pub fn meant_command(word: &str) -> Option<&'static str>
 /// The name of an option of several letters.
 fn long_name(slot: Slot<'static>) -> Option<&'static str> {
     match slot {
-        Slot::Value(name) | Slot::Values(name) | Slot::Flag(name) => Some(name),
+        Slot::Value(name) | Slot::Values(name) | Slot::Flag(name) | Slot::Switch(_, name) => {
+            Some(name)
+        }
         _ => None,
     }
 }

@@ -12,7 +12,8 @@ more program so_far known name rules is before = is ∙ ap (λ a. spec.with_comm
 pub returns : goal.returns
 unfolding spec.lab
 returns c =
-    let live = more _ _ _ _ _ c.in_ok-program.ensures c.new-program.ensures.app in
+    let bare = c.with_version-program.ensures ∙ ap spec.with_version c.new.ensures.app in
+    let live = more _ _ _ _ _ c.in_ok-program.ensures bare in
     let show = more _ _ _ _ _ c.in_ok-program-2.ensures live in
     let why = more _ _ _ _ _ c.in_ok-program-3.ensures show in
     let guarantee = more _ _ _ _ _ c.in_ok-program-4.ensures why in
@@ -22,4 +23,6 @@ returns c =
     let draw = more _ _ _ _ _ c.in_ok-program-8.ensures test in
     let page = more _ _ _ _ _ c.in_ok-program-9.ensures draw in
     let explain = more _ _ _ _ _ c.in_ok-program-10.ensures page in
-    IfOk-weaker c.with_command-11.result _ _ (λ program added. more _ _ _ _ _ added explain) c.with_command-11.ensures
+    let decode = more _ _ _ _ _ c.in_ok-program-11.ensures explain in
+    let new = more _ _ _ _ _ c.in_ok-program-12.ensures decode in
+    IfOk-weaker c.with_command-13.result _ _ (λ program added. more _ _ _ _ _ added new) c.with_command-13.ensures
