@@ -3,6 +3,7 @@ import concurrent.futures
 import contextlib
 import os
 import pathlib
+import re
 import subprocess
 import sys
 import tempfile
@@ -30,6 +31,11 @@ class Answer(typing.NamedTuple):
 
     def shown(self):
         return f"status {self.status}, error {self.err[:80]!r}, output {self.out[:80]!r} ({len(self.out)} bytes)"
+
+
+def unnamed(picture):
+    """A picture without the names of its files, which `pdlab draw` alone knows."""
+    return re.sub(rb'<text class="head end"[^\n]*\n', b"", picture)
 
 
 @contextlib.contextmanager

@@ -34,7 +34,7 @@ whole_look = record { from = 0; to = 18446744073709551615; width = 1200; port = 
 
 -- the text is the picture of the scenario's run
 abbrev pub Draws : ScenarioData → List ℕ → Type 0
-Draws s text = DrewRun (plan_of s) whole_look text
+Draws s text = DrewRun (plan_of s) whole_look [] text
 
 -- a line for each warning
 abbrev pub warned_line : Warning → List ℕ

@@ -67,7 +67,7 @@ pub(crate) fn drawn<const N: usize>(
         port: None,
         holds: false,
     };
-    draw(alloc, &plan, look, meter)
+    draw(alloc, &plan, look, b"", meter)
 }
 
 /// Writes what a warning says, as a line.

@@ -14,6 +14,7 @@ use Rattle.pd_chart.specs.declared.look.Look.{Look}
 use Rattle.pd_chart.specs.Chart.{port_name}
 use Rattle.pd_chart.specs.Curves.{curves_of}
 use Rattle.pd_chart.specs.Picture.{elements_of, frame_of, head_of}
+use Rattle.pd_chart.specs.Scale.{right_of}
 use Rattle.pd_draw.specs.declared.lane.Lane.{Lane}
 use Rattle.pd_draw.specs.declared.phase.Phase.{Phase}
 use Rattle.pd_draw.specs.declared.phase.Phase.TheVariants.{Detached, Negotiating, Contract, HardReset, Disabled}
@@ -64,9 +65,14 @@ sender_key left side =
 abbrev pub sender_keys : List Element
 sender_keys = sender_key 8200 (codes "src") ++ (sender_key 8650 (codes "snk") ++ sender_key 9100 (codes "cbl"))
 
--- what stands before the lanes: how they look, the phases, and who sends
-abbrev pub keys : List Element
-keys = style_of lane_rules ∷ (flat_map phase_key phases ++ sender_keys)
+-- whose run it is, where that is said: it ends where the window does, beside the title
+abbrev pub name_elements : Frame → List ℕ → List Element
+name_elements f [] = []
+name_elements f (x ∷ xs) = words_at (codes "head end") (right_of f) 190 (x ∷ xs) ∷ []
+
+-- what stands before the lanes: how they look, the phases, who sends, and whose run it is
+abbrev pub keys : Frame → List ℕ → List Element
+keys f name = style_of lane_rules ∷ (flat_map phase_key phases ++ (sender_keys ++ name_elements f name))
 
 -- what stands in the lane of a port: the rows' names, what the moves have drawn, and the last band
 abbrev pub lane_elements : Frame → Drawn → ℕ → List Element
@@ -102,22 +108,22 @@ lanes_text f lanes texts down [] = []
 lanes_text f lanes texts down (port ∷ ports) =
     placed_text down (lane_text f lanes texts port) ++ lanes_text f lanes texts (down + lane_height (lane_at lanes port)) ports
 
--- the picture of the steps of n ports and of their lanes
-unfoldable pub picture : Frame → ℕ → Look → List Level → Drawn → Drawing
-picture f n look levels d = record {
+-- the picture of the steps of n ports and of their lanes, with whose run it is
+unfoldable pub picture : Frame → ℕ → Look → List ℕ → List Level → Drawn → Drawing
+picture f n look name levels d = record {
   attributes = head_of f (bottom_of d.lanes n look.port);
-  elements = elements_of f (bottom_of d.lanes n look.port) n look.holds levels ++ keys;
+  elements = elements_of f (bottom_of d.lanes n look.port) n look.holds levels ++ keys f name;
   groups = groups_of f d 4000 (shown_ports n look.port);
 }
 
 -- the text of the picture of what is seen of a plan's moves
-abbrev pub picture_text : Plan → Look → List Seen → List ℕ
-picture_text plan look seens =
-    drawing_text (picture (frame_of plan look) (count plan) look (curves_of (frame_of plan look) plan seens).levels
+abbrev pub picture_text : Plan → Look → List ℕ → List Seen → List ℕ
+picture_text plan look name seens =
+    drawing_text (picture (frame_of plan look) (count plan) look name (curves_of (frame_of plan look) plan seens).levels
     (drawn_of (frame_of plan look) look.port seens))
 
--- the text is that of the picture of the plan's run, which is safe
-pub record DrewRun (plan : Plan) (look : Look) (text : List ℕ) : Type 0 where
+-- the text is that of the picture of the plan's run, which is safe, with whose run it is
+pub record DrewRun (plan : Plan) (look : Look) (name text : List ℕ) : Type 0 where
   pub moves : List Move
   pub safe : SafeRun plan moves
-  pub text_is : text ≡ picture_text plan look (all_seen plan moves)
+  pub text_is : text ≡ picture_text plan look name (all_seen plan moves)

@@ -4,8 +4,8 @@ ghost use Rattle.std.specs.Prelude.{◌≡◌, ◌++◌, ◌≤◌, IfOk, OnOk, 
 ghost use Rattle.std.specs.List.{flat_map};
 ghost use Rattle.pd_chart.specs.Elements.{attribute_text, drawing_text, element_text, group_attribute};
 ghost use Rattle.pd_draw.specs.Lanes.{Drawn, shown_ports};
-ghost use Rattle.pd_draw.specs.Picture.{end_after, keys, lane_text, lanes_text, names_of, phase_key, phases, picture, placed_text};
-ghost use Rattle.pd_draw.specs.Picture.{row_words, rows_of, lane_rules, sender_key, sender_keys};
+ghost use Rattle.pd_draw.specs.Picture.{end_after, keys, lane_text, lanes_text, name_elements, names_of, phase_key, phases, picture};
+ghost use Rattle.pd_draw.specs.Picture.{placed_text, row_words, rows_of, lane_rules, sender_key, sender_keys};
 
 use crate::{Lanes, Look, Phase};
 use pd_chart::{
@@ -81,13 +81,24 @@ fn push_sender_keys(text: &mut Vec<u8>) -> Result<(), AllocError>
     push_sender_key(text, 9_100, b"cbl")
 }
 
-/// Draws how the lanes look, and what the bands of all phases and the packets of each side look like.
-fn push_lane_keys(text: &mut Vec<u8>) -> Result<(), AllocError>
-    ensures { OnOk result (text.new.items ≡ text.old.items ++ flat_map element_text keys) }
+/// Writes whose run it is, where that is said.
+fn push_name(text: &mut Vec<u8>, frame: Frame, name: &[u8]) -> Result<(), AllocError>
+    ensures { OnOk result (text.new.items ≡ text.old.items ++ flat_map element_text (name_elements frame name.now)) }
+{
+    match name {
+        [] => Ok(()),
+        [_, ..] => push_words(text, b"head end", frame.right(), 190, name),
+    }
+}
+
+/// Draws how the lanes look, what the bands of all phases and the packets of each side look like, and whose run it is.
+fn push_lane_keys(text: &mut Vec<u8>, frame: Frame, name: &[u8]) -> Result<(), AllocError>
+    ensures { OnOk result (text.new.items ≡ text.old.items ++ flat_map element_text (keys frame name.now)) }
 {
     push_style(text, lane_rules())?;
     push_phase_keys(text)?;
-    push_sender_keys(text)
+    push_sender_keys(text)?;
+    push_name(text, frame, name)
 }
 
 /// Writes the name of a row of a lane.
@@ -238,7 +249,7 @@ fn shown_ports(alloc: Global, ports: usize, chosen: Option<usize>) -> Result<Vec
     Ok(shown)
 }
 
-/// Draws the picture of the steps of so many ports and of their lanes.
+/// Draws the picture of the steps of so many ports and of their lanes, with whose run it is.
 #[tactic(auto, unfolding(crate::specs::Picture::picture))]
 pub(crate) fn push_picture(
     alloc: Global,
@@ -246,12 +257,13 @@ pub(crate) fn push_picture(
     frame: Frame,
     ports: usize,
     look: Look,
+    name: &[u8],
     levels: &[Level],
     lanes: &Lanes,
 ) -> Result<(), AllocError>
     requires { ports ≤ 8 }
     ensures { OnOk result ((d : Drawn) → lanes.now.lanes ≡ d.lanes → lanes.now.texts ≡ map (flat_map element_text) d.elements
-        → text.new.items ≡ text.old.items ++ drawing_text (picture frame ports look levels.now d)) }
+        → text.new.items ≡ text.old.items ++ drawing_text (picture frame ports look name.now levels.now d)) }
 {
     let shown = shown_ports(alloc, ports, look.port)?;
     let bottom = end_of(lanes, shown.as_slice());
@@ -259,7 +271,7 @@ pub(crate) fn push_picture(
     push_head(alloc, text, frame, bottom)?;
     text.extend_from_slice(b">\n")?;
     push_chart(alloc, text, frame, bottom, ports, look.holds, levels)?;
-    push_lane_keys(text)?;
+    push_lane_keys(text, frame, name)?;
     push_lanes(alloc, text, frame, lanes, shown.as_slice())?;
     text.extend_from_slice(b"</svg>\n")?;
     Ok(())

@@ -12,7 +12,7 @@ use pd_show::step_seen;
 use pd_watch::at_rest;
 use std::alloc::{AllocError, Global};
 
-/// Runs a plan, and draws what is chosen of it.
+/// Runs a plan, and draws what is chosen of it, with whose run it is, where that is said.
 ///
 /// # Errors
 /// There is no memory.
@@ -20,9 +20,10 @@ pub fn draw<const N: usize>(
     alloc: Global,
     plan: &Plan<N>,
     look: Look,
+    name: &[u8],
     meter: &mut Meter,
 ) -> Result<Vec<u8>, AllocError>
-    ensures { IfOk result (λ text. DrewRun plan.now look text.items) }
+    ensures { IfOk result (λ text. DrewRun plan.now look name.now text.items) }
 {
     let frame = look.frame(plan);
     let mut live = Live::new(alloc, plan)?;
@@ -35,6 +36,15 @@ pub fn draw<const N: usize>(
         lanes.see(alloc, frame, look.port, &seen)?;
     }
     let mut text = Vec::new(alloc);
-    push_picture(alloc, &mut text, frame, N, look, curves.levels(), &lanes)?;
+    push_picture(
+        alloc,
+        &mut text,
+        frame,
+        N,
+        look,
+        name,
+        curves.levels(),
+        &lanes,
+    )?;
     Ok(text)
 }

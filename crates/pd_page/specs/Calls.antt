@@ -64,7 +64,7 @@ left_by script n s = followed n s (lines script)
 
 -- the picture of its run
 abbrev pub Draws : Look → List ℕ → List ℕ → Ending → List ℕ → Type 0
-Draws look script = Tells [] look.port (λ n s out. DrewRun (plan_of (left_by script n s)) look out)
+Draws look script = Tells [] look.port (λ n s out. DrewRun (plan_of (left_by script n s)) look [] out)
 
 -- its run, shown
 abbrev pub Shows : Choice → List ℕ → List ℕ → Ending → List ℕ → Type 0

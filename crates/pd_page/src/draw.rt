@@ -16,7 +16,7 @@ use std::alloc::Global;
 fn drawn(alloc: Global, scenario: &[u8], script: &[u8], look: Look, meter: &mut Meter) -> Answer
     ensures { Draws look script.now scenario.now result.ending result.text.items }
 {
-    match draw_text(alloc, scenario, script, Refused::Skipped, look, meter) {
+    match draw_text(alloc, scenario, script, Refused::Skipped, look, b"", meter) {
         Ok(picture) => Answer {
             ending: Ending::Done,
             text: picture,

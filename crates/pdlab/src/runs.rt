@@ -12,7 +12,7 @@ use pd_port::Meter;
 use pd_show::{Choice, Form, SceneFault, show_text};
 use pd_why::{Form as AnswerForm, Question, why_text};
 use pd_words::{DrawOptions, Form as Asked, Scene, ShowOptions, WhyOptions, Window};
-use std::alloc::Global;
+use std::alloc::{AllocError, Global};
 use std::rt::Files;
 
 /// What is shown of the run.
@@ -193,6 +193,27 @@ pub fn guarantee<R: Files + Input + Print + Alloc<A = Global>, E: Print>(
     Ok(opened.ending)
 }
 
+/// The name of a file without its folder, as a picture says it.
+fn name_of(file: &str) -> &str {
+    match file.rsplit_once('/') {
+        _ if file == "-" => "standard input",
+        Some((_, name)) => name,
+        None => file,
+    }
+}
+
+/// Whose run a picture is of: the names of its files.
+///
+/// # Errors
+/// There is no memory.
+fn names_of(alloc: Global, scene: Scene<'_>) -> Result<String, AllocError> {
+    let scenario = name_of(scene.scenario);
+    match scene.edits {
+        None => String::from_str(alloc, scenario),
+        Some(edits) => format!(in alloc; "{scenario}, {}", name_of(edits)),
+    }
+}
+
 /// Draws the run.
 ///
 /// # Errors
@@ -213,12 +234,17 @@ pub fn draw<R: Files + Input + Print + Alloc<A = Global>, E: Print>(
         port: options.window.port,
         holds: options.holds,
     };
+    let Ok(names) = names_of(rt.alloc(), scene) else {
+        return Err(tell(errors, BenchFault::Memory));
+    };
+    let name = names.as_bytes();
     match draw_text(
         rt.alloc(),
         text,
         script,
         opened.refused,
         look,
+        name,
         &mut Meter::new(),
     ) {
         Ok(picture) => put(rt, errors, scene.out, picture.as_slice())?,

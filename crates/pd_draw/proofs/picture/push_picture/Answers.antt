@@ -16,6 +16,7 @@ returns c =
     let n = c.args.ports in
     let levels = c.args.levels.now in
     let holds = c.args.look.holds in
+    let name = c.args.name.now in
     let ports : List ℕ = shown_ports n c.args.look.port in
     λ d lanes drawn.
     let first = c.as_slice.ensures.value ∙ c.in_ok-shown.ensures.ports in
@@ -34,5 +35,5 @@ returns c =
     ∙ ap (λ (v : List Lane). c.push_lane_keys.new.text.items ++ lanes_text f v c.args.lanes.now.texts 4000 ports) lanes
     ∙ ap (λ (v : List (List ℕ)). c.push_lane_keys.new.text.items ++ lanes_text f d.lanes v 4000 ports) drawn)
     c.in_ok-extend_from_slice-3.ensures.items
-    (flat_map-append element_text (elements_of f (end_after d.lanes 4000 ports) n holds levels) keys)
+    (flat_map-append element_text (elements_of f (end_after d.lanes 4000 ports) n holds levels) (keys f name))
     (groups_text f d 4000 ports)
