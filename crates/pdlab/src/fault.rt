@@ -3,6 +3,7 @@
 use crate::Ending;
 use crate::answers::Counted;
 use crate::help::{help_of, usage_of};
+use crate::version::tell_version;
 use pd_desk::tell_reason;
 use pd_device::{BenchFault, Output};
 use pd_scenario_text::{ScenarioFault, port_count};
@@ -10,6 +11,7 @@ use pd_words::{LabFault, meant_command, topic_of};
 use std::alloc::Global;
 use std::io;
 use std::io::Printer;
+use std::rt::Files;
 
 /// A device that writes to what prints.
 pub fn output<P: Print>(to: &P) -> Output<Counted<Printer<'_, P>>> {
@@ -64,9 +66,9 @@ pub fn tell_no_port<R: Alloc<A = Global>, E: Print>(
     Ending::Refused
 }
 
-/// Tells why the words of the command line ask for nothing, and how the command is used that they mean; or what they ask of how the
-/// program is used.
-pub fn tell_words<R: Print, E: Print>(
+/// Tells why the words of the command line ask for nothing, and how the command is used that they mean; or what they ask of the program:
+/// how it is used, or its version.
+pub fn tell_words<R: Files + Print + Alloc<A = Global>, E: Print>(
     rt: &R,
     errors: &E,
     words: &[String],
@@ -74,6 +76,7 @@ pub fn tell_words<R: Print, E: Print>(
 ) -> Ending {
     let told = match fault {
         LabFault::Help(topic) => return tell_help(rt, errors, topic),
+        LabFault::Version => return tell_version(rt, errors),
         LabFault::Memory => return tell(errors, BenchFault::Memory),
         LabFault::Words(None) => Ok(()),
         LabFault::Words(Some(sentence)) => errors.println(sentence.as_str()),
@@ -94,7 +97,9 @@ pub fn tell_words<R: Print, E: Print>(
              Soft_Reset, Source_Capabilities, Request, Sink_Capabilities, Vendor_Defined",
         ),
         LabFault::Twice => {
-            errors.println("`-` stands for two things: standard input can be read as one alone")
+            errors.println(
+                "`-` stands for two things: standard input can be read as one alone, so name a file for the other",
+            )
         }
     };
     let _ = told;

@@ -48,6 +48,7 @@ usage: pdlab COMMAND ..
   decode [--json] [FILE]    what the lines of a log say
   COMMAND --help            tells more of a command, with an example; help COMMAND too
   -h, --help                prints this
+  -V, --version             prints the version, and of what it was built where that is known
 
 One of the files that are read may be -, standard input; not the scenario of live.
 

@@ -4,6 +4,7 @@
 
 mod answers;
 mod at_keyboard;
+mod beside;
 mod explained;
 mod fault;
 mod help;
@@ -16,7 +17,9 @@ mod runs;
 mod script_file;
 mod sweep;
 mod test;
+mod texts;
 mod vary;
+mod version;
 
 use at_keyboard::live;
 use explained::explained;
@@ -90,11 +93,13 @@ where
         LabTask::Guarantee(scene, json) => guarantee(rt, errors, scene, json),
         LabTask::Sweep(scene, options) => sweep(rt, errors, scene, &options),
         LabTask::Vary(scene, options) => vary(rt, errors, scene, &options),
-        LabTask::Test(scripts, json) => test(rt, errors, scripts.as_slice(), json),
+        LabTask::Test(scripts, options) => test(rt, errors, scripts.as_slice(), &options),
         LabTask::Draw(scene, options) => draw(rt, errors, scene, &options),
         LabTask::Page(scene, file) => page(rt, errors, scene, file),
         LabTask::Explain(scene, options) => Ok(explained(rt, errors, scene, options)),
-        LabTask::Decode(file, json) => Ok(decode(rt, errors, file, json)),
+        LabTask::Decode(file, options) => Ok(decode(rt, errors, file, options)),
+        LabTask::New(ports) => texts::new(rt, errors, ports),
+        LabTask::Schema => texts::schema(rt, errors),
     }
 }
 

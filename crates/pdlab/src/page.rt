@@ -1,37 +1,25 @@
 //! `pdlab page SCENARIO [EDITS]`.
 
 use crate::Ending;
+use crate::beside::beside_program;
 use crate::fault::tell;
 use crate::opened::{Opened, ends_at, open};
 use crate::put::put;
 use pd_device::BenchFault;
 use pd_text::fill_page;
 use pd_words::Scene;
-use std::alloc::{AllocError, Global};
+use std::alloc::Global;
 use std::fs::File;
+use std::io;
 use std::io::Read;
 use std::rt::Files;
 use std::str::from_utf8;
-use std::{env, io};
 
 /// The name of the page's file.
 const PAGE: &str = "pdbench.html";
 
 /// The most bytes of a page.
 const LIMIT: usize = 16_777_216;
-
-/// The page's file beside the program, or in this folder where the program's own place isn't known.
-///
-/// # Errors
-/// There is no memory.
-fn beside_program<R: Files + Alloc<A = Global>>(rt: &R) -> Result<String, AllocError> {
-    let place = env::current_exe(rt).ok();
-    let program = place.as_ref().map_or("", |place| place.as_str());
-    match program.rsplit_once('/') {
-        Some((folder, _)) => format!(in rt.alloc(); "{folder}/{PAGE}"),
-        None => String::from_str(rt.alloc(), PAGE),
-    }
-}
 
 /// The bytes of the page's file.
 ///
@@ -105,7 +93,7 @@ pub fn page<R: Files + Input + Print + Alloc<A = Global>, E: Print>(
         let _ = println!(errors; "{}: no text, which a page could hold", opened.edits);
         return Err(Ending::Refused);
     }
-    let Ok(beside) = beside_program(rt) else {
+    let Ok(beside) = beside_program(rt, PAGE) else {
         return Err(tell(errors, BenchFault::Memory));
     };
     let file = file.unwrap_or(beside.as_str());
