@@ -1,2 +1,4 @@
 pub mod Read
 pub mod Order
+pub mod Whole
+pub mod Joined

@@ -23,3 +23,11 @@ file_text c =
 abbrev pub ReadsOtherwise : ℕ → List ℕ → ScenarioData → Type 0
 ReadsOtherwise n text c =
     (answer : Result ScenarioData ScenarioFault) × Reads n text answer × (answer ≢ Ok c) × (answer ≢ Err Memory)
+
+-- the text reads as a scenario of n ports
+abbrev pub IsRead : ℕ → List ℕ → Type 0
+IsRead n text = (c : ScenarioData) × Reads n text (Ok c)
+
+-- the text is refused for n ports, and not for want of memory
+abbrev pub IsNotRead : ℕ → List ℕ → Type 0
+IsNotRead n text = (fault : ScenarioFault) × Reads n text (Err fault) × (fault ≢ Memory)

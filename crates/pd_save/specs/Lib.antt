@@ -5,3 +5,9 @@ pub mod Files
 pub mod Laws
 pub mod EditWords
 pub mod EditLines
+pub mod Json
+pub mod SchemaMeanings
+pub mod SchemaForms
+pub mod SchemaText
+pub mod NewFile
+pub mod SchemaLaws
