@@ -14,9 +14,11 @@ pub fn usage_of(word: &str) -> &'static str {
         "page" => "usage: pdlab page SCENARIO [EDITS] [OPTIONS]",
         "explain" => "usage: pdlab explain [--json] [--strict] SCENARIO [EDITS]",
         "decode" => "usage: pdlab decode [--json] [FILE]",
+        "new" => "usage: pdlab new [PORTS]",
+        "schema" => "usage: pdlab schema",
         _ => {
-            "usage: pdlab COMMAND ..; there are live, show, why, guarantee, sweep, vary, test, draw, page, explain \
-             and decode; pdlab --help tells of them"
+            "usage: pdlab COMMAND ..; there are live, show, why, guarantee, sweep, vary, test, draw, page, explain, \
+             decode, new and schema; pdlab --help tells of them"
         }
     }
 }
@@ -46,6 +48,8 @@ usage: pdlab COMMAND ..
                             why a scenario, or lines of an edit script, are refused,
                             and what is surely not meant
   decode [--json] [FILE]    what the lines of a log say
+  new [PORTS]               a scenario to begin with, its keys explained
+  schema                    the JSON Schema of scenarios, for an editor
   COMMAND --help            tells more of a command, with an example; help COMMAND too
   -h, --help                prints this
   -V, --version             prints the version, and of what it was built where that is known
@@ -448,6 +452,41 @@ status: 0 each line was read, 1 a line has a fault or is of unknown form,
         2 the words are others, 3 the file can't be read, or a fault
 ";
 
+/// What `new --help` prints.
+pub const NEW_HELP: &str = "pdlab new: a scenario to begin with
+
+usage: pdlab new [PORTS]
+
+Writes a scenario of PORTS ports, 1 to 8, or of 2. Comments say what each key is, and
+in which unit. The ports have usual supplies and 60 W each; a laptop comes to every
+second port through a cable for 5 A, a phone to the others through one for 3 A; after
+two seconds the laptop leaves port 1, and a phone comes there.
+
+example: pdlab new 3 > mine.toml
+  pdlab show mine.toml
+
+status: 0 it was written, 2 the words are others, 3 it can't be written, or a fault
+";
+
+/// What `schema --help` prints.
+pub const SCHEMA_HELP: &str = "pdlab schema: the JSON Schema of scenarios, for an editor
+
+usage: pdlab schema
+
+Writes the JSON Schema (draft-07) of scenario files, of versions 1 and 2. An editor that
+reads it completes keys and words, shows what a key is and in which unit, and marks
+what check would refuse: keys, types, what is missing, ranges, words and names. What
+needs more than one table it doesn't see: ports that aren't there, names and ids that
+stand twice or nowhere, voltages that don't rise, floors above the budget.
+
+taplo, and VS Code with Even Better TOML, find it by the first line of a scenario:
+  #:schema ./pdbench.schema.json
+
+example: pdlab schema > pdbench.schema.json
+
+status: 0 it was written, 2 the words are others, 3 it can't be written, or a fault
+";
+
 /// What tells how a command is used, or the program where the word is no command.
 pub fn help_of(word: &str) -> &'static str {
     match word {
@@ -462,6 +501,8 @@ pub fn help_of(word: &str) -> &'static str {
         "page" => PAGE_HELP,
         "explain" => EXPLAIN_HELP,
         "decode" => DECODE_HELP,
+        "new" => NEW_HELP,
+        "schema" => SCHEMA_HELP,
         _ => HELP,
     }
 }

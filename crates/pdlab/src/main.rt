@@ -1,5 +1,5 @@
-//! The engineer's desk as a program: `pdlab live`, `show`, `why`, `guarantee`, `sweep`, `vary`, `test`, `draw`, `page`, `explain` and
-//! `decode`.
+//! The engineer's desk as a program: `pdlab live`, `show`, `why`, `guarantee`, `sweep`, `vary`, `test`, `draw`, `page`, `explain`,
+//! `decode`, `new` and `schema`.
 #![tactic(auto)]
 
 mod answers;
