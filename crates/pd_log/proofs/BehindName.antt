@@ -1,5 +1,5 @@
 -- What pd_content tells of a header and of a packet: a head with the bench's name of the message, and what stands behind it.
-use Rattle.std.proofs.Common.{◌≡◌, ◌≤◌, ◌+◌, ℕ, List, [], ◌∷◌, ◌++◌, append_assoc, length, drop, arith, refl}
+use Rattle.std.proofs.Common.{◌≡◌, ◌≤◌, ℕ, List, ◌++◌, append_assoc, length, drop, arith, refl}
 use Rattle.std.proofs.lemmas.List.{drop_at, length-append}
 use Rattle.pd_symbols.specs.declared.channel.Channel.{Channel}
 use Rattle.pd_packet.specs.Contents.{Contents}

@@ -4,4 +4,5 @@ pub mod ByteByByte
 pub mod ObjectByObject
 pub mod PartByPart
 pub mod Joined
+pub mod CellByCell
 pub mod BehindName

@@ -1,5 +1,5 @@
 -- The objects of a line, read part by part.
-use Rattle.std.proofs.Common.{◌≡◌, ℕ, List, [], ◌∷◌, ◌++◌, refl, append_assoc, Some, None}
+use Rattle.std.proofs.Common.{◌≡◌, ℕ, List, ◌++◌, refl, append_assoc, Some, None}
 use Rattle.std.specs.Prelude.{Option, option_and_then}
 use Rattle.pd_log.specs.declared.words.ObjectPart.{ObjectPart}
 use Rattle.pd_log.specs.Parts.{Parts, next}

@@ -2,12 +2,14 @@
 -- object.
 use Rattle.std.specs.Prelude.{ℕ, suc, ◌+◌, ◌*◌, ◌==◌, ◌&&◌, nat_le, not, Bool, List, [], ◌∷◌, ◌++◌, length, Option, Some, None}
 use Rattle.std.specs.Prelude.{if◌then◌else◌}
-use Rattle.pd_symbols.specs.declared.channel.Channel.{Channel}
-use Rattle.pd_symbols.specs.declared.channel.Channel.TheVariants.{Sop, SopPrime}
 use Rattle.pd_header.specs.Header.{count_of}
-use Rattle.pd_packet.specs.Contents.{Contents}
+use Rattle.pd_log.specs.declared.answer.LogPacket.{LogPacket}
+use Rattle.pd_log.specs.declared.sets.PacketSet.{PacketSet}
+use Rattle.pd_log.specs.declared.sets.PacketSet.TheVariants.{Sop}
 use Rattle.pd_log.specs.Codes.{or_else, pair_of, without_0x}
+use Rattle.pd_log.specs.Messages.{packet_on}
 use Rattle.pd_log.specs.Parts.{Parts, ◌>>=◌}
+use Rattle.pd_log.specs.Sets.{of_frame}
 
 -- the bytes of hexadecimal digits, two digits each
 abbrev pub pairs_of : List ℕ → Option (List ℕ)
@@ -46,40 +48,36 @@ abbrev pub is_cut : ℕ → List ℕ → Bool
 is_cut header objects = nat_le 32768 header && length objects == 0
 
 -- a header tells of as many objects as there are
-abbrev pub fitting : Channel → ℕ → List ℕ → Option Contents
+abbrev pub fitting : PacketSet → ℕ → List ℕ → Option LogPacket
 fitting set header objects =
     if not (is_cut header objects) && count_of header == length objects
-    then Some (record { channel = set; header = header; objects = objects })
+    then Some (packet_on set header objects)
     else None
 
 -- a header and its objects
-abbrev pub message_of : Channel → List ℕ → Option Contents
+abbrev pub message_of : PacketSet → List ℕ → Option LogPacket
 message_of set (low ∷ high ∷ bytes) = do
   objects ← objects_of bytes
   fitting set (low_first low high) objects
 message_of set _ = None
 
 -- how many bytes there are, and these: what a port controller's transmit buffer begins with
-abbrev pub counted_of : List ℕ → Option Contents
+abbrev pub counted_of : List ℕ → Option LogPacket
 counted_of (count ∷ bytes) = if count == length bytes then message_of Sop bytes else None
 counted_of [] = None
 
--- the ordered set by the number of the type of a frame in a port controller's receive buffer
-abbrev pub set_of : ℕ → Option Channel
-set_of kind = if kind == 0 then Some Sop else if kind == 1 then Some SopPrime else None
-
 -- how many bytes there are, the type of the frame, and the others: what a port controller's receive buffer begins with
-abbrev pub framed_of : List ℕ → Option Contents
+abbrev pub framed_of : List ℕ → Option LogPacket
 framed_of (count ∷ kind ∷ bytes) = if count == suc (length bytes) then (do
-  set ← set_of kind
+  set ← of_frame kind
   message_of set bytes) else None
 framed_of _ = None
 
-abbrev pub packet_of : List ℕ → Option Contents
+abbrev pub packet_of : List ℕ → Option LogPacket
 packet_of bytes = or_else (message_of Sop bytes) (or_else (counted_of bytes) (framed_of bytes))
 
 -- the packet of the bytes of a line, alone or behind their count
-abbrev pub given_bytes : Parts → Option Contents
+abbrev pub given_bytes : Parts → Option LogPacket
 given_bytes ps = do
   bytes ← bytes_in ps
   packet_of bytes

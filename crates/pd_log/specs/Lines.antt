@@ -1,16 +1,16 @@
 -- What a line of a log says, as a line of text: this product's own form.
 use Rattle.std.specs.Prelude.{ℕ, List, [], ◌∷◌, ◌++◌, codes, decimal, Option, Some, None}
-use Rattle.pd_symbols.specs.declared.channel.Channel.TheVariants.{Sop}
 use Rattle.pd_header.specs.Header.{count_of}
 use Rattle.pd_packet.specs.declared.fault.PacketFault.{PacketFault}
 use Rattle.pd_packet.specs.declared.fault.PacketFault.TheVariants as fault
-use Rattle.pd_packet.specs.Contents.{Contents}
 use Rattle.pd_packet.specs.Reading.{number_of}
 use Rattle.pd_log.specs.declared.mark.Mark.{Mark}
 use Rattle.pd_log.specs.declared.mark.Mark.TheVariants.{Whole, Lost, Damaged}
 use Rattle.pd_log.specs.declared.answer.Answer.{Answer}
+use Rattle.pd_log.specs.declared.answer.LogPacket.{LogPacket}
+use Rattle.pd_log.specs.declared.sets.PacketSet.{PacketSet}
 use Rattle.pd_log.specs.declared.answer.Answer.TheVariants.{Nothing, Packet, Supplies, Bytes, Either, Fault, HardReset}
-use Rattle.pd_log.specs.declared.answer.Answer.TheVariants.{Header, Miscounted, Unknown}
+use Rattle.pd_log.specs.declared.answer.Answer.TheVariants.{CableReset, Header, Miscounted, Spoiled, Unknown}
 use Rattle.pd_log.specs.Names.{header_line, packet_line}
 
 abbrev pub mark_text : Mark → List ℕ
@@ -34,19 +34,19 @@ unfoldable pub told_text : ℕ → List ℕ
 told_text header = codes ", told by the header " ++ decimal (count_of header)
 
 -- a header that tells of other objects than there are
-unfoldable pub counts_text : ℕ → ℕ → List ℕ
-counts_text header there = header_line Sop header ++ (codes " | objects there " ++ (decimal there ++ told_text header))
+unfoldable pub counts_text : PacketSet → ℕ → ℕ → List ℕ
+counts_text set header there = header_line set header ++ (codes " | objects there " ++ (decimal there ++ told_text header))
 
 -- a packet whose supplies are a kernel's words
-unfoldable pub supplies_text : Contents → List ℕ
+unfoldable pub supplies_text : LogPacket → List ℕ
 supplies_text p = packet_line p ++ codes " (as the log's words tell it)"
 
 -- a packet that was read as bytes
-unfoldable pub bytes_text : Contents → List ℕ
+unfoldable pub bytes_text : LogPacket → List ℕ
 bytes_text p = packet_line p ++ codes " (as bytes, low first)"
 
 -- a packet of words, and that of the bytes
-unfoldable pub either_text : Contents → Contents → List ℕ
+unfoldable pub either_text : LogPacket → LogPacket → List ℕ
 either_text p q = packet_line p ++ (codes "; or as bytes, low first: " ++ packet_line q)
 
 unfoldable pub said : Answer → List ℕ
@@ -57,8 +57,10 @@ said (Bytes p) = bytes_text p
 said (Either p q) = either_text p q
 said (Fault fault at mark) = fault_text fault at ++ mark_text mark
 said (HardReset mark) = codes "Hard Reset" ++ mark_text mark
-said (Header header) = counts_text header 0
-said (Miscounted header there) = counts_text header there
+said (CableReset mark) = codes "Cable Reset" ++ mark_text mark
+said (Header set header) = counts_text set header 0
+said (Miscounted set header there) = counts_text set header there
+said Spoiled = codes "the packet before is damaged"
 said Unknown = codes "unknown form"
 
 -- a log's own time

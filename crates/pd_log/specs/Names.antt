@@ -12,8 +12,11 @@ use Rattle.pd_content.specs.Units.{quoted}
 use Rattle.pd_content.specs.Members.{members, objects_json}
 use Rattle.pd_content.specs.Rows.{header_rows}
 use Rattle.pd_symbols.specs.Hex.{hex_digits}
+use Rattle.pd_log.specs.declared.answer.LogPacket.{LogPacket}
 use Rattle.pd_log.specs.declared.names.Family.{Family}
 use Rattle.pd_log.specs.declared.names.Family.TheVariants.{Control, Data, Extended}
+use Rattle.pd_log.specs.declared.sets.PacketSet.{PacketSet}
+use Rattle.pd_log.specs.Sets.{channel_of, text_of}
 
 -- a message: its type in the header, and its name
 pub record NameRow : Type 0 where
@@ -101,8 +104,8 @@ log_name header = unwrap_or (named_in (family_of header) (type_of header)) (mess
 unfoldable pub bench_head : Channel → ℕ → List ℕ
 bench_head channel header = set_name channel ++ 32 ∷ message_name header
 
-unfoldable pub log_head : Channel → ℕ → List ℕ
-log_head channel header = set_name channel ++ 32 ∷ log_name header
+unfoldable pub log_head : PacketSet → ℕ → List ℕ
+log_head set header = text_of set ++ 32 ∷ log_name header
 
 -- what stands behind that
 unfoldable pub header_behind : Channel → ℕ → List ℕ
@@ -112,18 +115,18 @@ unfoldable pub packet_behind : Contents → List ℕ
 packet_behind p = fields_text (header_rows p.channel) p.header ++ objects_text p (length p.objects)
 
 -- a header, and a packet
-unfoldable pub header_line : Channel → ℕ → List ℕ
-header_line channel header = log_head channel header ++ header_behind channel header
+unfoldable pub header_line : PacketSet → ℕ → List ℕ
+header_line set header = log_head set header ++ header_behind (channel_of set) header
 
-unfoldable pub packet_line : Contents → List ℕ
-packet_line p = log_head p.channel p.header ++ packet_behind p
+unfoldable pub packet_line : LogPacket → List ℕ
+packet_line p = log_head p.set p.packet.header ++ packet_behind p.packet
 
 -- the same as members of a JSON object
 unfoldable pub bench_member_head : Channel → ℕ → List ℕ
 bench_member_head channel header = codes "\"set\":\"" ++ (set_name channel ++ (codes "\",\"message\":\"" ++ message_name header))
 
-unfoldable pub log_member_head : Channel → ℕ → List ℕ
-log_member_head channel header = codes "\"set\":\"" ++ (set_name channel ++ (codes "\",\"message\":\"" ++ log_name header))
+unfoldable pub log_member_head : PacketSet → ℕ → List ℕ
+log_member_head set header = codes "\"set\":\"" ++ (text_of set ++ (codes "\",\"message\":\"" ++ log_name header))
 
 unfoldable pub header_members_behind : Channel → ℕ → List ℕ
 header_members_behind channel header = codes "\",\"header\":" ++ (quoted (hex_digits 4 header) ++ members (header_rows channel) header)
@@ -132,11 +135,11 @@ unfoldable pub packet_members_behind : Contents → List ℕ
 packet_members_behind p =
     header_members_behind p.channel p.header ++ (codes ",\"objects\":[" ++ (objects_json p (length p.objects) ++ 93 ∷ []))
 
-unfoldable pub header_object : Channel → ℕ → List ℕ
-header_object channel header = log_member_head channel header ++ header_members_behind channel header
+unfoldable pub header_object : PacketSet → ℕ → List ℕ
+header_object set header = log_member_head set header ++ header_members_behind (channel_of set) header
 
-unfoldable pub packet_object : Contents → List ℕ
-packet_object p = log_member_head p.channel p.header ++ packet_members_behind p
+unfoldable pub packet_object : LogPacket → List ℕ
+packet_object p = log_member_head p.set p.packet.header ++ packet_members_behind p.packet
 
 -- A message that the bench's own ports know has the name by which the bench tells it.
 abbrev pub SameName : Family → Kind → Type 0

@@ -1,15 +1,15 @@
 -- What a line of a log says, as a JSON object: this product's own keys.
 use Rattle.std.specs.Prelude.{ℕ, List, [], ◌∷◌, ◌++◌, codes, decimal, Option, Some, None}
-use Rattle.pd_symbols.specs.declared.channel.Channel.TheVariants.{Sop}
 use Rattle.pd_header.specs.Header.{count_of}
 use Rattle.pd_packet.specs.declared.fault.PacketFault.{PacketFault}
-use Rattle.pd_packet.specs.Contents.{Contents}
 use Rattle.pd_packet.specs.Reading.{number_of}
 use Rattle.pd_log.specs.declared.mark.Mark.{Mark}
 use Rattle.pd_log.specs.declared.mark.Mark.TheVariants.{Whole, Lost, Damaged}
 use Rattle.pd_log.specs.declared.answer.Answer.{Answer}
+use Rattle.pd_log.specs.declared.answer.LogPacket.{LogPacket}
+use Rattle.pd_log.specs.declared.sets.PacketSet.{PacketSet}
 use Rattle.pd_log.specs.declared.answer.Answer.TheVariants.{Nothing, Packet, Supplies, Bytes, Either, Fault, HardReset}
-use Rattle.pd_log.specs.declared.answer.Answer.TheVariants.{Header, Miscounted, Unknown}
+use Rattle.pd_log.specs.declared.answer.Answer.TheVariants.{CableReset, Header, Miscounted, Spoiled, Unknown}
 use Rattle.pd_log.specs.Names.{header_object, packet_object}
 use Rattle.pd_log.specs.Lines.{fault_words}
 
@@ -31,23 +31,26 @@ fault_members fault at =
 unfoldable pub told_member : ℕ → List ℕ
 told_member header = codes ",\"objects_told\":" ++ decimal (count_of header)
 
-unfoldable pub counts_members : ℕ → ℕ → List ℕ
-counts_members header there =
-    codes "\"header\",\"objects_there\":" ++ (decimal there ++ (told_member header ++ (codes "," ++ header_object Sop header)))
+unfoldable pub counts_members : PacketSet → ℕ → ℕ → List ℕ
+counts_members set header there =
+    codes "\"header\",\"objects_there\":" ++ (decimal there ++ (told_member header ++ (codes "," ++ header_object set header)))
 
 unfoldable pub reset_members : Mark → List ℕ
 reset_members mark = codes "\"hard_reset\"" ++ mark_member mark
 
+unfoldable pub cable_members : Mark → List ℕ
+cable_members mark = codes "\"cable_reset\"" ++ mark_member mark
+
 -- a packet whose supplies are a kernel's words
-unfoldable pub supplies_members : Contents → List ℕ
+unfoldable pub supplies_members : LogPacket → List ℕ
 supplies_members p = codes "\"packet\",\"mark\":\"whole\",\"read_as\":\"words\"," ++ packet_object p
 
 -- a packet that was read as bytes
-unfoldable pub bytes_members : Contents → List ℕ
+unfoldable pub bytes_members : LogPacket → List ℕ
 bytes_members p = codes "\"packet\",\"mark\":\"whole\",\"read_as\":\"bytes\"," ++ packet_object p
 
 -- a packet of words, and that of the bytes
-unfoldable pub either_members : Contents → Contents → List ℕ
+unfoldable pub either_members : LogPacket → LogPacket → List ℕ
 either_members p q =
     codes "\"packet\",\"mark\":\"whole\"," ++ (packet_object p ++ (codes ",\"or_as_bytes\":{" ++ (packet_object q ++ codes "}")))
 
@@ -60,8 +63,10 @@ members (Bytes p) = bytes_members p
 members (Either p q) = either_members p q
 members (Fault fault at mark) = fault_members fault at ++ mark_member mark
 members (HardReset mark) = reset_members mark
-members (Header header) = counts_members header 0
-members (Miscounted header there) = counts_members header there
+members (CableReset mark) = cable_members mark
+members (Header set header) = counts_members set header 0
+members (Miscounted set header there) = counts_members set header there
+members Spoiled = codes "\"damaged\""
 members Unknown = codes "\"unknown\""
 
 -- a log's own time, which has nothing that a string escapes

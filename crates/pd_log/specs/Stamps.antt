@@ -3,7 +3,7 @@ use Rattle.std.specs.Prelude.{ℕ, ◌+◌, ◌==◌, ◌&&◌, ◌||◌, not, B
 use Rattle.std.specs.Prelude.{option_map, if◌then◌else◌}
 use Rattle.std.specs.List.{list_all, position_from}
 use Rattle.std.specs.Char.{is_ascii_digit}
-use Rattle.pd_log.specs.Parts.{Parts, ◌>>=◌, next, parts}
+use Rattle.pd_log.specs.Parts.{Parts, ◌>>=◌, next}
 use Rattle.pd_log.specs.Codes.{or_else}
 use Rattle.pd_log.specs.Forms.{behind_head}
 
@@ -70,7 +70,3 @@ transcript_time ps = do
   rest ← behind_head ps
   found ← next ps
   Some found.0
-
--- the time that a line of a log tells
-abbrev pub log_time : List ℕ → Option (List ℕ)
-log_time line = or_else (option_map (λ x. x.0) (stamp line)) (transcript_time (parts line))

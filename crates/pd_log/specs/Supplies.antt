@@ -1,6 +1,6 @@
 -- The object of a supply as a kernel writes it: PDO 0: type 0, 5000 mV, 3000 mA [E]. The bits that such a line doesn't tell are 0: the
 -- peak current and the flag of unchunked messages of a fixed supply, and the flag of limited power of a programmable one.
-use Rattle.std.specs.Prelude.{ℕ, ◌+◌, ◌-◌, ◌*◌, ◌/◌, ◌&&◌, ◌==◌, nat_le, Bool, List, [], ◌∷◌, fold, length, codes, bytes_eq}
+use Rattle.std.specs.Prelude.{ℕ, ◌+◌, ◌-◌, ◌*◌, ◌/◌, ◌&&◌, ◌==◌, nat_le, List, [], ◌∷◌, fold, length, codes, bytes_eq}
 use Rattle.std.specs.Prelude.{Option, Some, None, is_some, if◌then◌else◌}
 use Rattle.std.specs.List.{list_all, position_from}
 use Rattle.std.specs.Char.{is_ascii_digit}

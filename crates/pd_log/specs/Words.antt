@@ -1,13 +1,17 @@
 -- The header and the objects that the parts of a line give, as numbers in hexadecimal.
-use Rattle.std.specs.Prelude.{ℕ, ◌+◌, ◌-◌, ◌*◌, ◌&&◌, ◌||◌, ◌==◌, nat_le, Bool, false, List, [], ◌∷◌, ◌++◌, length, fold, take, drop}
-use Rattle.std.specs.Prelude.{Option, Some, None, option_map, bytes_eq, codes, if◌then◌else◌}
+use Rattle.std.specs.Prelude.{ℕ, ◌+◌, ◌-◌, ◌*◌, ◌&&◌, ◌||◌, ◌==◌, nat_le, Bool, List, [], ◌∷◌, ◌++◌, length, fold, take, drop}
+use Rattle.std.specs.Prelude.{Option, Some, None, option_map, unwrap_or, bytes_eq, codes, if◌then◌else◌}
 use Rattle.std.specs.List.{list_all}
 use Rattle.std.specs.Char.{is_ascii_hexdigit}
 use Rattle.pd_header.specs.Header.{count_of}
 use Rattle.pd_log.specs.Codes.{or_else, without_0x}
 use Rattle.pd_log.specs.declared.words.ObjectPart.{ObjectPart}
 use Rattle.pd_log.specs.declared.words.ObjectPart.TheVariants.{Index, Object}
+use Rattle.pd_log.specs.declared.sets.PacketSet.{PacketSet}
+use Rattle.pd_log.specs.declared.sets.PacketSet.TheVariants.{Sop}
 use Rattle.pd_log.specs.Parts.{Parts, ◌>>=◌, next}
+use Rattle.pd_log.specs.Plain.{plain}
+use Rattle.pd_log.specs.Sets.{named}
 
 -- the value of a hexadecimal digit of either case
 abbrev pub value_of : ℕ → ℕ
@@ -102,6 +106,11 @@ given_words ps = do
   header ← header_at ps
   objects ← objects_in header.1
   Some (header.0, objects)
+
+-- the set that a line of words names, by the first part that names one; else its packet is between the ports
+abbrev pub set_told : Parts → PacketSet
+set_told [] = Sop
+set_told (p ∷ ps) = unwrap_or (named (plain p)) (set_told ps)
 
 -- objects before others
 abbrev pub with_objects : List ℕ → Option (List ℕ) → Option (List ℕ)

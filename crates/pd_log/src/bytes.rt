@@ -2,15 +2,16 @@
 
 ghost use Rattle.std.specs.Prelude.{◌≡◌, ◌<◌, ◌^◌, IfOk, None, Some, if◌then◌else◌, option_map};
 ghost use Rattle.pd_log.specs.Bytes.{bytes_in, counted_of, fitting, framed_of, given_bytes, low_first, message_of};
-ghost use Rattle.pd_log.specs.Bytes.{object_low_first, objects_of, packet_of, pairs_of, set_of};
+ghost use Rattle.pd_log.specs.Bytes.{object_low_first, objects_of, packet_of, pairs_of};
 ghost use Rattle.pd_log.specs.Parts.{parts};
 ghost use Rattle.pd_log.specs.Words.{with_objects};
 
+use crate::answer::LogPacket;
 use crate::codes::{pair_of, without_0x};
+use crate::messages::packet_on;
 use crate::parts::next;
+use crate::sets::{PacketSet, of_frame};
 use pd_header::header_count;
-use pd_packet::Packet;
-use pd_symbols::{Channel, copied};
 use std::alloc::{AllocError, Global};
 
 /// Appends the bytes of hexadecimal digits, two digits each; whether the digits are such pairs.
@@ -32,7 +33,7 @@ fn push_pairs(bytes: &mut Vec<u8>, digits: &[u8]) -> Result<bool, AllocError>
 
 /// The bytes of a line.
 #[tactic(auto, using(crate::proofs::ByteByByte::next_part, crate::proofs::ByteByByte::no_part))]
-fn bytes_in(alloc: Global, line: &[u8]) -> Result<Option<Vec<u8>>, AllocError>
+pub(crate) fn bytes_in(alloc: Global, line: &[u8]) -> Result<Option<Vec<u8>>, AllocError>
     ensures { IfOk result (λ given. option_map (λ bytes. bytes.items) given ≡ bytes_in (parts line.now)) }
 {
     let mut bytes = Vec::new(alloc);
@@ -47,7 +48,7 @@ fn bytes_in(alloc: Global, line: &[u8]) -> Result<Option<Vec<u8>>, AllocError>
 }
 
 /// Two bytes, the lower first.
-fn low_first(low: u8, high: u8) -> u16
+pub(crate) fn low_first(low: u8, high: u8) -> u16
     ensures { result ≡ low_first low high }
 {
     u16::from(low) + 256 * u16::from(high)
@@ -61,7 +62,7 @@ fn object_low_first(a: u8, b: u8, c: u8, d: u8) -> u32
 }
 
 /// The objects of bytes, four bytes each.
-fn objects_of(alloc: Global, bytes: &[u8]) -> Result<Option<Vec<u32>>, AllocError>
+pub(crate) fn objects_of(alloc: Global, bytes: &[u8]) -> Result<Option<Vec<u32>>, AllocError>
     ensures { IfOk result (λ given. option_map (λ objects. objects.items) given ≡ objects_of bytes.now) }
 {
     let mut objects = Vec::new(alloc);
@@ -77,18 +78,22 @@ fn objects_of(alloc: Global, bytes: &[u8]) -> Result<Option<Vec<u32>>, AllocErro
 }
 
 /// The packet of a header and objects, where it tells of as many. Behind the header of an extended message there is something.
-fn fitting(set: Channel, header: u16, objects: &[u32]) -> Option<Packet>
+fn fitting(set: PacketSet, header: u16, objects: &[u32]) -> Option<LogPacket>
     ensures { result ≡ fitting set header objects.now }
 {
     let is_cut = header >= 0x8000 && objects.is_empty();
     if is_cut || usize::from(header_count(header)) != objects.len() {
         return None;
     }
-    Some(Packet::new(set, header, copied(objects)))
+    Some(packet_on(set, header, objects))
 }
 
 /// The packet of a header and as many objects as it tells of.
-fn message_of(alloc: Global, set: Channel, bytes: &[u8]) -> Result<Option<Packet>, AllocError>
+pub(crate) fn message_of(
+    alloc: Global,
+    set: PacketSet,
+    bytes: &[u8],
+) -> Result<Option<LogPacket>, AllocError>
     ensures { IfOk result (λ packet. packet ≡ message_of set bytes.now) }
 {
     let [low, high, rest @ ..] = bytes else {
@@ -102,30 +107,19 @@ fn message_of(alloc: Global, set: Channel, bytes: &[u8]) -> Result<Option<Packet
 }
 
 /// The packet of bytes behind their count.
-fn counted_of(alloc: Global, bytes: &[u8]) -> Result<Option<Packet>, AllocError>
+fn counted_of(alloc: Global, bytes: &[u8]) -> Result<Option<LogPacket>, AllocError>
     ensures { IfOk result (λ packet. packet ≡ counted_of bytes.now) }
 {
     match bytes {
         [count, rest @ ..] if usize::from(*count) == rest.len() => {
-            message_of(alloc, Channel::Sop, rest)
+            message_of(alloc, PacketSet::Sop, rest)
         }
         _ => Ok(None),
     }
 }
 
-/// The ordered set of a type of frame.
-fn set_of(kind: u8) -> Option<Channel>
-    ensures { result ≡ set_of kind }
-{
-    match kind {
-        0 => Some(Channel::Sop),
-        1 => Some(Channel::SopPrime),
-        _ => None,
-    }
-}
-
 /// The packet of bytes behind their count and the type of their frame.
-fn framed_of(alloc: Global, bytes: &[u8]) -> Result<Option<Packet>, AllocError>
+fn framed_of(alloc: Global, bytes: &[u8]) -> Result<Option<LogPacket>, AllocError>
     ensures { IfOk result (λ packet. packet ≡ framed_of bytes.now) }
 {
     let [count, kind, rest @ ..] = bytes else {
@@ -134,17 +128,17 @@ fn framed_of(alloc: Global, bytes: &[u8]) -> Result<Option<Packet>, AllocError>
     if usize::from(*count) != rest.len() + 1 {
         return Ok(None);
     }
-    match set_of(*kind) {
+    match of_frame(*kind) {
         Some(set) => message_of(alloc, set, rest),
         None => Ok(None),
     }
 }
 
 /// The packet of bytes, alone or behind their count.
-fn packet_of(alloc: Global, bytes: &[u8]) -> Result<Option<Packet>, AllocError>
+fn packet_of(alloc: Global, bytes: &[u8]) -> Result<Option<LogPacket>, AllocError>
     ensures { IfOk result (λ packet. packet ≡ packet_of bytes.now) }
 {
-    if let Some(packet) = message_of(alloc, Channel::Sop, bytes)? {
+    if let Some(packet) = message_of(alloc, PacketSet::Sop, bytes)? {
         return Ok(Some(packet));
     }
     if let Some(packet) = counted_of(alloc, bytes)? {
@@ -154,7 +148,7 @@ fn packet_of(alloc: Global, bytes: &[u8]) -> Result<Option<Packet>, AllocError>
 }
 
 /// The packet of the bytes of a line.
-pub(crate) fn given_bytes(alloc: Global, line: &[u8]) -> Result<Option<Packet>, AllocError>
+pub(crate) fn given_bytes(alloc: Global, line: &[u8]) -> Result<Option<LogPacket>, AllocError>
     ensures { IfOk result (λ packet. packet ≡ given_bytes (parts line.now)) }
 {
     match bytes_in(alloc, line)? {

@@ -1,16 +1,15 @@
 //! What a line of a log says, as a JSON object.
 
 ghost use Rattle.std.specs.Prelude.{◌≡◌, ◌++◌, OnOk, option_map};
-ghost use Rattle.pd_log.specs.Objects.{bytes_members, counts_members, either_members, fault_members, json_text, mark_member};
+ghost use Rattle.pd_log.specs.Objects.{bytes_members, cable_members, counts_members, either_members, fault_members, json_text, mark_member};
 ghost use Rattle.pd_log.specs.Objects.{mark_name, members, reason_member, reset_members, supplies_members, time_member, told_member};
 
 use crate::line::fault_words;
 use crate::names::{push_header_object, push_packet_object};
-use crate::{Answer, Mark};
+use crate::{Answer, LogPacket, Mark, PacketSet};
 use pd_content::push_number;
 use pd_header::header_count;
-use pd_packet::{Packet, PacketFault};
-use pd_symbols::Channel;
+use pd_packet::PacketFault;
 use std::alloc::AllocError;
 
 fn mark_name(mark: Mark) -> &'static str
@@ -70,14 +69,19 @@ fn push_told(text: &mut Vec<u8>, header: u16) -> Result<(), AllocError>
 
 /// Writes a header that tells of other objects than there are, as members.
 #[tactic(auto, unfolding(crate::specs::Objects::counts_members))]
-fn push_counts(text: &mut Vec<u8>, header: u16, there: usize) -> Result<(), AllocError>
-    ensures { OnOk result (text.new.items ≡ text.old.items ++ counts_members header there) }
+fn push_counts(
+    text: &mut Vec<u8>,
+    set: PacketSet,
+    header: u16,
+    there: usize,
+) -> Result<(), AllocError>
+    ensures { OnOk result (text.new.items ≡ text.old.items ++ counts_members set header there) }
 {
     text.extend_from_slice(b"\"header\",\"objects_there\":")?;
     push_number(text, there as u64)?;
     push_told(text, header)?;
     text.extend_from_slice(b",")?;
-    push_header_object(text, Channel::Sop, header)?;
+    push_header_object(text, set, header)?;
     Ok(())
 }
 
@@ -91,9 +95,19 @@ fn push_reset(text: &mut Vec<u8>, mark: Mark) -> Result<(), AllocError>
     Ok(())
 }
 
+/// Writes a reset of the cable's plugs as members.
+#[tactic(auto, unfolding(crate::specs::Objects::cable_members))]
+fn push_cable_reset(text: &mut Vec<u8>, mark: Mark) -> Result<(), AllocError>
+    ensures { OnOk result (text.new.items ≡ text.old.items ++ cable_members mark) }
+{
+    text.extend_from_slice(b"\"cable_reset\"")?;
+    push_mark(text, mark)?;
+    Ok(())
+}
+
 /// Writes a packet whose supplies are a kernel's words, as members.
 #[tactic(auto, unfolding(crate::specs::Objects::supplies_members))]
-fn push_supplies(text: &mut Vec<u8>, packet: &Packet) -> Result<(), AllocError>
+fn push_supplies(text: &mut Vec<u8>, packet: &LogPacket) -> Result<(), AllocError>
     ensures { OnOk result (text.new.items ≡ text.old.items ++ supplies_members packet.now) }
 {
     text.extend_from_slice(b"\"packet\",\"mark\":\"whole\",\"read_as\":\"words\",")?;
@@ -103,7 +117,7 @@ fn push_supplies(text: &mut Vec<u8>, packet: &Packet) -> Result<(), AllocError>
 
 /// Writes a packet that was read as bytes, as members.
 #[tactic(auto, unfolding(crate::specs::Objects::bytes_members))]
-fn push_bytes(text: &mut Vec<u8>, packet: &Packet) -> Result<(), AllocError>
+fn push_bytes(text: &mut Vec<u8>, packet: &LogPacket) -> Result<(), AllocError>
     ensures { OnOk result (text.new.items ≡ text.old.items ++ bytes_members packet.now) }
 {
     text.extend_from_slice(b"\"packet\",\"mark\":\"whole\",\"read_as\":\"bytes\",")?;
@@ -113,7 +127,7 @@ fn push_bytes(text: &mut Vec<u8>, packet: &Packet) -> Result<(), AllocError>
 
 /// Writes a packet of words, and that of the bytes, as members.
 #[tactic(auto, unfolding(crate::specs::Objects::either_members))]
-fn push_either(text: &mut Vec<u8>, packet: &Packet, bytes: &Packet) -> Result<(), AllocError>
+fn push_either(text: &mut Vec<u8>, packet: &LogPacket, bytes: &LogPacket) -> Result<(), AllocError>
     ensures { OnOk result (text.new.items ≡ text.old.items ++ either_members packet.now bytes.now) }
 {
     text.extend_from_slice(b"\"packet\",\"mark\":\"whole\",")?;
@@ -145,8 +159,10 @@ fn push_members(text: &mut Vec<u8>, answer: &Answer) -> Result<(), AllocError>
             push_mark(text, *mark)
         }
         Answer::HardReset(mark) => push_reset(text, *mark),
-        Answer::Header(header) => push_counts(text, *header, 0),
-        Answer::Miscounted(header, there) => push_counts(text, *header, *there),
+        Answer::CableReset(mark) => push_cable_reset(text, *mark),
+        Answer::Header(set, header) => push_counts(text, *set, *header, 0),
+        Answer::Miscounted(set, header, there) => push_counts(text, *set, *header, *there),
+        Answer::Spoiled => text.extend_from_slice(b"\"damaged\""),
         Answer::Unknown => text.extend_from_slice(b"\"unknown\""),
     }
 }

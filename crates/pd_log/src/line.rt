@@ -5,11 +5,10 @@ ghost use Rattle.pd_log.specs.Lines.{bytes_text, counts_text, either_text, fault
 ghost use Rattle.pd_log.specs.Lines.{supplies_text, time_text, told_text};
 
 use crate::names::{push_header_line, push_packet_line};
-use crate::{Answer, Mark};
+use crate::{Answer, LogPacket, Mark, PacketSet};
 use pd_content::push_number;
 use pd_header::header_count;
-use pd_packet::{Packet, PacketFault};
-use pd_symbols::Channel;
+use pd_packet::PacketFault;
 use std::alloc::AllocError;
 
 /// What is said behind a packet.
@@ -61,10 +60,15 @@ fn push_told(text: &mut Vec<u8>, header: u16) -> Result<(), AllocError>
 
 /// Writes that a header tells of other objects than there are.
 #[tactic(auto, unfolding(crate::specs::Lines::counts_text))]
-fn push_counts(text: &mut Vec<u8>, header: u16, there: usize) -> Result<(), AllocError>
-    ensures { OnOk result (text.new.items ≡ text.old.items ++ counts_text header there) }
+fn push_counts(
+    text: &mut Vec<u8>,
+    set: PacketSet,
+    header: u16,
+    there: usize,
+) -> Result<(), AllocError>
+    ensures { OnOk result (text.new.items ≡ text.old.items ++ counts_text set header there) }
 {
-    push_header_line(text, Channel::Sop, header)?;
+    push_header_line(text, set, header)?;
     text.extend_from_slice(b" | objects there ")?;
     push_number(text, there as u64)?;
     push_told(text, header)
@@ -72,7 +76,7 @@ fn push_counts(text: &mut Vec<u8>, header: u16, there: usize) -> Result<(), Allo
 
 /// Writes a packet whose supplies are a kernel's words.
 #[tactic(auto, unfolding(crate::specs::Lines::supplies_text))]
-fn push_supplies(text: &mut Vec<u8>, packet: &Packet) -> Result<(), AllocError>
+fn push_supplies(text: &mut Vec<u8>, packet: &LogPacket) -> Result<(), AllocError>
     ensures { OnOk result (text.new.items ≡ text.old.items ++ supplies_text packet.now) }
 {
     push_packet_line(text, packet)?;
@@ -81,7 +85,7 @@ fn push_supplies(text: &mut Vec<u8>, packet: &Packet) -> Result<(), AllocError>
 
 /// Writes a packet that was read as bytes.
 #[tactic(auto, unfolding(crate::specs::Lines::bytes_text))]
-fn push_bytes(text: &mut Vec<u8>, packet: &Packet) -> Result<(), AllocError>
+fn push_bytes(text: &mut Vec<u8>, packet: &LogPacket) -> Result<(), AllocError>
     ensures { OnOk result (text.new.items ≡ text.old.items ++ bytes_text packet.now) }
 {
     push_packet_line(text, packet)?;
@@ -90,13 +94,27 @@ fn push_bytes(text: &mut Vec<u8>, packet: &Packet) -> Result<(), AllocError>
 
 /// Writes a packet of words, and that of the bytes.
 #[tactic(auto, unfolding(crate::specs::Lines::either_text))]
-fn push_either(text: &mut Vec<u8>, packet: &Packet, bytes: &Packet) -> Result<(), AllocError>
+fn push_either(text: &mut Vec<u8>, packet: &LogPacket, bytes: &LogPacket) -> Result<(), AllocError>
     ensures { OnOk result (text.new.items ≡ text.old.items ++ either_text packet.now bytes.now) }
 {
     push_packet_line(text, packet)?;
     text.extend_from_slice(b"; or as bytes, low first: ")?;
     push_packet_line(text, bytes)?;
     Ok(())
+}
+
+fn push_words(text: &mut Vec<u8>, words: &[u8]) -> Result<(), AllocError>
+    ensures { OnOk result (text.new.items ≡ text.old.items ++ words.now) }
+{
+    text.extend_from_slice(words)
+}
+
+/// Writes a reset and what became of it.
+fn push_reset(text: &mut Vec<u8>, words: &[u8], mark: Mark) -> Result<(), AllocError>
+    ensures { OnOk result (text.new.items ≡ text.old.items ++ (words.now ++ mark_text mark)) }
+{
+    text.extend_from_slice(words)?;
+    text.extend_from_slice(mark_text(mark).as_bytes())
 }
 
 /// Writes what a line says.
@@ -117,13 +135,12 @@ fn push_said(text: &mut Vec<u8>, answer: &Answer) -> Result<(), AllocError>
             push_fault(text, *fault, *at)?;
             text.extend_from_slice(mark_text(*mark).as_bytes())
         }
-        Answer::HardReset(mark) => {
-            text.extend_from_slice(b"Hard Reset")?;
-            text.extend_from_slice(mark_text(*mark).as_bytes())
-        }
-        Answer::Header(header) => push_counts(text, *header, 0),
-        Answer::Miscounted(header, there) => push_counts(text, *header, *there),
-        Answer::Unknown => text.extend_from_slice(b"unknown form"),
+        Answer::HardReset(mark) => push_reset(text, b"Hard Reset", *mark),
+        Answer::CableReset(mark) => push_reset(text, b"Cable Reset", *mark),
+        Answer::Header(set, header) => push_counts(text, *set, *header, 0),
+        Answer::Miscounted(set, header, there) => push_counts(text, *set, *header, *there),
+        Answer::Spoiled => push_words(text, b"the packet before is damaged"),
+        Answer::Unknown => push_words(text, b"unknown form"),
     }
 }
 

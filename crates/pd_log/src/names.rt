@@ -6,9 +6,10 @@ ghost use Rattle.pd_log.specs.Names.{bench_head, bench_member_head, family_of, h
 ghost use Rattle.pd_log.specs.Names.{log_name, named_in, packet_line, packet_object};
 ghost use Rattle.pd_log.specs.declared.names.Family.TheVariants.{Control, Data, Extended};
 
+use crate::answer::LogPacket;
+use crate::sets::{PacketSet, channel_of, text_of};
 use pd_content::{push_header, push_header_members, push_number, push_packet, push_packet_members};
 use pd_header::{header_count, header_kind};
-use pd_packet::Packet;
 use pd_symbols::Channel;
 use std::alloc::AllocError;
 
@@ -167,10 +168,10 @@ fn push_bench_head(text: &mut Vec<u8>, channel: Channel, header: u16) -> Result<
 
 /// Writes the same with the standard's name.
 #[tactic(auto, unfolding(crate::specs::Names::log_head))]
-fn push_head(text: &mut Vec<u8>, channel: Channel, header: u16) -> Result<(), AllocError>
-    ensures { OnOk result (text.new.items ≡ text.old.items ++ log_head channel header) }
+fn push_head(text: &mut Vec<u8>, set: PacketSet, header: u16) -> Result<(), AllocError>
+    ensures { OnOk result (text.new.items ≡ text.old.items ++ log_head set header) }
 {
-    text.extend_from_slice(set_name(channel).as_bytes())?;
+    text.extend_from_slice(text_of(set).as_bytes())?;
     text.push(b' ')?;
     push_name(text, header)
 }
@@ -179,32 +180,32 @@ fn push_head(text: &mut Vec<u8>, channel: Channel, header: u16) -> Result<(), Al
 #[tactic(auto, using(crate::proofs::BehindName::long_header), unfolding(crate::specs::Names::header_line))]
 pub(crate) fn push_header_line(
     text: &mut Vec<u8>,
-    channel: Channel,
+    set: PacketSet,
     header: u16,
 ) -> Result<(), AllocError>
-    ensures { OnOk result (text.new.items ≡ text.old.items ++ header_line channel header) }
+    ensures { OnOk result (text.new.items ≡ text.old.items ++ header_line set header) }
 {
-    let alloc = *text.allocator();
+    let (alloc, channel) = (*text.allocator(), channel_of(set));
     let (mut head, mut told) = (Vec::new(alloc), Vec::new(alloc));
     push_bench_head(&mut head, channel, header)?;
     push_header(&mut told, channel, header)?;
     let (_, behind) = told.as_slice().split_at(head.as_slice().len());
-    push_head(text, channel, header)?;
+    push_head(text, set, header)?;
     text.extend_from_slice(behind)?;
     Ok(())
 }
 
 /// Writes a packet as pd_content tells it, with the standard's name of its message.
 #[tactic(auto, using(crate::proofs::BehindName::long_packet), unfolding(crate::specs::Names::packet_line))]
-pub(crate) fn push_packet_line(text: &mut Vec<u8>, packet: &Packet) -> Result<(), AllocError>
-    ensures { OnOk result (text.new.items ≡ text.old.items ++ packet_line packet.now) }
+pub(crate) fn push_packet_line(text: &mut Vec<u8>, told: &LogPacket) -> Result<(), AllocError>
+    ensures { OnOk result (text.new.items ≡ text.old.items ++ packet_line told.now) }
 {
-    let alloc = *text.allocator();
-    let (mut head, mut told) = (Vec::new(alloc), Vec::new(alloc));
+    let (alloc, packet) = (*text.allocator(), &told.packet);
+    let (mut head, mut words) = (Vec::new(alloc), Vec::new(alloc));
     push_bench_head(&mut head, packet.channel(), packet.header())?;
-    push_packet(&mut told, packet)?;
-    let (_, behind) = told.as_slice().split_at(head.as_slice().len());
-    push_head(text, packet.channel(), packet.header())?;
+    push_packet(&mut words, packet)?;
+    let (_, behind) = words.as_slice().split_at(head.as_slice().len());
+    push_head(text, told.set, packet.header())?;
     text.extend_from_slice(behind)?;
     Ok(())
 }
@@ -226,11 +227,11 @@ fn push_bench_member_head(
 
 /// Writes the same with the standard's name.
 #[tactic(auto, unfolding(crate::specs::Names::log_member_head))]
-fn push_member_head(text: &mut Vec<u8>, channel: Channel, header: u16) -> Result<(), AllocError>
-    ensures { OnOk result (text.new.items ≡ text.old.items ++ log_member_head channel header) }
+fn push_member_head(text: &mut Vec<u8>, set: PacketSet, header: u16) -> Result<(), AllocError>
+    ensures { OnOk result (text.new.items ≡ text.old.items ++ log_member_head set header) }
 {
     text.extend_from_slice(b"\"set\":\"")?;
-    text.extend_from_slice(set_name(channel).as_bytes())?;
+    text.extend_from_slice(text_of(set).as_bytes())?;
     text.extend_from_slice(b"\",\"message\":\"")?;
     push_name(text, header)
 }
@@ -239,32 +240,32 @@ fn push_member_head(text: &mut Vec<u8>, channel: Channel, header: u16) -> Result
 #[tactic(auto, using(crate::proofs::BehindName::long_header_members), unfolding(crate::specs::Names::header_object))]
 pub(crate) fn push_header_object(
     text: &mut Vec<u8>,
-    channel: Channel,
+    set: PacketSet,
     header: u16,
 ) -> Result<(), AllocError>
-    ensures { OnOk result (text.new.items ≡ text.old.items ++ header_object channel header) }
+    ensures { OnOk result (text.new.items ≡ text.old.items ++ header_object set header) }
 {
-    let alloc = *text.allocator();
+    let (alloc, channel) = (*text.allocator(), channel_of(set));
     let (mut head, mut told) = (Vec::new(alloc), Vec::new(alloc));
     push_bench_member_head(&mut head, channel, header)?;
     push_header_members(&mut told, channel, header)?;
     let (_, behind) = told.as_slice().split_at(head.as_slice().len());
-    push_member_head(text, channel, header)?;
+    push_member_head(text, set, header)?;
     text.extend_from_slice(behind)?;
     Ok(())
 }
 
 /// Writes a packet as members of a JSON object, as pd_content tells it, with the standard's name of its message.
 #[tactic(auto, using(crate::proofs::BehindName::long_packet_members), unfolding(crate::specs::Names::packet_object))]
-pub(crate) fn push_packet_object(text: &mut Vec<u8>, packet: &Packet) -> Result<(), AllocError>
-    ensures { OnOk result (text.new.items ≡ text.old.items ++ packet_object packet.now) }
+pub(crate) fn push_packet_object(text: &mut Vec<u8>, told: &LogPacket) -> Result<(), AllocError>
+    ensures { OnOk result (text.new.items ≡ text.old.items ++ packet_object told.now) }
 {
-    let alloc = *text.allocator();
-    let (mut head, mut told) = (Vec::new(alloc), Vec::new(alloc));
+    let (alloc, packet) = (*text.allocator(), &told.packet);
+    let (mut head, mut members) = (Vec::new(alloc), Vec::new(alloc));
     push_bench_member_head(&mut head, packet.channel(), packet.header())?;
-    push_packet_members(&mut told, packet)?;
-    let (_, behind) = told.as_slice().split_at(head.as_slice().len());
-    push_member_head(text, packet.channel(), packet.header())?;
+    push_packet_members(&mut members, packet)?;
+    let (_, behind) = members.as_slice().split_at(head.as_slice().len());
+    push_member_head(text, told.set, packet.header())?;
     text.extend_from_slice(behind)?;
     Ok(())
 }

@@ -49,7 +49,7 @@ pub(crate) fn four_of(digits: &[u8]) -> Option<u16>
 }
 
 /// The header in one to four digits.
-fn short_of(digits: &[u8]) -> Option<u16>
+pub(crate) fn short_of(digits: &[u8]) -> Option<u16>
     ensures { result ≡ short_of digits.now }
 {
     if digits.is_empty() || digits.len() > 4 {

@@ -1,6 +1,6 @@
 //! The parts of a line.
 
-ghost use Rattle.std.specs.Prelude.{◌≡◌, ◌<◌, ◌≤◌, ℕ, true, false, option_map, slice_index, length};
+ghost use Rattle.std.specs.Prelude.{◌≡◌, ◌<◌, ◌≤◌, ℕ, true, false, option_map, slice_index, length, take};
 ghost use Rattle.pd_log.specs.Parts.{is_gap, next, parts};
 
 /// Whether a byte stands between parts.
@@ -36,6 +36,17 @@ fn part_len(line: &[u8]) -> usize
         }
     }
     line.len()
+}
+
+/// So many bytes at the front, or all where there are fewer.
+#[tactic(auto, using(std::proofs::lemmas::List::take_all))]
+pub(crate) fn front(count: usize, bytes: &[u8]) -> &[u8]
+    ensures { result.now ≡ take count bytes.now }
+{
+    if bytes.len() < count {
+        return bytes;
+    }
+    bytes.split_at(count).0
 }
 
 /// The first part of a line, and what stands after it; `None` where no part is left.

@@ -4,7 +4,7 @@ ghost use Rattle.std.specs.Prelude.{◌≡◌, ◌==◌, ◌<◌, IfSome, is_som
 ghost use Rattle.std.specs.List.{list_all, position_from};
 ghost use Rattle.std.specs.Char.{is_ascii_digit};
 ghost use Rattle.pd_log.specs.Parts.{parts};
-ghost use Rattle.pd_log.specs.Stamps.{bare, clock_before, cut, in_brackets, is_clock, is_mark, is_of_clock, is_told_apart, log_time, stamp};
+ghost use Rattle.pd_log.specs.Stamps.{bare, clock_before, cut, in_brackets, is_clock, is_mark, is_of_clock, is_told_apart, stamp};
 ghost use Rattle.pd_log.specs.Stamps.{transcript_time, unspaced, unstamped};
 
 use crate::heads::behind_head;
@@ -52,7 +52,7 @@ fn is_told_apart(bytes: &[u8]) -> bool
     is_clock(bytes) && !are_digits(bytes)
 }
 
-fn unspaced(bytes: &[u8]) -> &[u8]
+pub(crate) fn unspaced(bytes: &[u8]) -> &[u8]
     ensures { result.now ≡ unspaced bytes.now }
 {
     let mut bytes = bytes;
@@ -115,7 +115,7 @@ fn bare(line: &[u8]) -> Option<(&[u8], &[u8])>
 }
 
 /// A log's own time, and what stands behind it.
-fn stamp(line: &[u8]) -> Option<(&[u8], &[u8])>
+pub(crate) fn stamp(line: &[u8]) -> Option<(&[u8], &[u8])>
     ensures { option_map (λ x. (x.0.now, x.1.now)) result ≡ stamp line.now }
 {
     match in_brackets(line) {
@@ -142,20 +142,10 @@ pub(crate) fn unstamped(line: &[u8]) -> &[u8]
 }
 
 /// The time of a transcript's line.
-fn transcript_time(line: &[u8]) -> Option<&[u8]>
+pub(crate) fn transcript_time(line: &[u8]) -> Option<&[u8]>
     ensures { option_map (λ time. time.now) result ≡ transcript_time (parts line.now) }
 {
     let _rest = behind_head(line)?;
     let (time, _) = next(line)?;
     Some(time)
-}
-
-/// The time that a line of a log tells: a kernel's or Zephyr's in brackets, one in digits with points or colons, or a transcript's.
-pub fn log_time(line: &[u8]) -> Option<&[u8]>
-    ensures { option_map (λ time. time.now) result ≡ log_time line.now }
-{
-    match stamp(line) {
-        Some((time, _)) => Some(time),
-        None => transcript_time(line),
-    }
 }

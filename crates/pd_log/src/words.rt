@@ -3,11 +3,15 @@
 ghost use Rattle.std.specs.Prelude.{◌≡◌, ◌++◌, IfOk, OnOk, option_map};
 ghost use Rattle.pd_log.specs.Parts.{parts};
 ghost use Rattle.pd_log.specs.Words.{announced_at, announced_in, behind_index, given_in, given_words, header_at};
-ghost use Rattle.pd_log.specs.Words.{objects_given, objects_in, plain_at};
+ghost use Rattle.pd_log.specs.Words.{objects_given, objects_in, plain_at, set_told};
+ghost use Rattle.pd_log.specs.Plain.{plain};
+ghost use Rattle.pd_log.specs.Sets.{named};
 
 use crate::codes::without_0x;
 use crate::numbers::{announced_of, four_of, object_of};
 use crate::parts::next;
+use crate::plain::plain;
+use crate::sets::{PacketSet, named};
 use std::alloc::{AllocError, Global};
 
 /// The header and the objects that a line gives.
@@ -112,6 +116,28 @@ pub(crate) fn objects_in(alloc: Global, line: &[u8]) -> Result<Option<Vec<u32>>,
         line = rest;
     }
     Ok(Some(objects))
+}
+
+/// The set that a part names.
+fn set_named(alloc: Global, part: &[u8]) -> Result<Option<PacketSet>, AllocError>
+    ensures { IfOk result (λ set. set ≡ named (plain part.now)) }
+{
+    let word = plain(alloc, part)?;
+    Ok(named(word.as_slice()))
+}
+
+/// The set that a line of words names.
+pub(crate) fn set_told(alloc: Global, line: &[u8]) -> Result<PacketSet, AllocError>
+    ensures { IfOk result (λ set. set ≡ set_told (parts line.now)) }
+{
+    let mut line = line;
+    while let Some((part, rest)) = next(line) {
+        if let Some(set) = set_named(alloc, part)? {
+            return Ok(set);
+        }
+        line = rest;
+    }
+    Ok(PacketSet::Sop)
 }
 
 /// The header and the objects that a line gives.

@@ -7,7 +7,7 @@ use Rattle.pd_edit_lines.specs.Words.{next}
 use Rattle.pd_log.specs.Answers.{Says}
 use Rattle.pd_log.specs.Begun.{BegunData}
 use Rattle.pd_log.specs.Objects.{json_text}
-use Rattle.pd_log.specs.Stamps.{log_time}
+use Rattle.pd_log.specs.Times.{log_time}
 use Rattle.pd_log.specs.declared.answer.Answer.{Answer}
 use Rattle.pd_page.specs.Logs.{TellsLog}
 
@@ -25,12 +25,12 @@ abbrev pub GoesOn : List (List ℕ) → ℕ → Option BegunData → List ℕ �
 GoesOn all number begun text rest = (more : List ℕ) → TellsLog number begun rest more → TellsLog 1 None all (text ++ more)
 
 -- what is told of a line
-abbrev pub told : ℕ → List ℕ → Answer → List ℕ
-told number line answer = json_text number (log_time line) answer
+abbrev pub told : ℕ → Option BegunData → List ℕ → Answer → List ℕ
+told number begun line answer = json_text number (log_time begun line) answer
 
 tells_more : (number : ℕ) (begun behind : Option BegunData) (line : List ℕ) (ls : List (List ℕ)) (answer : Answer) (rest : List ℕ) →
     Says begun line answer behind → TellsLog (number + 1) behind ls rest →
-    TellsLog number begun (line ∷ ls) (told number line answer ++ rest)
+    TellsLog number begun (line ∷ ls) (told number begun line answer ++ rest)
 unfolding TellsLog
 tells_more number begun behind line ls answer rest says others = (answer, behind, rest, says, refl, others)
 
@@ -40,13 +40,14 @@ tells_none number begun = refl
 
 pub line_on : (all : List (List ℕ)) (number : ℕ) (begun behind : Option BegunData) (text text' line rest : List ℕ) (ls : List (List ℕ))
     (answer : Answer) → GoesOn all number begun text (lines rest) → Some (line, ls) ≡ next (lines rest) → Says begun line answer behind →
-    text' ≡ text ++ told number line answer → GoesOn all (number + 1) behind text' ls
+    text' ≡ text ++ told number begun line answer → GoesOn all (number + 1) behind text' ls
 line_on all number begun behind text text' line rest ls answer so_far is says longer more others =
     let whole =
-    so_far (told number line answer ++ more)
-    (subst (λ l. TellsLog number begun l (told number line answer ++ more)) (sym (next_some (lines rest) line ls is))
+    so_far (told number begun line answer ++ more)
+    (subst (λ l. TellsLog number begun l (told number begun line answer ++ more)) (sym (next_some (lines rest) line ls is))
     (tells_more number begun behind line ls answer more says others)) in
-    subst (λ t. TellsLog 1 None all t) (sym (append_assoc text (told number line answer) more) ∙ ap (λ t. t ++ more) (sym longer)) whole
+    let joined = sym (append_assoc text (told number begun line answer) more) in
+    subst (λ t. TellsLog 1 None all t) (joined ∙ ap (λ t. t ++ more) (sym longer)) whole
 
 pub ends : (all : List (List ℕ)) (number : ℕ) (begun : Option BegunData) (text rest : List ℕ) → GoesOn all number begun text (lines rest) →
     None ≡ next (lines rest) → TellsLog 1 None all text

@@ -21,8 +21,9 @@ fn log_text(alloc: Global, log: &[u8]) -> Result<Vec<u8>, AllocError>
     let mut number = 1;
     let mut begun: Option<Begun> = None;
     while let Some((line, others)) = first_line(rest) {
+        let time = log_time(&begun, line);
         let told = read(alloc, line, begun)?;
-        push_json(&mut text, number, log_time(line), &told.answer)?;
+        push_json(&mut text, number, time, &told.answer)?;
         begun = told.begun;
         rest = others;
         number += 1;

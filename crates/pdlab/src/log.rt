@@ -42,7 +42,8 @@ fn is_read(answer: &Answer) -> bool {
             | Answer::Bytes(_)
             | Answer::Either(_, _)
             | Answer::HardReset(_)
-            | Answer::Header(_)
+            | Answer::CableReset(_)
+            | Answer::Header(_, _)
     )
 }
 
@@ -119,8 +120,9 @@ fn line_text(
     is_json: bool,
 ) -> Result<Told, AllocError> {
     let line = line.strip_suffix(b"\n").unwrap_or(line);
+    let time = log_time(&begun, line);
     let read = read(alloc, line, begun)?;
-    let (mut text, time) = (Vec::new(alloc), log_time(line));
+    let mut text = Vec::new(alloc);
     if is_json {
         push_json(&mut text, number, time, &read.answer)?;
     } else {

@@ -1,4 +1,4 @@
-use Rattle.std.proofs.Common.{◌∙◌, sym}
+use Rattle.std.proofs.Common.{◌∙◌}
 use Rattle.pd_log.specs.Parts.{parts}
 use Rattle.pd_log.proofs.ByteByByte.{no_part}
 use Rattle.pd_log.proofs.bytes.bytes_in.Goals as goal
