@@ -68,7 +68,16 @@ unfoldable pub time_text : Option (List ℕ) → List ℕ
 time_text None = []
 time_text (Some time) = 91 ∷ (time ++ codes "] ")
 
--- behind the number of the line, and the log's own time; a line that says nothing has none
-unfoldable pub line_text : ℕ → Option (List ℕ) → Answer → List ℕ
-line_text n time Nothing = []
-line_text n time answer = decimal n ++ (codes ": " ++ (time_text time ++ (said answer ++ 10 ∷ [])))
+-- the log's own line behind its number, on a line of its own
+unfoldable pub shown_line : ℕ → Option (List ℕ) → List ℕ
+shown_line n None = []
+shown_line n (Some line) = decimal n ++ (codes "> " ++ (line ++ 10 ∷ []))
+
+-- behind the number of the line, and the log's own time
+unfoldable pub told_line : ℕ → Option (List ℕ) → Answer → List ℕ
+told_line n time answer = decimal n ++ (codes ": " ++ (time_text time ++ (said answer ++ 10 ∷ [])))
+
+-- behind the log's own line, where that is shown; a line that says nothing has none
+unfoldable pub line_text : ℕ → Option (List ℕ) → Option (List ℕ) → Answer → List ℕ
+line_text n time line Nothing = []
+line_text n time line answer = shown_line n line ++ told_line n time answer

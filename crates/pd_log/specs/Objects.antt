@@ -10,6 +10,7 @@ use Rattle.pd_log.specs.declared.answer.LogPacket.{LogPacket}
 use Rattle.pd_log.specs.declared.sets.PacketSet.{PacketSet}
 use Rattle.pd_log.specs.declared.answer.Answer.TheVariants.{Nothing, Packet, Supplies, Bytes, Either, Fault, HardReset}
 use Rattle.pd_log.specs.declared.answer.Answer.TheVariants.{CableReset, Header, Miscounted, Spoiled, Unknown}
+use Rattle.pd_text.specs.Strings.{string_text}
 use Rattle.pd_log.specs.Names.{header_object, packet_object}
 use Rattle.pd_log.specs.Lines.{fault_words}
 
@@ -74,7 +75,16 @@ unfoldable pub time_member : Option (List ℕ) → List ℕ
 time_member None = []
 time_member (Some time) = codes ",\"log_time\":\"" ++ (time ++ 34 ∷ [])
 
-unfoldable pub json_text : ℕ → Option (List ℕ) → Answer → List ℕ
-json_text n time Nothing = []
-json_text n time answer =
-    codes "{\"line\":" ++ (decimal n ++ (time_member time ++ (codes ",\"kind\":" ++ (members answer ++ codes "}\n"))))
+-- the log's own line
+unfoldable pub line_member : Option (List ℕ) → List ℕ
+line_member None = []
+line_member (Some line) = codes ",\"log_line\":" ++ string_text line
+
+-- the kind of a line and the members of that kind, which end the object
+unfoldable pub last_members : Answer → List ℕ
+last_members answer = codes ",\"kind\":" ++ (members answer ++ codes "}\n")
+
+unfoldable pub json_text : ℕ → Option (List ℕ) → Option (List ℕ) → Answer → List ℕ
+json_text n time line Nothing = []
+json_text n time line answer =
+    codes "{\"line\":" ++ (decimal n ++ (time_member time ++ (line_member line ++ last_members answer)))

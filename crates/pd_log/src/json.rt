@@ -1,7 +1,8 @@
 //! What a line of a log says, as a JSON object.
 
 ghost use Rattle.std.specs.Prelude.{◌≡◌, ◌++◌, OnOk, option_map};
-ghost use Rattle.pd_log.specs.Objects.{bytes_members, cable_members, counts_members, either_members, fault_members, json_text, mark_member};
+ghost use Rattle.pd_log.specs.Objects.{bytes_members, cable_members, counts_members, either_members, fault_members, json_text};
+ghost use Rattle.pd_log.specs.Objects.{last_members, line_member, mark_member};
 ghost use Rattle.pd_log.specs.Objects.{mark_name, members, reason_member, reset_members, supplies_members, time_member, told_member};
 
 use crate::line::fault_words;
@@ -10,6 +11,7 @@ use crate::{Answer, LogPacket, Mark, PacketSet};
 use pd_content::push_number;
 use pd_header::header_count;
 use pd_packet::PacketFault;
+use pd_text::push_string;
 use std::alloc::AllocError;
 
 fn mark_name(mark: Mark) -> &'static str
@@ -181,8 +183,30 @@ fn push_time(text: &mut Vec<u8>, time: Option<&[u8]>) -> Result<(), AllocError>
     Ok(())
 }
 
-/// Writes what the line of a number says, as a JSON object with the log's own time of that line, and a line feed. For a line that says
-/// nothing there is none.
+/// Writes the log's own line, as a member behind a comma.
+#[tactic(auto, unfolding(crate::specs::Objects::line_member))]
+fn push_line_member(text: &mut Vec<u8>, line: Option<&[u8]>) -> Result<(), AllocError>
+    ensures { OnOk result (text.new.items ≡ text.old.items ++ line_member (option_map (λ bytes. bytes.now) line.entry)) }
+{
+    let Some(line) = line else {
+        return Ok(());
+    };
+    text.extend_from_slice(b",\"log_line\":")?;
+    push_string(text, line)
+}
+
+/// Writes the kind of a line and the members of that kind, which end the object.
+#[tactic(auto, unfolding(crate::specs::Objects::last_members))]
+fn push_last(text: &mut Vec<u8>, answer: &Answer) -> Result<(), AllocError>
+    ensures { OnOk result (text.new.items ≡ text.old.items ++ last_members answer.now) }
+{
+    text.extend_from_slice(b",\"kind\":")?;
+    push_members(text, answer)?;
+    text.extend_from_slice(b"}\n")
+}
+
+/// Writes what the line of a number says, as a JSON object with the log's own time of that line and, where it is given, that line; and a
+/// line feed. For a line that says nothing there is none.
 ///
 /// # Errors
 /// There is no memory for it; some of it may stand in the text.
@@ -191,10 +215,11 @@ pub fn push_json(
     text: &mut Vec<u8>,
     number: u64,
     time: Option<&[u8]>,
+    line: Option<&[u8]>,
     answer: &Answer,
 ) -> Result<(), AllocError>
     ensures { OnOk result (text.new.items ≡ text.old.items
-        ++ json_text number (option_map (λ bytes. bytes.now) time.entry) answer.now) }
+        ++ json_text number (option_map (λ bytes. bytes.now) time.entry) (option_map (λ bytes. bytes.now) line.entry) answer.now) }
 {
     if matches!(answer, Answer::Nothing) {
         return Ok(());
@@ -202,7 +227,6 @@ pub fn push_json(
     text.extend_from_slice(b"{\"line\":")?;
     push_number(text, number)?;
     push_time(text, time)?;
-    text.extend_from_slice(b",\"kind\":")?;
-    push_members(text, answer)?;
-    text.extend_from_slice(b"}\n")
+    push_line_member(text, line)?;
+    push_last(text, answer)
 }

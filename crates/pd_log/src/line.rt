@@ -2,6 +2,7 @@
 
 ghost use Rattle.std.specs.Prelude.{◌≡◌, ◌++◌, OnOk, option_map};
 ghost use Rattle.pd_log.specs.Lines.{bytes_text, counts_text, either_text, fault_text, fault_words, line_text, mark_text, said};
+ghost use Rattle.pd_log.specs.Lines.{shown_line, told_line};
 ghost use Rattle.pd_log.specs.Lines.{supplies_text, time_text, told_text};
 
 use crate::names::{push_header_line, push_packet_line};
@@ -157,8 +158,42 @@ fn push_time(text: &mut Vec<u8>, time: Option<&[u8]>) -> Result<(), AllocError>
     text.extend_from_slice(b"] ")
 }
 
-/// Writes what the line of a number says, as a line of text behind that number and the log's own time of that line. For a line that says
-/// nothing there is none.
+/// Writes the log's own line behind its number.
+#[tactic(auto, unfolding(crate::specs::Lines::shown_line))]
+fn push_shown(text: &mut Vec<u8>, line_number: u64, line: Option<&[u8]>) -> Result<(), AllocError>
+    ensures { OnOk result (text.new.items ≡ text.old.items ++ shown_line line_number (option_map (λ bytes. bytes.now) line.entry)) }
+{
+    let Some(line) = line else {
+        return Ok(());
+    };
+    push_number(text, line_number)?;
+    text.extend_from_slice(b"> ")?;
+    text.extend_from_slice(line)?;
+    text.push(b'\n')?;
+    Ok(())
+}
+
+/// Writes what a line says behind its number and the log's own time.
+#[tactic(auto, unfolding(crate::specs::Lines::told_line))]
+fn push_told_line(
+    text: &mut Vec<u8>,
+    number: u64,
+    time: Option<&[u8]>,
+    answer: &Answer,
+) -> Result<(), AllocError>
+    ensures { OnOk result (text.new.items ≡ text.old.items
+        ++ told_line number (option_map (λ bytes. bytes.now) time.entry) answer.now) }
+{
+    push_number(text, number)?;
+    text.extend_from_slice(b": ")?;
+    push_time(text, time)?;
+    push_said(text, answer)?;
+    text.push(b'\n')?;
+    Ok(())
+}
+
+/// Writes what the line of a number says, as a line of text behind that number and the log's own time of that line; and before it, where
+/// it is given, that line. For a line that says nothing there is none.
 ///
 /// # Errors
 /// There is no memory for it; some of it may stand in the text.
@@ -167,18 +202,15 @@ pub fn push_line(
     text: &mut Vec<u8>,
     number: u64,
     time: Option<&[u8]>,
+    line: Option<&[u8]>,
     answer: &Answer,
 ) -> Result<(), AllocError>
     ensures { OnOk result (text.new.items ≡ text.old.items
-        ++ line_text number (option_map (λ bytes. bytes.now) time.entry) answer.now) }
+        ++ line_text number (option_map (λ bytes. bytes.now) time.entry) (option_map (λ bytes. bytes.now) line.entry) answer.now) }
 {
     if matches!(answer, Answer::Nothing) {
         return Ok(());
     }
-    push_number(text, number)?;
-    text.extend_from_slice(b": ")?;
-    push_time(text, time)?;
-    push_said(text, answer)?;
-    text.push(b'\n')?;
-    Ok(())
+    push_shown(text, number, line)?;
+    push_told_line(text, number, time, answer)
 }

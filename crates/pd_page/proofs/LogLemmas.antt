@@ -26,7 +26,7 @@ GoesOn all number begun text rest = (more : List ℕ) → TellsLog number begun 
 
 -- what is told of a line
 abbrev pub told : ℕ → Option BegunData → List ℕ → Answer → List ℕ
-told number begun line answer = json_text number (log_time begun line) answer
+told number begun line answer = json_text number (log_time begun line) None answer
 
 tells_more : (number : ℕ) (begun behind : Option BegunData) (line : List ℕ) (ls : List (List ℕ)) (answer : Answer) (rest : List ℕ) →
     Says begun line answer behind → TellsLog (number + 1) behind ls rest →

@@ -1,5 +1,5 @@
 -- What is told of a log.
-use Rattle.std.specs.Prelude.{◌≡◌, ℕ, ◌+◌, List, [], ◌∷◌, ◌++◌, Option}
+use Rattle.std.specs.Prelude.{◌≡◌, ℕ, ◌+◌, List, [], ◌∷◌, ◌++◌, Option, None}
 use Rattle.pd_log.specs.Answers.{Says}
 use Rattle.pd_log.specs.Begun.{BegunData}
 use Rattle.pd_log.specs.Objects.{json_text}
@@ -12,4 +12,4 @@ unfoldable pub TellsLog : ℕ → Option BegunData → List (List ℕ) → List 
 TellsLog number begun [] text = text ≡ []
 TellsLog number begun (line ∷ lines) text =
     (answer : Answer) × (behind : Option BegunData) × (rest : List ℕ) × Says begun line answer behind
-    × (text ≡ json_text number (log_time begun line) answer ++ rest) × TellsLog (number + 1) behind lines rest
+    × (text ≡ json_text number (log_time begun line) None answer ++ rest) × TellsLog (number + 1) behind lines rest

@@ -23,7 +23,7 @@ fn log_text(alloc: Global, log: &[u8]) -> Result<Vec<u8>, AllocError>
     while let Some((line, others)) = first_line(rest) {
         let time = log_time(&begun, line);
         let told = read(alloc, line, begun)?;
-        push_json(&mut text, number, time, &told.answer)?;
+        push_json(&mut text, number, time, None, &told.answer)?;
         begun = told.begun;
         rest = others;
         number += 1;

@@ -13,7 +13,7 @@ pub fn usage_of(word: &str) -> &'static str {
         "draw" => "usage: pdlab draw SCENARIO [EDITS] [OPTIONS]",
         "page" => "usage: pdlab page SCENARIO [EDITS] [OPTIONS]",
         "explain" => "usage: pdlab explain [--json] [--strict] SCENARIO [EDITS]",
-        "decode" => "usage: pdlab decode [--json] [FILE]",
+        "decode" => "usage: pdlab decode [--json] [--with-line] [FILE]",
         "new" => "usage: pdlab new [PORTS]",
         "schema" => "usage: pdlab schema",
         _ => {
@@ -421,12 +421,12 @@ status: 0 no line is refused, 1 a line or the scenario is refused, or with --str
 /// What `decode --help` prints.
 pub const DECODE_HELP: &str = "pdlab decode: what the lines of a log say
 
-usage: pdlab decode [--json] [FILE]
+usage: pdlab decode [--json] [--with-line] [FILE]
 
 Reads the file FILE, of any length, or standard input where it is - or left out,
 and tells of each line, behind its number, the packet that it holds, field by field.
 --json writes a JSON object for each line instead, with units in its keys (_mv,
-_ma, _mw).
+_ma, _mw). --with-line repeats the log's line before what it tells.
 
 A line may hold
   codes          18 18 18 11 09 12 .., with 0x before them or without, parted by
@@ -437,13 +437,17 @@ A line may hold
                  RECV 11a1/1 0001912C, as SEND, RX and TX; [0]0001912C
   bytes          low byte first: A1 11 2C 91 01 00, a1112c910100, or behind their
                  count, as a port's registers have them
+  a table's row  behind a head that names its columns, as Time,SOP,Header,Data,
+                 with commas, semicolons or tabs between them
+  annotations    of sigrok-cli's decoder: usb_power_delivery-1: H:21a1
 Objects may follow their header in lines of their own, as [0]0001912C or, in a
 kernel's log, PDO 0: type 0, 5000 mV, 3000 mA [E]; the last one tells the packet.
 A log's own time, as [   12.345678], stands before what its line tells. Codes that
 spell no packet, and are none as bytes, are told with the first fault and the place
-of the code. Lines of a log on other things are passed over. A line that begins with # or =, an empty one, and what pdbench answers to an
-edit, as ok, tell nothing. Any other line is told to be of unknown form, as those of
-pdlab show, which tell what packets say themselves.
+of the code. Lines of a log on other things are passed over. A line that begins
+with # or =, an empty one, and what pdbench answers to an edit, as ok, tell nothing.
+Any other line is told to be of unknown form, as those of pdlab show, which tell what
+packets say themselves.
 
 example: pdlab decode --json capture.txt
   grep RECV controller.log | pdlab decode

@@ -5,21 +5,23 @@ use crate::answers::Counted;
 use crate::fault::{output, tell, tell_no_file, tell_unwritten};
 use pd_device::{BenchFault, Output, write_all};
 use pd_log::{Answer, Begun, log_time, push_json, push_line, read};
+use pd_words::DecodeOptions;
 use std::alloc::{AllocError, Global};
 use std::fs::File;
 use std::io::{BufRead, BufReader, Printer};
 use std::rt::Files;
 
-/// The log of a file, or of standard input where none is named or the name is `-`, told line by line as text or as JSON.
+/// The log of a file, or of standard input where none is named or the name is `-`, told line by line as text or as JSON, with the log's
+/// lines or without.
 pub fn decode<R: Files + Input + Print + Alloc<A = Global>, E: Print>(
     rt: &R,
     errors: &E,
     file: &str,
-    is_json: bool,
+    options: DecodeOptions,
 ) -> Ending {
     if file == "-" {
         return match BufReader::new(rt.alloc(), rt.reader()) {
-            Ok(reader) => decode_lines(rt, errors, file, reader, is_json),
+            Ok(reader) => decode_lines(rt, errors, file, reader, options),
             Err(_) => tell(errors, BenchFault::Memory),
         };
     }
@@ -27,7 +29,7 @@ pub fn decode<R: Files + Input + Print + Alloc<A = Global>, E: Print>(
         return tell_no_file(errors, file);
     };
     match BufReader::new(rt.alloc(), file_reader) {
-        Ok(reader) => decode_lines(rt, errors, file, reader, is_json),
+        Ok(reader) => decode_lines(rt, errors, file, reader, options),
         Err(_) => tell(errors, BenchFault::Memory),
     }
 }
@@ -53,7 +55,7 @@ fn decode_lines<R: Print + Alloc<A = Global>, E: Print, I: BufRead + Drop>(
     errors: &E,
     file: &str,
     reader: I,
-    is_json: bool,
+    options: DecodeOptions,
 ) -> Ending {
     let mut reader = reader;
     let mut writer = output(rt);
@@ -73,7 +75,7 @@ fn decode_lines<R: Print + Alloc<A = Global>, E: Print, I: BufRead + Drop>(
             number,
             line.as_slice(),
             begun,
-            is_json,
+            options,
         ) {
             Ok(told) => {
                 ending = if told.is_read {
@@ -104,9 +106,9 @@ fn decode_line<P: Print>(
     number: u64,
     line: &[u8],
     begun: Option<Begun>,
-    is_json: bool,
+    options: DecodeOptions,
 ) -> Result<Told, BenchFault> {
-    let told = line_text(alloc, number, line, begun, is_json).map_err(|_| BenchFault::Memory)?;
+    let told = line_text(alloc, number, line, begun, options).map_err(|_| BenchFault::Memory)?;
     write_all(writer, told.text.as_slice())?;
     Ok(told)
 }
@@ -117,16 +119,17 @@ fn line_text(
     number: u64,
     line: &[u8],
     begun: Option<Begun>,
-    is_json: bool,
+    options: DecodeOptions,
 ) -> Result<Told, AllocError> {
     let line = line.strip_suffix(b"\n").unwrap_or(line);
     let time = log_time(&begun, line);
     let read = read(alloc, line, begun)?;
     let mut text = Vec::new(alloc);
-    if is_json {
-        push_json(&mut text, number, time, &read.answer)?;
+    let log_line = if options.with_line { Some(line) } else { None };
+    if options.json {
+        push_json(&mut text, number, time, log_line, &read.answer)?;
     } else {
-        push_line(&mut text, number, time, &read.answer)?;
+        push_line(&mut text, number, time, log_line, &read.answer)?;
     }
     Ok(Told {
         text,

@@ -98,7 +98,7 @@ where
         LabTask::Page(scene, file) => page(rt, errors, scene, file),
         LabTask::Explain(scene, options) => Ok(explained(rt, errors, scene, options)),
         LabTask::Decode(file, options) => Ok(decode(rt, errors, file, options)),
-        LabTask::New(ports) => texts::new(rt, errors, ports),
+        LabTask::New(ports) => texts::new(rt, errors, ports as u64),
         LabTask::Schema => texts::schema(rt, errors),
     }
 }

@@ -1,4 +1,4 @@
-use Rattle.std.proofs.Common.{ap, arith, ◌++◌, ◌∙◌}
+use Rattle.std.proofs.Common.{ap, arith, None, ◌++◌, ◌∙◌}
 use Rattle.pd_log.specs.Objects.{json_text}
 use Rattle.std.specs.Str.Lines.{lines}
 use Rattle.pd_page.proofs.LogLemmas.{ends, line_on}
@@ -11,7 +11,7 @@ loop-line-preserved c = record {
       c.push_json.new.text.items c.in-Some.line.now c.loop-line.rest.now (lines c.in-Some.others.now) c.in_ok-told.told.answer
       c.loop-line.invariant.text c.in-Some.ensures.lines c.in_ok-told.ensures
       (c.in_ok-push_json.ensures
-      ∙ ap (λ time. c.loop-line.text.items ++ json_text c.loop-line.number time c.in_ok-told.told.answer) c.log_time-time.ensures);
+      ∙ ap (λ time. c.loop-line.text.items ++ json_text c.loop-line.number time None c.in_ok-told.told.answer) c.log_time-time.ensures);
   count = omega (arith, c.loop-line.invariant.count, c.in-Some.ensures.shorter);
 }
 
