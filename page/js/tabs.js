@@ -141,11 +141,12 @@ export function shownTables(go, goToTold) {
       columns: [{ title: "line", width: 50, right: true }, { title: "what" }],
     cells: (row) => {
       const it = made.tests.rows[row];
-      if (it.passed !== undefined) return ["", `${it.passed} passed, ${it.failed} failed, ${it.refused} refused`];
+      if (it.failed !== undefined) return ["", `${it.passed} passed, ${it.failed} failed, ${it.refused} refused`];
+      if (it.passed) return [it.line, `passed: ${it.passed}`];
       const what = it.expected ? `failed: ${it.expected}; there is ${it.found}` : it.sentence ?? `not lost: ${it.not_lost ?? it.not_tried}`;
       return [it.line ?? "", `${it.refusal ? `refused ${it.refusal}: ` : ""}${what}${it.hint ? ` — ${it.hint}` : ""}`];
     },
-    kind: (row) => (made.tests.rows[row].passed === undefined ? "bad" : made.tests.rows[row].failed ? "bad" : "come"),
+    kind: (row) => (made.tests.rows[row].passed === undefined || made.tests.rows[row].failed ? "bad" : "come"),
   });
   made.log = new Rows({
     label: "Decoded lines", none: "no line of a log", columns: [{ title: "line", width: 50, right: true }, { title: "what", width: 200 },

@@ -13,12 +13,12 @@ use Rattle.pd_warn.specs.declared.warning.Warning.{Warning}
 use Rattle.pd_explain_text.specs.Sentences.{sentence}
 use Rattle.pd_guarantee.specs.Charger.{charger_of}
 use Rattle.pd_guarantee.specs.Tellings.{charger_text}
-use Rattle.pd_text.specs.Fronts.{front_of_file}
 use Rattle.pd_text.specs.declared.piece.Form.TheVariants.{Words}
 use Rattle.pd_expect.specs.Named.{script_lines}
-use Rattle.pd_expect.specs.Tests.{Tests, no_test}
+use Rattle.pd_expect.specs.Cases.{cases_text, tally_of}
+use Rattle.pd_expect.specs.Tests.{Tests}
 use Rattle.pd_expect.specs.Words.{tally_words}
-use Rattle.pd_expect.specs.declared.tally.TestTally.{TestTally}
+use Rattle.pd_expect.specs.declared.case.Case.{Case}
 
 -- all that there is to show: of one port, or of all
 abbrev pub shown_of : Option ℕ → Choice
@@ -54,5 +54,5 @@ TellsGuarantee s text = text ≡ codes "= guarantee\n" ++ charger_text Words (ch
 -- what is told of the lines of a test script of this name, over a scenario of n ports, and how many of them passed and failed
 abbrev pub TellsTests : ℕ → ScenarioData → List ℕ → List ℕ → List ℕ → Type 0
 TellsTests n s name script text =
-    (said : List ℕ) × (tally : TestTally) × Tests n s (front_of_file Words name) 1 no_test (script_lines script) said tally
-    × (text ≡ said ++ tally_words tally)
+    (cases : List Case) × Tests n s name 1 (script_lines script) cases
+    × (text ≡ cases_text Words false name cases ++ tally_words (tally_of cases))

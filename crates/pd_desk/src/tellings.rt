@@ -6,7 +6,7 @@ ghost use Rattle.pd_desk.specs.Tellings.{Draws, TellsGuarantee, TellsShow, Tells
 use crate::copy::copied;
 use pd_device::Output;
 use pd_draw::{Look, draw};
-use pd_expect::{Form as TestForm, TestReport, test_script};
+use pd_expect::{Form as TestForm, TestTally, push_cases, test_script};
 use pd_explain_text::push_sentence;
 use pd_guarantee::{Form as BoundsForm, guarantee};
 use pd_keep::Kept;
@@ -139,8 +139,16 @@ pub(crate) fn tested<const N: usize>(
 {
     let copy = copied(alloc, scenario)?;
     let mut run = Kept::<N>::empty(alloc);
-    let report = test_script(alloc, &mut run, copy, TestForm::Words, name, script, meter)?;
-    let TestReport { mut text, tally } = report;
-    tally.push(&mut text)?;
+    let cases = test_script(alloc, &mut run, copy, name, script, meter)?;
+    let mut text = Vec::new(alloc);
+    push_cases(
+        alloc,
+        &mut text,
+        TestForm::Words,
+        false,
+        name,
+        cases.as_slice(),
+    )?;
+    TestTally::of(cases.as_slice()).push(&mut text)?;
     Ok(text)
 }

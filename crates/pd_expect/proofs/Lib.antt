@@ -1,4 +1,5 @@
 mod ContractLemmas
+mod EditLemmas
 mod JoinLemmas
 mod LineLemmas
 mod LowLemmas
@@ -7,3 +8,4 @@ mod QuietLemmas
 mod SeekLemmas
 mod SoonestLemmas
 mod SteadyLemmas
+mod XmlLemmas

@@ -4,11 +4,11 @@ use Rattle.std.proofs.lemmas.List.{append-nil}
 use Rattle.std.specs.Str.Lines.{lines}
 use Rattle.pd_scenario.specs.Scenarios.{ScenarioData}
 use Rattle.pd_edit_lines.specs.Words.{next}
-use Rattle.pd_scene.specs.Script.{at_line}
-use Rattle.pd_text.specs.Fronts.{FrontData}
-use Rattle.pd_expect.specs.Tests.{Answer, IsAnswer, Tests, no_test}
+use Rattle.pd_expect.specs.Refusals.{places}
+use Rattle.pd_expect.specs.Tests.{Answer, IsAnswer, Tests, case_of}
 use Rattle.pd_expect.specs.Named.{named_by, or_else, scenario_name}
-use Rattle.pd_expect.specs.declared.tally.TestTally.{TestTally}
+use Rattle.pd_expect.specs.declared.case.Case.{Case}
+use Rattle.pd_expect.specs.declared.refusal.Places.{Places}
 
 next_some : (ls : List (List ℕ)) (line : List ℕ) (more : List (List ℕ)) → Some (line, more) ≡ next ls → ls ≡ line ∷ more
 next_some [] line more e = absurd (cc)
@@ -19,43 +19,40 @@ next_none : (ls : List (List ℕ)) → None ≡ next ls → ls ≡ []
 next_none [] e = refl
 next_none (w ∷ ws) e = absurd (cc)
 
--- What is still to be said makes the whole, whatever it is.
-abbrev pub GoesOn : ℕ → ScenarioData → FrontData → List (List ℕ) → ScenarioData → ℕ → TestTally → List ℕ → List (List ℕ) → Type 0
-GoesOn n start file all c number tally text rest =
-    (more : List ℕ) (end : TestTally) → Tests n c file number tally rest more end → Tests n start file 1 no_test all (text ++ more) end
+-- What is still to come makes the whole, whatever it is.
+abbrev pub GoesOn : ℕ → ScenarioData → List ℕ → List (List ℕ) → ScenarioData → ℕ → List Case → List (List ℕ) → Type 0
+GoesOn n start name all c number cases rest =
+    (more : List Case) → Tests n c name number rest more → Tests n start name 1 all (cases ++ more)
 
 -- one line
-tests_more : (n : ℕ) (c : ScenarioData) (file : FrontData) (number : ℕ) (tally : TestTally) (line : List ℕ) (ls : List (List ℕ))
-    (answer : Answer) (rest : List ℕ) (end : TestTally) → IsAnswer n c (at_line file number) line tally answer →
-    Tests n answer.after file (number + 1) answer.tally ls rest end → Tests n c file number tally (line ∷ ls) (answer.said ++ rest) end
+tests_more : (n : ℕ) (c : ScenarioData) (name : List ℕ) (number : ℕ) (line : List ℕ) (ls : List (List ℕ)) (answer : Answer)
+    (rest : List Case) → IsAnswer n c (places name number) line answer → Tests n answer.after name (number + 1) ls rest →
+    Tests n c name number (line ∷ ls) (case_of number line answer.verdict ++ rest)
 unfolding Tests
-tests_more n c file number tally line ls answer rest end is others = (answer, rest, is, others, refl)
+tests_more n c name number line ls answer rest is others = (answer, rest, is, others, refl)
 
-tests_none : (n : ℕ) (c : ScenarioData) (file : FrontData) (number : ℕ) (tally : TestTally) → Tests n c file number tally [] [] tally
+tests_none : (n : ℕ) (c : ScenarioData) (name : List ℕ) (number : ℕ) → Tests n c name number [] []
 unfolding Tests
-tests_none n c file number tally = (refl, refl)
+tests_none n c name number = refl
 
-pub line_on : (n : ℕ) (start : ScenarioData) (file : FrontData) (all : List (List ℕ)) (c : ScenarioData) (number : ℕ) (tally : TestTally)
-    (text text' : List ℕ) (at : FrontData) (line rest : List ℕ) (ls : List (List ℕ)) (answer : Answer) →
-    GoesOn n start file all c number tally text (lines rest) → Some (line, ls) ≡ next (lines rest) → at ≡ at_line file number →
-    IsAnswer n c at line tally answer → text' ≡ text ++ answer.said →
-    GoesOn n start file all answer.after (number + 1) answer.tally text' ls
-line_on n start file all c number tally text text' at line rest ls answer so_far is place answered more_text more end others =
-    let one : IsAnswer n c (at_line file number) line tally answer = subst (λ a. IsAnswer n c a line tally answer) place answered in
-    let all_of = tests_more n c file number tally line ls answer more end one others in
+pub line_on : (n : ℕ) (start : ScenarioData) (name : List ℕ) (all : List (List ℕ)) (c : ScenarioData) (number : ℕ)
+    (cases cases' : List Case) (at : Places) (line rest : List ℕ) (ls : List (List ℕ)) (answer : Answer) →
+    GoesOn n start name all c number cases (lines rest) → Some (line, ls) ≡ next (lines rest) → at ≡ places name number →
+    IsAnswer n c at line answer → cases' ≡ cases ++ case_of number line answer.verdict →
+    GoesOn n start name all answer.after (number + 1) cases' ls
+line_on n start name all c number cases cases' at line rest ls answer so_far is place answered added more others =
+    let one : IsAnswer n c (places name number) line answer = subst (λ a. IsAnswer n c a line answer) place answered in
+    let said : List Case = case_of number line answer.verdict in
+    let all_of = tests_more n c name number line ls answer more one others in
     let whole =
-    so_far (answer.said ++ more) end
-    (subst (λ l. Tests n c file number tally l (answer.said ++ more) end) (sym (next_some (lines rest) line ls is)) all_of) in
-    subst (λ t. Tests n start file 1 no_test all t end)
-    (sym (append_assoc text answer.said more) ∙ ap (λ t. t ++ more) (sym more_text)) whole
+    so_far (said ++ more) (subst (λ l. Tests n c name number l (said ++ more)) (sym (next_some (lines rest) line ls is)) all_of) in
+    subst (λ t. Tests n start name 1 all t) (sym (append_assoc cases said more) ∙ ap (λ t. t ++ more) (sym added)) whole
 
-pub end_on : (n : ℕ) (start : ScenarioData) (file : FrontData) (all : List (List ℕ)) (c : ScenarioData) (number : ℕ) (tally : TestTally)
-    (text rest : List ℕ) → GoesOn n start file all c number tally text (lines rest) → None ≡ next (lines rest) →
-    Tests n start file 1 no_test all text tally
-end_on n start file all c number tally text rest so_far is =
-    let last =
-    subst (λ l. Tests n c file number tally l [] tally) (sym (next_none (lines rest) is)) (tests_none n c file number tally) in
-    subst (λ t. Tests n start file 1 no_test all t tally) (append-nil text) (so_far [] tally last)
+pub end_on : (n : ℕ) (start : ScenarioData) (name : List ℕ) (all : List (List ℕ)) (c : ScenarioData) (number : ℕ) (cases : List Case)
+    (rest : List ℕ) → GoesOn n start name all c number cases (lines rest) → None ≡ next (lines rest) → Tests n start name 1 all cases
+end_on n start name all c number cases rest so_far is =
+    let last = subst (λ l. Tests n c name number l []) (sym (next_none (lines rest) is)) (tests_none n c name number) in
+    subst (λ t. Tests n start name 1 all t) (append-nil cases) (so_far [] last)
 
 -- ---- the scenario that a script names
 

@@ -1,18 +1,17 @@
 -- What is left of the budget stays as it is up to the next change of a contract or of the budget.
-use Rattle.std.proofs.Common.{◌≡◌, ℕ, zero, suc, ◌+◌, ◌-◌, ◌*◌, ◌<◌, ◌≤◌, Bool, true, false, not, List, [], ◌∷◌, ◌++◌, Option}
+use Rattle.std.proofs.Common.{◌≡◌, ℕ, zero, suc, ◌+◌, ◌*◌, ◌<◌, ◌≤◌, Bool, true, false, List, [], ◌∷◌, ◌++◌, Option}
 use Rattle.std.proofs.Common.{Some, None, refl, sym, ap}
 use Rattle.std.proofs.Common.{◌∙◌, arith, subst}
 use Rattle.std.proofs.Common.{get_or, length, take}
 use Rattle.std.proofs.lemmas.Bool.Decides.{nat_tests}
 use Rattle.std.proofs.lemmas.List.{map-append, take_more}
 use Rattle.std.proofs.lemmas.List.Sums.{sum_by-cons}
-use Rattle.std.specs.Prelude.{◌==◌, ◌&&◌, IfSome, fold, map, min, nat_le, nat_lt, is_some, sum, if◌then◌else◌}
+use Rattle.std.specs.Prelude.{◌==◌, ◌&&◌, IfSome, fold, map, min, nat_lt, is_some, sum, if◌then◌else◌}
 use Rattle.std.specs.List.{AllByRecursion, cons_option, filter_map, last_or, range_with_len}
 use Rattle.std.specs.Option.{option_map_or}
 use Rattle.pd_objects.specs.declared.contract.Contract.{Contract}
 use Rattle.pd_port.specs.declared.entry.ContractChange.{ContractChange}
 use Rattle.pd_port.specs.declared.entry.ContractChange.TheVariants.{Made, Lost}
-use Rattle.pd_port.specs.declared.entry.Entry.{Entry}
 use Rattle.pd_scenario.specs.Plan.{Plan, budget_after, force, is_later, with_change}
 use Rattle.pd_scenario.specs.declared.budget.BudgetChange.{BudgetChange}
 use Rattle.pd_report.specs.LeastMargin.{margin_at}
@@ -21,7 +20,7 @@ use Rattle.pd_report.specs.declared.least.Margin.{Margin}
 use Rattle.pd_report.proofs.MarginLemmas.{all-append, all-mono, same-table}
 use Rattle.pd_sweep.specs.Summaries.{left_by}
 use Rattle.pd_expect.specs.Details.{times_of}
-use Rattle.pd_expect.specs.Low.{StaysTo, is_enough, lesser_of, sooner, soonest_with}
+use Rattle.pd_expect.specs.Low.{StaysTo, lesser_of, sooner, soonest_with}
 use Rattle.pd_expect.specs.OverTime.{IsSoonest, Moves, contract_at}
 use Rattle.pd_expect.specs.declared.near.Sign.TheVariants as sign
 use Rattle.pd_expect.proofs.SteadyLemmas.{same_tests, steady_changes}

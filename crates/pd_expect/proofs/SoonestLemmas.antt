@@ -3,10 +3,9 @@ use Rattle.std.proofs.Common.{◌≡◌, ℕ, ◌<◌, ◌≤◌, Bool, true, fa
 use Rattle.std.proofs.lemmas.Bool.Decides.{nat_tests}
 use Rattle.std.specs.Prelude.{filter, nat_lt, if◌then◌else◌}
 use Rattle.std.specs.List.{AllByRecursion, cons_option}
-use Rattle.pd_port.specs.declared.entry.Entry.{Entry}
 use Rattle.pd_report.specs.Walk.{NoneBefore}
 use Rattle.pd_report.proofs.MarginLemmas.{Rising, all-mono}
-use Rattle.pd_expect.specs.Details.{first_time, has_sign, sign_at, times_of}
+use Rattle.pd_expect.specs.Details.{first_time, has_sign, times_of}
 use Rattle.pd_expect.specs.OverTime.{IsSoonest}
 use Rattle.pd_expect.specs.OverTime.{Moves}
 use Rattle.pd_expect.specs.declared.near.Sign.{Sign}

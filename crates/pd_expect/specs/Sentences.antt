@@ -1,5 +1,5 @@
 -- What an expectation says of a run, and when it is met.
-use Rattle.std.specs.Prelude.{◌≡◌, ℕ, ◌==◌, ◌&&◌, nat_le, nat_lt, Bool, false, List, [], if◌then◌else◌, bytes_eq, filter, length}
+use Rattle.std.specs.Prelude.{◌≡◌, ℕ, ◌==◌, ◌&&◌, nat_le, nat_lt, Bool, false, List, if◌then◌else◌, bytes_eq, filter, length}
 use Rattle.std.specs.Prelude.{Option, Some, None}
 use Rattle.std.specs.Prelude.{not, is_some, unwrap_or}
 use Rattle.std.specs.List.{list_any}

@@ -76,6 +76,18 @@ failure_line at line what details =
     line_with at
     (string (codes ": failed: ") (codes "expected") line ∷ string (there_words what) (codes "found") (there what details) ∷ [])
 
+-- an expectation that is met
+unfoldable pub passed_line : FrontData → List ℕ → List ℕ
+passed_line at line = line_with at (string (codes ": passed: ") (codes "passed") line ∷ [])
+
+-- what there is, as a sentence of its own
+abbrev pub is_words : Found → List ℕ
+is_words (found.Faults count) = if count == 1 then codes "there is " else codes "there are "
+is_words _ = codes "there is "
+
+unfoldable pub there_is : Found → List ℕ → List ℕ
+there_is what details = is_words what ++ there what details
+
 -- the form of a line, by the word behind `expect`
 abbrev pub form_named : List ℕ → List ℕ
 form_named word =

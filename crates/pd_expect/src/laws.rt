@@ -1,8 +1,14 @@
-//! What holds of expectations. It runs nothing.
+//! What holds of expectations and of reports. It runs nothing.
 
-ghost use Rattle.pd_expect.specs.Laws.{MarginsAreMet};
+ghost use Rattle.pd_expect.specs.Laws.{MarginsAreMet, TextsStayInside};
 
 /// An expectation of a margin is met exactly where at the end of each instant, up to the end, so much is left of the budget.
 pub fn margins_are_met()
     ensures { MarginsAreMet }
+{}
+
+/// No text that is put into a report in JUnit's form ends what it stands in: no byte of it begins or ends an element or an attribute,
+/// and none is a control character.
+pub fn texts_stay_inside()
+    ensures { TextsStayInside }
 {}

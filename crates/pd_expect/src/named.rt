@@ -11,7 +11,7 @@ use pd_scene::first_line;
 const MARK: &[u8] = &[0xEF, 0xBB, 0xBF];
 
 /// Whether a text begins with these bytes.
-fn begins(bytes: &[u8], text: &[u8]) -> bool
+pub(crate) fn begins(bytes: &[u8], text: &[u8]) -> bool
     ensures { result ≡ begins bytes.now text.now }
 {
     let count = bytes.len().min(text.len());
@@ -19,7 +19,7 @@ fn begins(bytes: &[u8], text: &[u8]) -> bool
 }
 
 /// What stands behind so many bytes.
-fn without(text: &[u8], count: usize) -> &[u8]
+pub(crate) fn without(text: &[u8], count: usize) -> &[u8]
     ensures { result.now ≡ drop count text.now }
 {
     if count <= text.len() {

@@ -1,9 +1,10 @@
 //! How many lines of a test script passed, failed and were refused.
 
-ghost use Rattle.std.specs.Prelude.{◌≡◌, ◌+◌, ◌-◌, ◌<◌, ◌^◌, ◌++◌, OnOk};
-ghost use Rattle.pd_expect.specs.Tests.{answered, counted_by, no_test, one_failed, one_passed, one_refused};
+ghost use Rattle.std.specs.Prelude.{◌≡◌, ◌++◌, OnOk};
+ghost use Rattle.pd_expect.specs.Cases.{count_of, is_of_kind, no_test, tally_of};
 ghost use Rattle.pd_expect.specs.Words.{refused_words, tally_object, tally_words};
 
+use crate::case::{Case, Verdict};
 use pd_tell::{push_number, push_number_member};
 use std::alloc::AllocError;
 
@@ -13,6 +14,39 @@ pub struct TestTally {
     pub passed: u64,
     pub failed: u64,
     pub refused: u64,
+}
+
+/// What a case may be counted as.
+#[derive(Clone, Copy, Debug)]
+pub(crate) enum Kind {
+    Passed,
+    Failed,
+    Refused,
+}
+
+/// Whether a line counts so.
+fn is_of_kind(kind: Kind, verdict: &Verdict) -> bool
+    ensures { result ≡ is_of_kind kind verdict.now }
+{
+    match (kind, verdict) {
+        (Kind::Passed, Verdict::Passed)
+        | (Kind::Failed, Verdict::Failed { .. })
+        | (Kind::Refused, Verdict::Refused { .. }) => true,
+        _ => false,
+    }
+}
+
+/// How many of some cases are of a kind.
+pub(crate) fn count_of(kind: Kind, cases: &[Case]) -> usize
+    ensures { result ≡ count_of kind cases.now }
+{
+    let mut count = 0;
+    for case in cases {
+        if is_of_kind(kind, &case.verdict) {
+            count += 1;
+        }
+    }
+    count
 }
 
 impl TestTally {
@@ -27,48 +61,14 @@ impl TestTally {
         }
     }
 
-    /// One more expectation passed.
-    pub(crate) fn one_passed(self) -> TestTally
-        requires { answered self < 2 ^ 64 - 1 }
-        ensures { result ≡ one_passed self }
+    /// How many of some cases there are of each kind.
+    pub fn of(cases: &[Case]) -> TestTally
+        ensures { result ≡ tally_of cases.now }
     {
         TestTally {
-            passed: self.passed + 1,
-            ..self
-        }
-    }
-
-    /// One more failed.
-    pub(crate) fn one_failed(self) -> TestTally
-        requires { answered self < 2 ^ 64 - 1 }
-        ensures { result ≡ one_failed self }
-    {
-        TestTally {
-            failed: self.failed + 1,
-            ..self
-        }
-    }
-
-    /// One more line is refused.
-    pub(crate) fn one_refused(self) -> TestTally
-        requires { answered self < 2 ^ 64 - 1 }
-        ensures { result ≡ one_refused self }
-    {
-        TestTally {
-            refused: self.refused + 1,
-            ..self
-        }
-    }
-
-    /// A line of which this is said.
-    pub(crate) fn counted_by(self, said: &[u8]) -> TestTally
-        requires { answered self < 2 ^ 64 - 1 }
-        ensures { result ≡ counted_by said.now self }
-    {
-        if said.is_empty() {
-            self
-        } else {
-            self.one_refused()
+            passed: count_of(Kind::Passed, cases) as u64,
+            failed: count_of(Kind::Failed, cases) as u64,
+            refused: count_of(Kind::Refused, cases) as u64,
         }
     }
 

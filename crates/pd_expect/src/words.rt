@@ -5,7 +5,7 @@ ghost use Rattle.pd_text.specs.Pieces.{piece_of};
 ghost use Rattle.pd_edit_lines.specs.Words.{next, words};
 ghost use Rattle.pd_expect.specs.Words.{contract_words, failure_line, found_words, faults_word, known_words};
 ghost use Rattle.pd_expect.specs.Words.{empty_range_line, form_behind, form_named, form_of, late_line, loss_line, loss_words};
-ghost use Rattle.pd_expect.specs.Words.{there_words};
+ghost use Rattle.pd_expect.specs.Words.{is_words, passed_line, there_is, there_words};
 ghost use Rattle.pd_expect.specs.Words.{empty_range_words, no_text_line, no_text_words, late_words, left_words, low_words};
 ghost use Rattle.pd_expect.specs.Words.{loss_piece, no_packet_words, no_test_line, no_test_words};
 ghost use Rattle.pd_expect.specs.Words.{bare_margin_line, bare_margin_words, numbered_piece, stands_of, there};
@@ -56,7 +56,7 @@ fn push_contract(text: &mut Vec<u8>, stands: &Option<Contract>) -> Result<(), Al
 }
 
 /// Writes a wide number in decimal digits.
-fn push_wide(text: &mut Vec<u8>, number: u128) -> Result<(), AllocError>
+pub(crate) fn push_wide(text: &mut Vec<u8>, number: u128) -> Result<(), AllocError>
     ensures { OnOk result (text.new.items ≡ text.old.items ++ decimal number) }
 {
     let mut buffer = Buffer::new();
@@ -155,6 +155,36 @@ pub(crate) fn push_failure(
             Text(there_words(found), b"found", there.as_slice()),
         ],
     )
+}
+
+/// Writes that an expectation is met: where its line stands, and the line.
+#[tactic(auto, unfolding(crate::specs::Words::passed_line))]
+pub(crate) fn push_pass(text: &mut Vec<u8>, at: &Front, line: &[u8]) -> Result<(), AllocError>
+    ensures { OnOk result (text.new.items ≡ text.old.items ++ passed_line at.now line.now) }
+{
+    at.push_line(text, &[Text(b": passed: ", b"passed", line)])
+}
+
+fn is_words(found: &Found) -> &'static [u8]
+    ensures { result.now ≡ is_words found.now }
+{
+    match found {
+        Found::Faults(count) if *count != 1 => b"there are ",
+        _ => b"there is ",
+    }
+}
+
+/// Writes what there is as a sentence of its own, and details of that.
+#[tactic(auto, unfolding(crate::specs::Words::there_is))]
+pub(crate) fn push_there_is(
+    text: &mut Vec<u8>,
+    found: &Found,
+    details: &[u8],
+) -> Result<(), AllocError>
+    ensures { OnOk result (text.new.items ≡ text.old.items ++ there_is found.now details.now) }
+{
+    text.extend_from_slice(is_words(found))?;
+    push_there(text, found, details)
 }
 
 /// The form of a line, by the word behind `expect`.

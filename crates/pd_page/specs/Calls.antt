@@ -13,7 +13,6 @@ use Rattle.pd_show.specs.Show.{WroteRun}
 use Rattle.pd_show.specs.declared.choice.Choice.{Choice}
 use Rattle.pd_chart.specs.declared.look.Look.{Look}
 use Rattle.pd_draw.specs.Picture.{DrewRun}
-use Rattle.pd_text.specs.Fronts.{front_of_file}
 use Rattle.pd_text.specs.declared.piece.Form.TheVariants as form
 use Rattle.pd_why.specs.Answers.{TellsWhy}
 use Rattle.pd_why.specs.declared.question.Question.{Question}
@@ -28,9 +27,10 @@ use Rattle.pd_sweep.specs.declared.part.Part.{Part}
 use Rattle.pd_sweep.specs.declared.tally.Tally.{Tally}
 use Rattle.pd_save.specs.EditLines.{Lists}
 use Rattle.pd_expect.specs.Named.{script_lines}
-use Rattle.pd_expect.specs.Tests.{Tests, no_test}
+use Rattle.pd_expect.specs.Cases.{cases_text, tally_of}
+use Rattle.pd_expect.specs.Tests.{Tests}
 use Rattle.pd_expect.specs.Words.{tally_object}
-use Rattle.pd_expect.specs.declared.tally.TestTally.{TestTally}
+use Rattle.pd_expect.specs.declared.case.Case.{Case}
 use Rattle.pd_page.specs.Logs.{TellsLog}
 use Rattle.pd_page.specs.declared.ending.Ending.{Ending}
 use Rattle.pd_page.specs.declared.ending.Ending.TheVariants.{Done, Refused, NoSuchPort, NoMemory, TooLong}
@@ -93,12 +93,11 @@ Counts packets script = Tells 0 packets.port (λ n s count. HasPackets (left_by 
 abbrev pub ListsEdited : List ℕ → List ℕ → Ending → List ℕ → Type 0
 ListsEdited script = Tells [] None (λ n s out. Lists (left_by script n s) out)
 
--- what is told of the lines of a test script of a name, as JSON objects, and the counts of these lines
+-- what is told of the lines of a test script of a name, as JSON objects, of those that pass too, and the counts of these lines
 pub record TellsTests (name script : List ℕ) (n : ℕ) (s : ScenarioData) (out : List ℕ) : Type 0 where
-  pub said : List ℕ
-  pub tally : TestTally
-  pub tests : Tests n s (front_of_file form.Json name) 1 no_test (script_lines script) said tally
-  pub out_is : out ≡ said ++ tally_object tally
+  pub cases : List Case
+  pub tests : Tests n s name 1 (script_lines script) cases
+  pub out_is : out ≡ cases_text form.Json true name cases ++ tally_object (tally_of cases)
 
 abbrev pub TestsScript : List ℕ → List ℕ → List ℕ → Ending → List ℕ → Type 0
 TestsScript name script = Tells [] None (TellsTests name script)

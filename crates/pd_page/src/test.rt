@@ -1,6 +1,8 @@
 //! Test scripts.
 
-ghost use Rattle.std.specs.Prelude.{◌≡◌, ◌++◌, IfOk};
+ghost use Rattle.std.specs.Prelude.{◌≡◌, ◌++◌, IfOk, true};
+ghost use Rattle.pd_text.specs.declared.piece.Form.TheVariants.{Json as form_json};
+ghost use Rattle.pd_expect.specs.Cases.{cases_text, tally_of};
 ghost use Rattle.pd_expect.specs.Words.{tally_object};
 ghost use Rattle.pd_page.specs.Answers.{Answers};
 ghost use Rattle.pd_page.specs.Calls.{TestsScript};
@@ -8,16 +10,17 @@ ghost use Rattle.pd_page.specs.Calls.{TestsScript};
 use crate::Ending;
 use crate::answer::Answer;
 use crate::ending::scene_ending;
-use pd_expect::{Form, TestReport, test_text};
+use pd_expect::{Case, Form, TestTally, push_cases, test_text};
 use pd_port::Meter;
 use std::alloc::{AllocError, Global};
 
-/// What is told of the lines of a test script, and how many there are of each kind.
-fn report_text(report: TestReport) -> Result<Vec<u8>, AllocError>
-    ensures { IfOk result (λ text. text.items ≡ report.text.items ++ tally_object report.tally) }
+/// What is told of cases as JSON objects, and how many there are of each kind.
+fn cases_text(alloc: Global, name: &[u8], cases: &[Case]) -> Result<Vec<u8>, AllocError>
+    ensures { IfOk result (λ text. text.items ≡ cases_text form_json true name.now cases.now ++ tally_object (tally_of cases.now)) }
 {
-    let mut text = report.text;
-    report.tally.push_object(&mut text)?;
+    let mut text = Vec::new(alloc);
+    push_cases(alloc, &mut text, Form::Json, true, name, cases)?;
+    TestTally::of(cases).push_object(&mut text)?;
     Ok(text)
 }
 
@@ -25,8 +28,8 @@ fn report_text(report: TestReport) -> Result<Vec<u8>, AllocError>
 fn tested(alloc: Global, name: &[u8], scenario: &[u8], script: &[u8], meter: &mut Meter) -> Answer
     ensures { TestsScript name.now script.now scenario.now result.ending result.text.items }
 {
-    match test_text(alloc, scenario, Form::Json, name, script, meter) {
-        Ok(report) => match report_text(report) {
+    match test_text(alloc, scenario, name, script, meter) {
+        Ok(cases) => match cases_text(alloc, name, cases.as_slice()) {
             Ok(text) => Answer {
                 ending: Ending::Done,
                 text,
@@ -37,8 +40,8 @@ fn tested(alloc: Global, name: &[u8], scenario: &[u8], script: &[u8], meter: &mu
     }
 }
 
-/// Goes through the lines of a test script, which has a name, for the scenario of a text, and tells as JSON objects of each that fails
-/// or is refused, and how many passed, failed and were refused.
+/// Goes through the lines of a test script, which has a name, for the scenario of a text, and tells as JSON objects of each that
+/// passes, fails or is refused, and how many there are of each.
 #[unsafe(no_mangle)]
 pub extern "C" fn page_test(
     alloc: Global,

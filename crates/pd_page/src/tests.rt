@@ -346,7 +346,12 @@ fn scripts_are_tested(rt: HostRuntime) -> Result<(), Fail> {
     );
     let text = text_in(room.as_slice(), len);
     assert_eq!(rt; ending, DONE);
-    assert!(rt; text.starts_with(b"{\"file\":\"it.test\",\"line\":2,\"expected\":".as_slice()));
+    assert!(rt;
+        text.starts_with(
+            b"{\"file\":\"it.test\",\"line\":1,\"passed\":\"expect contract 1 at ".as_slice()
+        )
+    );
+    assert!(rt; has(text, b"{\"file\":\"it.test\",\"line\":2,\"expected\":"));
     assert!(rt; text.ends_with(b"{\"passed\":1,\"failed\":1,\"refused\":1}\n".as_slice()));
     Ok(())
 }

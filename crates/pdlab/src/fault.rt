@@ -117,10 +117,13 @@ fn tell_help<R: Print, E: Print>(rt: &R, errors: &E, topic: &str) -> Ending {
     }
 }
 
+/// What is told of a file that can't be read.
+pub const UNREAD: &str = "no file that can be read, or more than 1048576 bytes";
+
 /// Tells that a file can't be read.
 pub fn tell_unread<E: Print>(errors: &E, file: &str) -> Ending {
     let _ = errors.println("cannot read");
-    let _ = println!(errors; "{file}: no file that can be read, or more than 1048576 bytes");
+    let _ = println!(errors; "{file}: {UNREAD}");
     Ending::Fault
 }
 

@@ -9,7 +9,7 @@ pub fn usage_of(word: &str) -> &'static str {
         "guarantee" => "usage: pdlab guarantee [OPTIONS] SCENARIO [EDITS]",
         "sweep" => "usage: pdlab sweep SCENARIO [EDITS] [OPTIONS]",
         "vary" => "usage: pdlab vary SCENARIO [EDITS] --set 'LINE=VALUES' [OPTIONS]",
-        "test" => "usage: pdlab test [--json] SCRIPT..",
+        "test" => "usage: pdlab test [--json] [-v] [--junit FILE] SCRIPT..",
         "draw" => "usage: pdlab draw SCENARIO [EDITS] [OPTIONS]",
         "page" => "usage: pdlab page SCENARIO [EDITS] [OPTIONS]",
         "explain" => "usage: pdlab explain [--json] [--strict] SCENARIO [EDITS]",
@@ -39,7 +39,8 @@ usage: pdlab COMMAND ..
                             each packet lost in turn, and what that leads to
   vary SCENARIO [EDITS] --set 'LINE=VALUES' [OPTIONS]
                             each combination of values of edit lines, and its run
-  test [--json] SCRIPT..    whether runs are as scripts expect them
+  test [--json] [-v] [--junit FILE] SCRIPT..
+                            whether runs are as scripts expect them
   draw SCENARIO [EDITS] [OPTIONS]
                             a picture of a run, as SVG for a browser
   page SCENARIO [EDITS] [OPTIONS]
@@ -337,7 +338,7 @@ status: 0 it was told, 1 the scenario or a line of EDITS is refused, or there is
 /// What `test --help` prints.
 pub const TEST_HELP: &str = "pdlab test: whether runs are as scripts expect them
 
-usage: pdlab test [--json] SCRIPT..
+usage: pdlab test [--json] [-v] [--junit FILE] SCRIPT..
 
 Goes through the file SCRIPT, whose line `# scenario FILE` names the scenario, a file
 beside it; one SCRIPT may be -, standard input, with the file in this folder. Its other
@@ -366,14 +367,19 @@ Each line that fails is told with what there is, and each that is refused with t
 reason; at the end how many expectations passed and failed. A script that can't be
 gone through is told, and the others go on; the worst status is that of all.
 
-  --json   a JSON object for each of these lines: file, line, and expected and found,
-           refusal and sentence, not_lost, or not_tried; and one for the counts:
-           passed, failed, refused
+  --json         a JSON object for each of these lines, and for each expectation that
+                 passes: file, line, and passed, expected and found, refusal and
+                 sentence, not_lost, or not_tried; and one for the counts: passed,
+                 failed, refused
+  -v, --verbose  each expectation that passes is told, too
+  --junit FILE   writes a report in JUnit's form to FILE, too: a case for each of these
+                 lines, passing or not
 
 example: pdlab test examples/charger_65w.test
 
 status: 0 all passed, 1 one failed, a line or a scenario is refused, or a script
-        expects nothing, 2 the words are others, 3 a file can't be read, or a fault
+        expects nothing, 2 the words are others, 3 a file can't be read or written,
+        or a fault
 ";
 
 /// What `explain --help` prints.

@@ -1,4 +1,4 @@
-use Rattle.std.proofs.Common.{◌≡◌, ℕ, List, Option, true, arith, ap, sym, subst, ◌∙◌}
+use Rattle.std.proofs.Common.{◌≡◌, true, arith, ap, sym, subst, ◌∙◌}
 use Rattle.pd_expect.specs.Details.{times_of}
 use Rattle.pd_expect.specs.OverTime.{IsSoonest, Moves, contract_at, is_wanted}
 use Rattle.pd_expect.specs.declared.near.Sign.TheVariants as sign
