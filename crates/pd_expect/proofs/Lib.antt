@@ -8,4 +8,5 @@ mod QuietLemmas
 mod SeekLemmas
 mod SoonestLemmas
 mod SteadyLemmas
+mod WordCounts
 mod XmlLemmas

@@ -12,6 +12,9 @@ pub mod Near
 pub mod OverTime
 pub mod Refusals
 pub mod Sentences
+pub mod Slots
+pub mod Stops
+pub mod Table
 pub mod Tests
 pub mod Texts
 pub mod Words

@@ -15,6 +15,7 @@ use Rattle.pd_scene.specs.Script.{refused_at}
 use Rattle.pd_sweep.specs.Words.{obstacle_words}
 use Rattle.pd_report.specs.declared.least.Margin.{Margin}
 use Rattle.pd_expect.specs.FaultTexts.{short_texts}
+use Rattle.pd_expect.specs.Stops.{line_stop_hint, line_stop_text}
 use Rattle.pd_expect.specs.declared.found.Found.{Found}
 use Rattle.pd_expect.specs.declared.found.Found.TheVariants as found
 use Rattle.pd_expect.specs.declared.loss.LoseFault.{LoseFault}
@@ -97,7 +98,7 @@ form_named word =
     else if bytes_eq word (codes "faults") then codes "`expect faults none` or `expect faults PORT at_most NUMBER [but \"WORDS\"]..`"
     else if bytes_eq word (codes "fault") then codes "`expect fault PORT \"WORDS\"`"
     else if bytes_eq word (codes "packet") then codes "`expect packet PORT SIDE NAME between FROM TO`"
-    else codes "contract, no contract, no fault, margin, faults, fault or packet behind `expect`"
+    else []
 
 abbrev pub form_behind : Option (List ℕ × List (List ℕ)) → List ℕ
 form_behind None = form_named []
@@ -108,12 +109,17 @@ form_of None = form_named []
 form_of (Some first) =
     if bytes_eq first.0 (codes "lose") then codes "`lose NTH NAME of port PORT`" else form_behind (next first.1)
 
--- a line that begins as one of a test, and is none
+-- where there is one: no form has another word behind `expect`
+abbrev pub form_words : List ℕ → List ℕ
+form_words [] = []
+form_words form = codes "; the form is " ++ form
+
+-- a line that begins as one of a test, and is none: the word at which it stops to be one, and the form that its first words have
 abbrev pub no_test_words : List ℕ → List ℕ
-no_test_words line = text_of_all Words (line_words (codes "expected ") ∷ line_words (form_of (next (words line))) ∷ [])
+no_test_words line = line_stop_text line ++ form_words (form_of (next (words line)))
 
 unfoldable pub no_test_line : FrontData → List ℕ → List ℕ
-no_test_line at line = line_with (refused_at at Syntax) (said [] (no_test_words line) [])
+no_test_line at line = line_with (refused_at at Syntax) (said [] (no_test_words line) (line_stop_hint line))
 
 -- a range in which no number is
 abbrev pub empty_range_words : Span → List ℕ

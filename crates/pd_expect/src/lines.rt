@@ -139,7 +139,7 @@ fn is_over(line: &[u8]) -> bool
     }
 }
 
-fn is_comment(word: &[u8]) -> bool
+pub(crate) fn is_comment(word: &[u8]) -> bool
     ensures { result ≡ is_comment word.now }
 {
     match word {
@@ -191,7 +191,7 @@ fn optional_span<'a>(word: &[u8], unit: Unit, line: &'a [u8]) -> Option<(Span, &
 }
 
 /// The side of a name.
-fn side_named(word: &[u8]) -> Option<Side>
+pub(crate) fn side_named(word: &[u8]) -> Option<Side>
     ensures { result ≡ side_named word.now }
 {
     if word == b"src".as_slice() {
@@ -214,7 +214,7 @@ fn has_name(kind: Kind, name: &[u8]) -> bool
 }
 
 /// The kind of message of a name.
-fn kind_named(word: &[u8]) -> Option<Kind>
+pub(crate) fn kind_named(word: &[u8]) -> Option<Kind>
     ensures { result ≡ kind_named word.now }
 {
     KINDS.iter().copied().find(|kind| has_name(*kind, word))
@@ -285,7 +285,7 @@ fn period_at(line: &[u8]) -> Option<(Period, &[u8])>
 }
 
 /// A power in microwatts, which has its unit.
-fn with_unit_of(word: &[u8]) -> Option<u64>
+pub(crate) fn with_unit_of(word: &[u8]) -> Option<u64>
     ensures { result ≡ with_unit_of word.now (number word.now) }
 {
     match number(word) {
@@ -493,7 +493,7 @@ fn optional_port(line: &[u8]) -> (Option<u64>, &[u8])
     }
 }
 
-fn opens(word: &[u8]) -> bool
+pub(crate) fn opens(word: &[u8]) -> bool
     ensures { result ≡ opens word.now }
 {
     match word {

@@ -9,10 +9,13 @@ ghost use Rattle.pd_expect.specs.Words.{is_words, passed_line, there_is, there_w
 ghost use Rattle.pd_expect.specs.Words.{empty_range_words, no_text_line, no_text_words, late_words, left_words, low_words};
 ghost use Rattle.pd_expect.specs.Words.{loss_piece, no_packet_words, no_test_line, no_test_words};
 ghost use Rattle.pd_expect.specs.Words.{bare_margin_line, bare_margin_words, numbered_piece, stands_of, there};
+ghost use Rattle.pd_expect.specs.Words.{form_words};
 
 use crate::fault_texts::push_near_text;
 use crate::found::Found;
 use crate::loss::LoseFault;
+use crate::meant::push_stop_hint;
+use crate::stop::push_line_stop;
 use crate::{Break, Low, Span};
 use itoa::Buffer;
 use pd_edit_lines::{EditFault, next};
@@ -209,7 +212,7 @@ fn form_named(word: &[u8]) -> &'static [u8]
     if word == b"packet".as_slice() {
         return b"`expect packet PORT SIDE NAME between FROM TO`";
     }
-    b"contract, no contract, no fault, margin, faults, fault or packet behind `expect`"
+    b""
 }
 
 /// The form of a line, by what stands behind `expect`.
@@ -233,18 +236,26 @@ fn form_of(line: &[u8]) -> &'static [u8]
     }
 }
 
-/// Writes the form that a line should have, where it is none of a test script.
+/// Writes the form that a line should have, if there is one.
+fn push_form(text: &mut Vec<u8>, form: &[u8]) -> Result<(), AllocError>
+    ensures { OnOk result (text.new.items ≡ text.old.items ++ form_words form.now) }
+{
+    if form.is_empty() {
+        return Ok(());
+    }
+    text.extend_from_slice(b"; the form is ")?;
+    text.extend_from_slice(form)
+}
+
+/// Writes at which word a line stops to be one of a test script, and the form that it should have.
 fn push_no_test_words(text: &mut Vec<u8>, line: &[u8]) -> Result<(), AllocError>
     ensures { OnOk result (text.new.items ≡ text.old.items ++ no_test_words line.now) }
 {
-    push_pieces(
-        text,
-        Form::Words,
-        &[LineWords(b"expected "), LineWords(form_of(line))],
-    )
+    push_line_stop(text, line)?;
+    push_form(text, form_of(line))
 }
 
-/// Writes that a line is none of a test script, and the form that it should have.
+/// Writes that a line is none of a test script, and why.
 #[tactic(auto, unfolding(crate::specs::Words::no_test_line))]
 pub(crate) fn push_no_test(
     alloc: Global,
@@ -257,7 +268,9 @@ pub(crate) fn push_no_test(
     let front = refused_at(alloc, at, EditFault::Syntax)?;
     let mut sentence = Vec::new(alloc);
     push_no_test_words(&mut sentence, line)?;
-    front.say(text, b"", sentence.as_slice(), b"")
+    let mut hint = Vec::new(alloc);
+    push_stop_hint(&mut hint, line)?;
+    front.say(text, b"", sentence.as_slice(), hint.as_slice())
 }
 
 /// Writes that no number is in a range.
