@@ -8,5 +8,6 @@ mod QuietLemmas
 mod SeekLemmas
 mod SoonestLemmas
 mod SteadyLemmas
+mod TableLemmas
 mod WordCounts
 mod XmlLemmas

@@ -15,6 +15,7 @@ pub mod Sentences
 pub mod Slots
 pub mod Stops
 pub mod Table
+pub mod TableLaw
 pub mod Tests
 pub mod Texts
 pub mod Words
