@@ -26,7 +26,7 @@ hint: it is a key of [[cable]] [[sink]]
         b"version = 2\nend = \"long\"\nbudget = 1.5\n[port]\nfloor = 1\n[[event]]\nid = true\nkind = 5\n",
         ScenarioFault::WrongType,
         b"a.toml:2: refused 3: `end` is `long`, not a whole number
-a.toml:3: refused 3: `budget` is a fraction, not a whole number; hint: 1 W is 1000
+a.toml:3: refused 3: `budget` is a fraction, not a whole number; hint: 1.5 W is 1500
 a.toml:4: refused 3: `port` is a table, not a list of tables, each under its name in double brackets; hint: write `[[port]]`
 a.toml:7: refused 3: event 1: `id` is true, not a whole number
 a.toml:8: refused 3: event 1: `kind` is 5, not a text
@@ -118,7 +118,7 @@ a.toml:3: refused 3: `budget` is `140W`, not a whole number; hint: 140 W is 1400
 a.toml:5: refused 3: cable 1: `rating` is `5A`, not a whole number; hint: 5 A is 5000
 a.toml:7: refused 3: sink 1: `max` is `20W`, not a whole number
 a.toml:9: refused 3: event 1: `id` is `1s`, not a whole number
-a.toml:10: refused 3: event 1: `at` is a fraction, not a whole number; hint: 1 s is 1000000
+a.toml:10: refused 3: event 1: `at` is a fraction, not a whole number; hint: 0.5 s is 500000
 ",
     ),
     (

@@ -1,3 +1,4 @@
+mod Digits
 mod Keys
 mod Listed
 mod Pairs

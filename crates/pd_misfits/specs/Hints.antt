@@ -18,10 +18,9 @@ use Rattle.pd_scenario_tables.specs.declared.fault.ScenarioFault.TheVariants as 
 use Rattle.pd_scenario_tables.specs.Schema.{text_of, rules_of}
 use Rattle.pd_scenario_tables.specs.Tables.{has_key}
 use Rattle.pd_scenario_tables.specs.Values.{elements}
+use Rattle.pd_misfits.specs.Fractions.{form_unit, fraction_hint}
 use Rattle.pd_misfits.specs.Supplies.{number_hint, supplies_hint}
-use Rattle.pd_units.specs.Readings.{one_in, rating_reading, unit_of, word_in}
-use Rattle.pd_units.specs.declared.unit.Unit.{Unit}
-use Rattle.pd_units.specs.declared.unit.Unit.TheVariants.{Milliamperes}
+use Rattle.pd_units.specs.Readings.{rating_reading, word_in}
 
 -- ---- a value
 
@@ -57,13 +56,7 @@ word_hint version form word = slip_hint version form word
 unfoldable pub bracket_hint : Key → List ℕ
 bracket_hint k = codes "write `[[" ++ (text_of k ++ codes "]]`")
 
--- the unit of the numbers of a form
-abbrev pub form_unit : Form → Option Unit
-form_unit (Number quantity) = unit_of quantity
-form_unit RatingNumber = Some Milliamperes
-form_unit form = None
-
--- a value of another type: one table, or in place of a number with a unit a text, which may have it, or a fraction, of a greater one
+-- a value of another type: one table, or in place of a number with a unit a text, which may have it, or a fraction
 abbrev pub table_hint : Key → Form → List ℕ
 table_hint k Tables = bracket_hint k
 table_hint k form = []
@@ -71,7 +64,7 @@ table_hint k form = []
 abbrev pub type_hint : Key → Form → Data → List ℕ
 type_hint k form (table ms) = table_hint k form
 type_hint k form (string word) = word_in (form_unit form) word
-type_hint k form (float x) = one_in (form_unit form)
+type_hint k form (float x) = fraction_hint form x
 type_hint k form d = []
 
 -- a number out of its range, or a word that is none of its form

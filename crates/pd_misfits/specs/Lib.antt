@@ -1,3 +1,4 @@
+pub mod Fractions
 pub mod Hints
 pub mod Laws
 pub mod Lines

@@ -5,15 +5,17 @@ ghost use Rattle.toml.specs.View.{view};
 ghost use Rattle.pd_misfits.specs.Hints.{bracket_hint, has_home, home_hint, home_part, home_words, homes, key_hint, knows};
 ghost use Rattle.pd_misfits.specs.Hints.{later_homes, near_key, near_rule, other_hint, own_rules, slip_hint};
 ghost use Rattle.pd_misfits.specs.Hints.{value_hint, word_hint};
-ghost use Rattle.pd_misfits.specs.Hints.{form_unit, list_hint, range_hint, rating_hint, table_hint, type_hint, whole_hint};
+ghost use Rattle.pd_misfits.specs.Hints.{list_hint, range_hint, rating_hint, table_hint, type_hint, whole_hint};
 ghost use Rattle.pd_misfits.specs.Hints.{words_of};
+ghost use Rattle.pd_misfits.specs.Fractions.{form_unit};
 
+use crate::fractions::{form_unit, push_fraction_hint};
 use crate::supplies::{push_supplies_hint, push_whole_hint};
 use pd_hints::{is_slip, nearest, push_meant};
 use pd_scenario_tables::{
     EventName, Form, Key, Rule, ScenarioFault, TableKind, Version, has_key, rules_of,
 };
-use pd_units::{Unit, push_one, push_rating_reading, push_word_reading, unit_of};
+use pd_units::{push_rating_reading, push_word_reading};
 use std::alloc::{AllocError, Global};
 use toml::Value;
 
@@ -94,17 +96,6 @@ fn push_bracket_hint(text: &mut Vec<u8>, key: Key) -> Result<(), AllocError>
     text.extend_from_slice(b"]]`")
 }
 
-/// The unit of the numbers of a form.
-fn form_unit(form: Form) -> Option<Unit>
-    ensures { result ≡ form_unit form }
-{
-    match form {
-        Form::Number(quantity) => unit_of(quantity),
-        Form::RatingNumber => Some(Unit::Milliamperes),
-        _ => None,
-    }
-}
-
 /// Writes what is likelier meant by one table.
 fn push_table_hint(text: &mut Vec<u8>, key: Key, form: Form) -> Result<(), AllocError>
     ensures { OnOk result (text.new.items ≡ text.old.items ++ table_hint key form) }
@@ -122,7 +113,7 @@ fn push_type_hint(text: &mut Vec<u8>, key: Key, form: Form, value: &Value) -> Re
     match value {
         Value::Table(_) => push_table_hint(text, key, form),
         Value::String(word) => push_word_reading(text, form_unit(form), word.as_bytes()),
-        Value::Float(_) => push_one(text, form_unit(form)),
+        Value::Float(fraction) => push_fraction_hint(text, form, *fraction),
         _ => Ok(()),
     }
 }

@@ -4,6 +4,7 @@
 mod earlier;
 mod event;
 mod file;
+mod fractions;
 mod hints;
 pub mod laws;
 mod layout;
