@@ -111,8 +111,9 @@ pub fn live<R: Files + Input + Print + Alloc<A = Global>, E: Print>(
 where
     R::Reader: IsTerminal,
 {
-    let Ok(text) = read_whole(rt, scenario) else {
-        return tell_unread(errors, scenario);
+    let text = match read_whole(rt, scenario) {
+        Ok(text) => text,
+        Err(error) => return tell_unread(errors, scenario, &error),
     };
     let input = rt.reader();
     let is_terminal = input.is_terminal();

@@ -44,12 +44,14 @@ pub fn explained<R: Files + Input + Print + Alloc<A = Global>, E: Print>(
     scene: Scene<'_>,
     options: ExplainOptions,
 ) -> Ending {
-    let Ok(text) = read_input(rt, scene.scenario) else {
-        return tell_unread(errors, scene.scenario);
+    let text = match read_input(rt, scene.scenario) {
+        Ok(text) => text,
+        Err(error) => return tell_unread(errors, scene.scenario, &error),
     };
     let name = scene.edits.unwrap_or("-");
-    let Ok(script) = read_script(rt, scene.edits) else {
-        return tell_unread(errors, name);
+    let script = match read_script(rt, scene.edits) {
+        Ok(script) => script,
+        Err(error) => return tell_unread(errors, name, &error),
     };
     let (text, script) = (text.as_slice(), script.as_slice());
     let telling = Telling {

@@ -117,19 +117,21 @@ fn tell_help<R: Print, E: Print>(rt: &R, errors: &E, topic: &str) -> Ending {
     }
 }
 
-/// What is told of a file that can't be read.
-pub const UNREAD: &str = "no file that can be read, or more than 1048576 bytes";
-
-/// Tells that a file can't be read.
-pub fn tell_unread<E: Print>(errors: &E, file: &str) -> Ending {
-    let _ = errors.println("cannot read");
-    let _ = println!(errors; "{file}: {UNREAD}");
-    Ending::Fault
+/// Why a file can't be read.
+pub fn why_unread(error: &io::Error) -> &'static str {
+    match error.kind() {
+        io::ErrorKind::NotFound => "there is no such file",
+        io::ErrorKind::PermissionDenied => "it may not be read",
+        io::ErrorKind::IsADirectory => "it is a folder, not a file",
+        io::ErrorKind::FileTooLarge => "it has more than 1048576 bytes",
+        io::ErrorKind::OutOfMemory => "there was no memory for it",
+        _ => "it can't be read",
+    }
 }
 
-/// Tells that a file of any length can't be read.
-pub fn tell_no_file<E: Print>(errors: &E, file: &str) -> Ending {
+/// Tells that a file can't be read, and why.
+pub fn tell_unread<E: Print>(errors: &E, file: &str, error: &io::Error) -> Ending {
     let _ = errors.println("cannot read");
-    let _ = println!(errors; "{file}: no file that can be read");
+    let _ = println!(errors; "{file}: {}", why_unread(error));
     Ending::Fault
 }

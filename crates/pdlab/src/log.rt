@@ -2,7 +2,7 @@
 
 use crate::Ending;
 use crate::answers::Counted;
-use crate::fault::{output, tell, tell_no_file, tell_unwritten};
+use crate::fault::{output, tell, tell_unread, tell_unwritten};
 use pd_device::{BenchFault, Output, write_all};
 use pd_log::{Answer, Begun, log_time, push_json, push_line, read};
 use pd_words::DecodeOptions;
@@ -25,8 +25,9 @@ pub fn decode<R: Files + Input + Print + Alloc<A = Global>, E: Print>(
             Err(_) => tell(errors, BenchFault::Memory),
         };
     }
-    let Ok(file_reader) = File::open(rt, file) else {
-        return tell_no_file(errors, file);
+    let file_reader = match File::open(rt, file) {
+        Ok(file_reader) => file_reader,
+        Err(error) => return tell_unread(errors, file, &error),
     };
     match BufReader::new(rt.alloc(), file_reader) {
         Ok(reader) => decode_lines(rt, errors, file, reader, options),
@@ -67,7 +68,7 @@ fn decode_lines<R: Print + Alloc<A = Global>, E: Print, I: BufRead + Drop>(
         match reader.read_until(b'\n', &mut line) {
             Ok(0) => return ending,
             Ok(_) => {}
-            Err(_) => return tell_no_file(errors, file),
+            Err(error) => return tell_unread(errors, file, &error),
         }
         match decode_line(
             rt.alloc(),

@@ -86,11 +86,13 @@ pub fn open<'a, R: Files + Input + Alloc<A = Global>, E: Print>(
     scene: Scene<'a>,
 ) -> Result<Opened<'a>, Ending> {
     let (file, edits) = (scene.scenario, scene.edits.unwrap_or("-"));
-    let Ok(text) = read_input(rt, file) else {
-        return Err(tell_unread(errors, file));
+    let text = match read_input(rt, file) {
+        Ok(text) => text,
+        Err(error) => return Err(tell_unread(errors, file, &error)),
     };
-    let Ok(script) = read_script(rt, scene.edits) else {
-        return Err(tell_unread(errors, edits));
+    let script = match read_script(rt, scene.edits) {
+        Ok(script) => script,
+        Err(error) => return Err(tell_unread(errors, edits, &error)),
     };
     let opened = Opened {
         file,

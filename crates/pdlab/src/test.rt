@@ -1,7 +1,7 @@
 //! `pdlab test [--json] [-v] [--junit FILE] SCRIPT..`.
 
 use crate::Ending;
-use crate::fault::{UNREAD, tell, tell_refused, tell_unread};
+use crate::fault::{tell, tell_refused, tell_unread, why_unread};
 use crate::put::{put_file, put_out};
 use crate::script_file::read_input;
 use pd_bench::read_whole;
@@ -16,6 +16,7 @@ use pd_scenario_text::ScenarioFault;
 use pd_scene::first_line;
 use pd_words::TestOptions;
 use std::alloc::{AllocError, Global};
+use std::io;
 use std::rt::{Clock, Files};
 use std::time::Instant;
 
@@ -161,6 +162,21 @@ fn refused_words(alloc: Global, place: &str, fault: ScenarioFault) -> Result<Str
     }
 }
 
+/// A script, or the scenario that it names, can't be read; that is told.
+///
+/// # Errors
+/// There is no memory; that is told.
+fn unread<R: Alloc<A = Global>, E: Print>(
+    rt: &R,
+    errors: &E,
+    place: &str,
+    error: &io::Error,
+) -> Result<Came, Ending> {
+    let ending = tell_unread(errors, place, error);
+    let why = why_unread(error);
+    untested(rt, errors, ending, format!(in rt.alloc(); "{place}: {why}"))
+}
+
 /// Goes through the lines of a script for the scenario that it names.
 ///
 /// # Errors
@@ -173,14 +189,9 @@ fn tested_on<R: Files + Alloc<A = Global>, E: Print>(
     scenario: &NamedScenario,
 ) -> Result<Came, Ending> {
     let place = scenario.place.as_str();
-    let Ok(text) = read_whole(rt, scenario.path.as_str()) else {
-        let ending = tell_unread(errors, place);
-        return untested(
-            rt,
-            errors,
-            ending,
-            format!(in rt.alloc(); "{place}: {UNREAD}"),
-        );
+    let text = match read_whole(rt, scenario.path.as_str()) {
+        Ok(text) => text,
+        Err(error) => return unread(rt, errors, place, &error),
     };
     let meter = &mut Meter::new();
     match test_text(rt.alloc(), text.as_slice(), script.as_bytes(), lines, meter) {
@@ -247,14 +258,9 @@ fn tested<R: Files + Input + Alloc<A = Global>, E: Print>(
     errors: &E,
     script: &str,
 ) -> Result<Came, Ending> {
-    let Ok(lines) = read_input(rt, script) else {
-        let ending = tell_unread(errors, script);
-        return untested(
-            rt,
-            errors,
-            ending,
-            format!(in rt.alloc(); "{script}: {UNREAD}"),
-        );
+    let lines = match read_input(rt, script) {
+        Ok(lines) => lines,
+        Err(error) => return unread(rt, errors, script, &error),
     };
     match scenario_of(rt.alloc(), script, lines.as_slice()) {
         Ok(Some(scenario)) => tested_on(rt, errors, script, lines.as_slice(), &scenario),
