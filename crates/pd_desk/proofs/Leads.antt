@@ -2,6 +2,7 @@
 use Rattle.std.proofs.Common.{◌≡◌, ◌≢◌, ◌≤◌, ℕ, zero, suc, Bool, true, false, List, [], ◌∷◌, ◌++◌, length, map, Option, Some, None}
 use Rattle.std.proofs.Common.{Result, Ok, Err, inl, inr, refl, sym, ap, ◌∙◌, arith}
 use Rattle.std.specs.Prelude.{nat_lt}
+use Rattle.std.specs.Str.Lines.{lines}
 use Rattle.std.proofs.lemmas.Bool.{ltb-true}
 use Rattle.std.proofs.lemmas.List.{length-append}
 use Rattle.pd_scenario.specs.Scenarios.{ScenarioData}
@@ -13,15 +14,15 @@ use Rattle.pd_edit_lines.specs.declared.line.Line.TheVariants as lines_read
 use Rattle.pd_edit_lines.specs.declared.fault.EditFault.{EditFault}
 use Rattle.pd_bench.specs.declared.tally.Outcome.{Outcome}
 use Rattle.pd_bench.specs.declared.tally.Outcome.TheVariants.{Skipped, Accepted, Refused, Shown}
-use Rattle.pd_bench.specs.Session.{Reply, EditReply, ShowReply, can_show}
+use Rattle.pd_bench.specs.Session.{Reply, EditReply, ShowReply, can_show, ok_text}
 use Rattle.pd_desk.specs.declared.colon.Colon.{Colon}
 use Rattle.pd_desk.specs.declared.colon.Colon.TheVariants as colon
 use Rattle.pd_desk.specs.declared.colon.Saved.TheVariants as saved
 use Rattle.pd_desk.specs.declared.colon.Saved.{Saved}
 use Rattle.pd_desk.specs.declared.own.OwnFault.{OwnFault}
 use Rattle.pd_desk.specs.Commands.{is_colon, colon_of, second}
-use Rattle.pd_desk.specs.Desk.{Back, Becomes, DeskReplies, Fails, ReplyBy, Saves, Standing, StepsBack, StepsForward, Tells, as_saved}
-use Rattle.pd_desk.specs.Desk.{WithShelf, at_first, step_of}
+use Rattle.pd_desk.specs.Desk.{Back, Becomes, Declines, DeskReplies, Fails, Loads, RefusesLines, ReplyBy, Saves, Standing, StepsBack}
+use Rattle.pd_desk.specs.Desk.{StepsForward, TakesAll, TakesIn, Tells, WithShelf, as_saved, at_first, step_of}
 use Rattle.pd_desk.specs.History.{Lead, Makes, past_with, StepData}
 use Rattle.pd_desk.specs.Laws.{EditsLead}
 use Rattle.pd_desk.specs.Shelf.{Shelved}
@@ -239,6 +240,25 @@ saves n s d what is_over None text d' stands h = absurd h
 saves n s d what is_over (Some file) text d' stands h =
     rw h.6 (when_saved n s what d.desk stands)
 
+-- a line that is loaded is one that is typed, or changes nothing
+takes_in : (n : ℕ) (s : ScenarioData) (d : Standing) (line : List ℕ) (r : Result Line EditFault) (d' : Standing) → StandsSo n s d →
+    line_of line ≡ r → TakesIn n d line r d' → StandsSo n s d'
+takes_in n s d line (Ok lines_read.Skip) d' stands is h = unchanged n s d d' stands h
+takes_in n s d line (Ok (lines_read.Edit edit)) d' stands is h = becomes n s d line ok_text Accepted d' stands (rw is h)
+takes_in n s d line (Ok (lines_read.Show show)) d' stands is h = unchanged n s d d' stands h
+takes_in n s d line (Err fault) d' stands is h = absurd h
+
+takes_all : (n : ℕ) (s : ScenarioData) (d : Standing) (ls : List (List ℕ)) (d' : Standing) → StandsSo n s d → TakesAll n d ls d' →
+    StandsSo n s d'
+takes_all n s d [] d' stands same = unchanged n s d d' stands same
+takes_all n s d (line ∷ more) d' stands (next, one, others) =
+    takes_all n s next more d' (takes_in n s d line (line_of line) next stands refl one) others
+
+loads : (n : ℕ) (s : ScenarioData) (d : WithShelf) (file : Option (List ℕ)) (text : List ℕ) (d' : WithShelf) → StandsSo n s d.desk →
+    Loads n d file text d' → StandsSo n s d'.desk
+loads n s d None text d' stands h = absurd h
+loads n s d (Some file) text d' stands h = takes_all n s d.desk (lines h.0) d'.desk stands h.3
+
 tells : (n : ℕ) (s : ScenarioData) (d : WithShelf) (own : Option Colon) (file : Option (List ℕ)) (text : List ℕ) (d' : WithShelf) →
     StandsSo n s d.desk → Tells n d own file text d' → StandsSo n s d'.desk
 tells n s d None file text d' stands h = absurd h
@@ -250,6 +270,7 @@ tells n s d (Some colon.Diff) file text d' stands h = unchanged n s d.desk d'.de
 tells n s d (Some colon.DiffAll) file text d' stands h = unchanged n s d.desk d'.desk stands h.1.0
 tells n s d (Some (colon.Save what is_over)) file text d' stands h = saves n s d what is_over file text d' stands h
 tells n s d (Some (colon.Why port to)) file text d' stands h = unchanged n s d.desk d'.desk stands h.1.0
+tells n s d (Some colon.Load) file text d' stands h = loads n s d file text d' stands h
 tells n s d (Some colon.Quit) file text d' stands h = unchanged n s d.desk d'.desk stands h.1.0
 tells n s d (Some (colon.Show port)) file text d' stands h = unchanged n s d.desk d'.desk stands h.1.0
 tells n s d (Some colon.Warn) file text d' stands h = unchanged n s d.desk d'.desk stands h.1.0
@@ -271,13 +292,23 @@ fails n s d (Some (colon.Show port)) file fault d' stands h = unchanged n s d.de
 fails n s d (Some colon.Warn) file fault d' stands h = unchanged n s d.desk d'.desk stands h.1.0
 fails n s d (Some colon.Guarantee) file fault d' stands h = unchanged n s d.desk d'.desk stands h.1.0
 fails n s d (Some colon.Test) file fault d' stands h = unchanged n s d.desk d'.desk stands h.1.0
+fails n s d (Some colon.Load) file fault d' stands h = unchanged n s d.desk d'.desk stands h.1.0
 fails n s d (Some colon.Quit) file fault d' stands h = absurd h
+
+refuses : (n : ℕ) (s : ScenarioData) (d : WithShelf) (own : Option Colon) (file : Option (List ℕ)) (told : List ℕ) (d' : WithShelf) →
+    StandsSo n s d.desk → RefusesLines n d own file told d' → StandsSo n s d'.desk
+refuses n s d (Some colon.Load) file told d' stands h = unchanged n s d.desk d'.desk stands h.1.0
+refuses n s d _ file told d' stands h = absurd h
+
+declines : (n : ℕ) (s : ScenarioData) (d : WithShelf) (own : Option Colon) (file : Option (List ℕ)) (told : List ℕ) (d' : WithShelf) →
+    StandsSo n s d.desk → Declines n d own file told d' → StandsSo n s d'.desk
+declines n s d own file told d' stands (inl (fault, h, is)) = fails n s d own file fault d' stands h
+declines n s d own file told d' stands (inr h) = refuses n s d own file told d' stands h
 
 replied : (t : Bool) (n : ℕ) (s : ScenarioData) (d : WithShelf) (line reply told : List ℕ) (d' : WithShelf) → StandsSo n s d.desk →
     ReplyBy t n d line reply told d' → StandsSo n s d'.desk
 replied true n s d line reply told d' stands (inl h) = tells n s d (colon_of line) (second (words line)) reply d' stands h.0
-replied true n s d line reply told d' stands (inr (fault, h, none, is)) =
-    fails n s d (colon_of line) (second (words line)) fault d' stands h
+replied true n s d line reply told d' stands (inr h) = declines n s d (colon_of line) (second (words line)) told d' stands h.1
 replied false n s d line reply told d' stands ((outcome, is, tells), shelf) = becomes n s d.desk line reply outcome d'.desk stands is
 
 all_replied : (n : ℕ) (s : ScenarioData) (d : WithShelf) (ls : List (List ℕ)) (text : List ℕ) (tolds : List (List ℕ)) (d' : WithShelf) →

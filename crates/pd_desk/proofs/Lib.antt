@@ -8,5 +8,6 @@ mod FoundLines
 mod OwnLines
 mod Back
 mod Leads
+mod LoadedLines
 mod ScriptText
 mod SameText

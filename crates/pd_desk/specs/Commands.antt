@@ -53,10 +53,10 @@ show_of [] = Some (colon.Show None)
 show_of (port ∷ []) = option_map (λ p. colon.Show (Some p)) (number port)
 show_of _ = None
 
--- :test FILE
-abbrev pub test_of : List (List ℕ) → Option Colon
-test_of (file ∷ []) = Some colon.Test
-test_of _ = None
+-- a command that reads a file, as :test FILE
+abbrev pub reading : Colon → List (List ℕ) → Option Colon
+reading it (file ∷ []) = Some it
+reading it _ = None
 
 -- the commands that do what other commands of the program do with the scenario that stands
 unfoldable pub asked_run : List ℕ → List (List ℕ) → Option Colon
@@ -64,18 +64,19 @@ asked_run word more =
     if bytes_eq word (codes ":show") then show_of more
     else if bytes_eq word (codes ":warn") then alone colon.Warn more
     else if bytes_eq word (codes ":guarantee") then alone colon.Guarantee more
-    else if bytes_eq word (codes ":test") then test_of more
+    else if bytes_eq word (codes ":test") then reading colon.Test more
     else if bytes_eq word (codes ":draw") then save_of saved.Picture false more
     else if bytes_eq word (codes ":draw!") then save_of saved.Picture true more
     else None
 
--- the commands that write what is edited to a file; with ! in the place of one that is there
+-- the commands that write what is edited to a file, with ! in the place of one that is there, and the one that reads it
 unfoldable pub asked_save : List ℕ → List (List ℕ) → Option Colon
 asked_save word more =
     if bytes_eq word (codes ":save") then save_of saved.Scenario false more
     else if bytes_eq word (codes ":save!") then save_of saved.Scenario true more
     else if bytes_eq word (codes ":save-edits") then save_of saved.Edits false more
     else if bytes_eq word (codes ":save-edits!") then save_of saved.Edits true more
+    else if bytes_eq word (codes ":load") then reading colon.Load more
     else asked_run word more
 
 -- what the word behind the colon asks for
@@ -111,7 +112,7 @@ abbrev pub second : List (List ℕ) → Option (List ℕ)
 second (word ∷ file ∷ more) = Some file
 second _ = None
 
--- of the name of another command, the desk's line that does the same
+-- of the name of another command, or of what reads a script in other programs, the desk's line that does the same
 unfoldable pub meant_run : List ℕ → Option (List ℕ)
 meant_run word =
     if bytes_eq word (codes "why") then Some (codes ":why")
@@ -119,6 +120,8 @@ meant_run word =
     else if bytes_eq word (codes "guarantee") then Some (codes ":guarantee")
     else if bytes_eq word (codes "test") then Some (codes ":test FILE")
     else if bytes_eq word (codes "draw") then Some (codes ":draw FILE")
+    else if bytes_eq word (codes "load") then Some (codes ":load FILE")
+    else if bytes_eq word (codes "source") then Some (codes ":load FILE")
     else None
 
 -- Of a word that begins no line of an edit script, the command that is meant: one of these without its colon, or what other

@@ -1,8 +1,10 @@
 -- What the desk writes for the lines that it reads: a session's answers, and those to its own lines.
 use Rattle.std.specs.Prelude.{◌≡◌, ◌≢◌, ◌⊎◌, ◌<◌, ◌==◌, ℕ, zero, suc, Bool, true, false, List, [], ◌∷◌, ◌++◌, length, codes}
-use Rattle.std.specs.Prelude.{Option, Some, None, Result, Ok}
+use Rattle.std.specs.Prelude.{Option, Some, None, Result, Ok, Err}
+use Rattle.std.specs.Str.Lines.{lines}
 use Rattle.pd_scenario.specs.Scenarios.{ScenarioData}
 use Rattle.pd_scenario.specs.Plans.{plan_of}
+use Rattle.pd_scene.specs.Script.{is_any_refused}
 use Rattle.pd_scenario_text.specs.Reading.{Reads}
 use Rattle.pd_save.specs.Files.{ReadsOtherwise, file_text}
 use Rattle.pd_save.specs.EditLines.{Lists}
@@ -11,12 +13,13 @@ use Rattle.pd_why.specs.Answers.{TellsWhy}
 use Rattle.pd_edit_lines.specs.Grammar.{line_of}
 use Rattle.pd_edit_lines.specs.Words.{words}
 use Rattle.pd_edit_lines.specs.declared.line.Line.{Line}
+use Rattle.pd_edit_lines.specs.declared.line.Line.TheVariants as lines_read
 use Rattle.pd_edit_lines.specs.Numbers.{number_of}
 use Rattle.pd_edit_lines.specs.declared.fault.EditFault.{EditFault}
 use Rattle.pd_bench.specs.declared.tally.Tally.{Tally}
 use Rattle.pd_bench.specs.declared.tally.Outcome.{Outcome}
 use Rattle.pd_bench.specs.declared.tally.Outcome.TheVariants.{Skipped, Accepted, Refused, Shown}
-use Rattle.pd_bench.specs.Session.{Reply, counted, no_lines, refused_text}
+use Rattle.pd_bench.specs.Session.{Reply, counted, no_lines, ok_text, refused_text}
 use Rattle.pd_desk.specs.declared.colon.Colon.{Colon}
 use Rattle.pd_desk.specs.declared.colon.Colon.TheVariants as colon
 use Rattle.pd_desk.specs.declared.colon.Saved.{Saved}
@@ -25,6 +28,7 @@ use Rattle.pd_desk.specs.Commands.{is_colon, colon_of, second}
 use Rattle.pd_desk.specs.Diff.{diff_text}
 use Rattle.pd_desk.specs.Reports.{TellsDiff}
 use Rattle.pd_desk.specs.LineReasons.{reasons_text}
+use Rattle.pd_desk.specs.Loading.{has_head, refusals_text}
 use Rattle.pd_hints.specs.Reasons.{reason_of}
 use Rattle.pd_desk.specs.Help.{help_text}
 use Rattle.pd_desk.specs.History.{NotesData, StepData, no_notes, noted, notes_data, script_text}
@@ -34,7 +38,7 @@ use Rattle.pd_desk.specs.Shelf.{Holds, IsNotPut, IsPut, IsFree, IsTaken, Shelved
 use Rattle.pd_desk.specs.Tellings.{Draws, TellsGuarantee, TellsShow, TellsTests, TellsWarned}
 use Rattle.pd_desk.specs.declared.own.OwnFault.{OwnFault}
 use Rattle.pd_desk.specs.declared.own.OwnFault.TheVariants.{Unknown, NoEdit, FewEdits, NoRedo, NoSuchPort}
-use Rattle.pd_desk.specs.declared.own.OwnFault.TheVariants.{Differs, Stands, NotSaved, NotRead, Memory}
+use Rattle.pd_desk.specs.declared.own.OwnFault.TheVariants.{Differs, Stands, NotSaved, NotRead, NotLoaded, NoScript, Memory}
 
 -- What the desk has come to: the scenario that stood first, the one that stands, and what is noted of the edits between; the
 -- number of the edit that led to it, and of the one after which it was saved last; and the counts. An edit's number is how many
@@ -106,6 +110,20 @@ LineTells Shown reasons reply told = told ≡ []
 abbrev pub ToldReply : ℕ → Standing → List ℕ → List ℕ → List ℕ → Standing → Type 0
 ToldReply n d line reply told d' = (outcome : Outcome) × Becomes n d line (line_of line) outcome reply d'
     × LineTells outcome (reasons_text n d.scenario line) reply told
+
+-- ---- a script that is loaded
+
+-- An edit of it becomes what it does where it is typed and accepted. Comments are passed over, and so are shows.
+abbrev pub TakesIn : ℕ → Standing → List ℕ → Result Line EditFault → Standing → Type 0
+TakesIn n d line (Ok lines_read.Skip) d' = d' ≡ d
+TakesIn n d line (Ok (lines_read.Edit edit)) d' = Becomes n d line (Ok (lines_read.Edit edit)) Accepted ok_text d'
+TakesIn n d line (Ok (lines_read.Show show)) d' = d' ≡ d
+TakesIn n d line (Err fault) d' = ⊥
+
+-- its lines, one after the other
+abbrev pub TakesAll : ℕ → Standing → List (List ℕ) → Standing → Type 0
+TakesAll n d [] d' = d' ≡ d
+TakesAll n d (line ∷ more) d' = (next : Standing) × TakesIn n d line (line_of line) next × TakesAll n next more d'
 
 -- ---- a line of the desk's own
 
@@ -214,6 +232,14 @@ TellsTested n d None text = ⊥
 TellsTested n d (Some file) text =
     (script : List ℕ) × Holds d.shelf.kept file script × TellsTests n d.desk.scenario file script text
 
+-- All edits were made of a script that stands on the shelf, of which no line is refused.
+abbrev pub Loads : ℕ → WithShelf → Option (List ℕ) → List ℕ → WithShelf → Type 0
+Loads n d None text d' = ⊥
+Loads n d (Some file) text d' =
+    (script : List ℕ) × Holds d.shelf.kept file script × (is_any_refused n d.desk.scenario (lines script) ≡ false)
+    × TakesAll n d.desk (lines script) d'.desk × TellsLines (codes "= load\n") d.desk.scenario d'.desk.scenario text
+    × (d'.shelf ≡ d.shelf)
+
 -- what is told for such a line, where nothing fails
 abbrev pub Tells : ℕ → WithShelf → Option Colon → Option (List ℕ) → List ℕ → WithShelf → Type 0
 Tells n d None file text d' = ⊥
@@ -232,6 +258,7 @@ Tells n d (Some (colon.Show port)) file text d' = TellsShow d.desk.scenario port
 Tells n d (Some colon.Warn) file text d' = TellsWarned n d.desk.scenario text × IsSame d d'
 Tells n d (Some colon.Guarantee) file text d' = TellsGuarantee d.desk.scenario text × IsSame d d'
 Tells n d (Some colon.Test) file text d' = TellsTested n d file text × IsSame d d'
+Tells n d (Some colon.Load) file text d' = Loads n d file text d'
 Tells n d (Some colon.Quit) file text d' = (text ≡ []) × IsSame d d'
 
 -- why none of an edit's changes are told
@@ -277,6 +304,16 @@ FailsShow n (Some port) fault = FailsWhy n port fault
 abbrev pub FailsTest : Option (List ℕ) → OwnFault → Type 0
 FailsTest file fault = ((fault ≡ Unknown) × (file ≡ None)) ⊎ ((fault ≡ NotRead) ⊎ (fault ≡ Memory))
 
+-- a scenario stands there under that name
+abbrev pub HoldsScenario : Option (List (List ℕ × List ℕ)) → Option (List ℕ) → Type 0
+HoldsScenario kept None = ⊥
+HoldsScenario kept (Some file) = (script : List ℕ) × Holds kept file script × (has_head (lines script) ≡ true)
+
+-- why no edits are made of a script: there was no name, no file that can be read, a scenario in its place, or no memory
+abbrev pub FailsLoad : Option (List (List ℕ × List ℕ)) → Option (List ℕ) → OwnFault → Type 0
+FailsLoad kept file fault =
+    ((fault ≡ Unknown) × (file ≡ None)) ⊎ ((fault ≡ NotLoaded) ⊎ (((fault ≡ NoScript) × HoldsScenario kept file) ⊎ (fault ≡ Memory)))
+
 -- why such a line does nothing: all is as it was, but that a text which the shelf didn't take is counted there
 abbrev pub Fails : ℕ → WithShelf → Option Colon → Option (List ℕ) → OwnFault → WithShelf → Type 0
 Fails n d None file fault d' = (fault ≡ Unknown) × IsSame d d'
@@ -293,13 +330,30 @@ Fails n d (Some (colon.Show port)) file fault d' = FailsShow n port fault × IsS
 Fails n d (Some colon.Warn) file fault d' = (fault ≡ Memory) × IsSame d d'
 Fails n d (Some colon.Guarantee) file fault d' = (fault ≡ Memory) × IsSame d d'
 Fails n d (Some colon.Test) file fault d' = FailsTest file fault × IsSame d d'
+Fails n d (Some colon.Load) file fault d' = FailsLoad d.shelf.kept file fault × IsSame d d'
 Fails n d (Some colon.Quit) file fault d' = ⊥
 
--- What such a line writes, and what is told beside it. Where it can't be done, nothing is written, and the fault is told.
+-- Lines of the script are refused that was to be loaded: this is told, and all is as it was.
+abbrev pub RefusesFile : ℕ → WithShelf → Option (List ℕ) → List ℕ → Type 0
+RefusesFile n d None told = ⊥
+RefusesFile n d (Some file) told =
+    (script : List ℕ) × Holds d.shelf.kept file script × (is_any_refused n d.desk.scenario (lines script) ≡ true)
+    × (told ≡ refusals_text n d.desk.scenario file script)
+
+abbrev pub RefusesLines : ℕ → WithShelf → Option Colon → Option (List ℕ) → List ℕ → WithShelf → Type 0
+RefusesLines n d (Some colon.Load) file told d' = RefusesFile n d file told × IsSame d d'
+RefusesLines n d _ file told d' = ⊥
+
+-- what is told where such a line does nothing
+abbrev pub Declines : ℕ → WithShelf → Option Colon → Option (List ℕ) → List ℕ → WithShelf → Type 0
+Declines n d own file told d' =
+    ((fault : OwnFault) × Fails n d own file fault d' × (told ≡ own_sentence fault)) ⊎ RefusesLines n d own file told d'
+
+-- What such a line writes, and what is told beside it. Where it can't be done, nothing is written, and it is told why.
 abbrev pub OwnReply : ℕ → WithShelf → Option Colon → Option (List ℕ) → List ℕ → List ℕ → WithShelf → Type 0
 OwnReply n d own file reply told d' =
     (Tells n d own file reply d' × (told ≡ []))
-    ⊎ ((fault : OwnFault) × Fails n d own file fault d' × (reply ≡ []) × (told ≡ own_sentence fault))
+    ⊎ ((reply ≡ []) × Declines n d own file told d')
 
 -- ---- any line
 

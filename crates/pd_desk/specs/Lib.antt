@@ -14,4 +14,5 @@ pub mod Tellings
 pub mod Commands
 pub mod Diff
 pub mod LineReasons
+pub mod Loading
 pub mod Reports

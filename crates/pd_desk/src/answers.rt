@@ -1,6 +1,6 @@
 //! The desk's answer to a line, and what it tells beside it.
 
-ghost use Rattle.std.specs.Prelude.{◌≡◌, ◌+◌, ◌<◌, ◌≤◌, ◌^◌, List, ℕ};
+ghost use Rattle.std.specs.Prelude.{◌≡◌, ◌⊎◌, ◌+◌, ◌<◌, ◌≤◌, ◌^◌, List, ℕ};
 ghost use Rattle.pd_device.specs.Device.{CountsFailure, Writes};
 ghost use Rattle.pd_edit_lines.specs.Words.{words};
 ghost use Rattle.pd_desk.specs.Commands.{colon_of, second};
@@ -13,7 +13,7 @@ ghost use Rattle.pd_desk.specs.Standings.{standing_of};
 ghost use Rattle.pd_desk.specs.Ends.{GoesOut, ToldAfter, beside};
 
 use crate::desk::{Desk, answer_session};
-use crate::own::own_text;
+use crate::own::{NotDone, own_text};
 use crate::{Outlets, Shelf, is_colon, push_reasons, tell_reason};
 use pd_device::{BenchFault, TextOut, write_all, write_text};
 use pd_edit_lines::EditFault;
@@ -85,6 +85,7 @@ fn answer_own<const N: usize, T: Runner<N>, W: TextOut, E: TextOut, S: Shelf>(
     meter: &mut Meter,
 ) -> Result<(), BenchFault>
     requires runs { IsRunning (T.plan runner.old) (T.entries runner.old) desk.old.state.scenario }
+    requires room { answered desk.old.state.tally + 1 < 2 ^ 32 }
     ensures reply { (reply : List ℕ) × (told : List ℕ)
         × OwnReply N
         (with_shelf (standing_of desk.old) (S.known outlets.old.shelf))
@@ -95,12 +96,16 @@ fn answer_own<const N: usize, T: Runner<N>, W: TextOut, E: TextOut, S: Shelf>(
         (beside (E.taken outlets.new.reasons) (E.failures outlets.new.reasons)) }
     ensures counts { CountsFailure (W.failures outlets.old.answers) (W.failures outlets.new.answers) result }
     ensures runs { IsRunning (T.plan runner.new) (T.entries runner.new) desk.new.state.scenario }
-    ensures tally { desk.new.state.tally ≡ desk.old.state.tally }
+    ensures room { (answered desk.new.state.tally ≤ answered desk.old.state.tally) ⊎ (answered desk.new.state.tally ≤ 4000000000) }
 {
     match own_text(alloc, line, desk, runner, &mut outlets.shelf, meter) {
         Ok(text) => write_all(&mut outlets.answers, text.as_slice()),
-        Err(fault) => {
+        Err(NotDone::Fault(fault)) => {
             let _ = write_text(&mut outlets.reasons, &fault.sentence());
+            Ok(())
+        }
+        Err(NotDone::Refused(told)) => {
+            let _ = write_all(&mut outlets.reasons, told.as_slice());
             Ok(())
         }
     }
@@ -127,7 +132,7 @@ pub(crate) fn answer_desk<const N: usize, T: Runner<N>, W: TextOut, E: TextOut, 
         (beside (E.taken outlets.new.reasons) (E.failures outlets.new.reasons)) }
     ensures counts { CountsFailure (W.failures outlets.old.answers) (W.failures outlets.new.answers) result }
     ensures runs { IsRunning (T.plan runner.new) (T.entries runner.new) desk.new.state.scenario }
-    ensures room { answered desk.new.state.tally ≤ answered desk.old.state.tally + 1 }
+    ensures room { (answered desk.new.state.tally ≤ answered desk.old.state.tally + 1) ⊎ (answered desk.new.state.tally ≤ 4000000000) }
 {
     if is_colon(line) {
         return answer_own(alloc, line, desk, runner, outlets, meter);

@@ -3,7 +3,7 @@
 ghost use Rattle.std.specs.Prelude.{◌≡◌, option_map};
 ghost use Rattle.pd_edit_lines.specs.Words.{words};
 ghost use Rattle.pd_desk.specs.Commands.{alone, asked, asked_by, asked_run, asked_save, colon_of, diff_of, is_colon, is_quit};
-ghost use Rattle.pd_desk.specs.Commands.{meant, meant_run, save_of, second, show_of, test_of, undo_of, why_of};
+ghost use Rattle.pd_desk.specs.Commands.{meant, meant_run, reading, save_of, second, show_of, undo_of, why_of};
 
 use pd_edit_lines::{next, number};
 use pd_units::{Unit, number_in};
@@ -49,6 +49,8 @@ pub enum Colon {
     Guarantee,
     /// What the expectations of a file, which the line names, come to.
     Test,
+    /// Makes the edits of a file, which the line names, or none of them.
+    Load,
     /// Ends the session.
     Quit,
 }
@@ -155,12 +157,12 @@ fn show_of(rest: &[u8]) -> Option<Colon>
     Some(Colon::Show { port: Some(port) })
 }
 
-/// `:test`, by the words behind it.
-fn test_of(rest: &[u8]) -> Option<Colon>
-    ensures { result ≡ test_of (words rest.now) }
+/// A command that reads a file, by the words behind it.
+fn reading(colon: Colon, rest: &[u8]) -> Option<Colon>
+    ensures { result ≡ reading colon (words rest.now) }
 {
     let (_, rest) = next(rest)?;
-    alone(Colon::Test, rest)
+    alone(colon, rest)
 }
 
 /// What a word asks for that is another command's too, by the words behind it.
@@ -178,7 +180,7 @@ fn asked_run(word: &[u8], rest: &[u8]) -> Option<Colon>
         return alone(Colon::Guarantee, rest);
     }
     if word == b":test".as_slice() {
-        return test_of(rest);
+        return reading(Colon::Test, rest);
     }
     if word == b":draw".as_slice() {
         return save_of(Saved::Picture, false, rest);
@@ -189,7 +191,7 @@ fn asked_run(word: &[u8], rest: &[u8]) -> Option<Colon>
     None
 }
 
-/// What a word asks for that has a file written, by the words behind it.
+/// What a word asks for that has what is edited written to a file, or read from one, by the words behind it.
 #[tactic(auto, unfolding(crate::specs::Commands::asked_save))]
 fn asked_save(word: &[u8], rest: &[u8]) -> Option<Colon>
     ensures { result ≡ asked_save word.now (words rest.now) }
@@ -205,6 +207,9 @@ fn asked_save(word: &[u8], rest: &[u8]) -> Option<Colon>
     }
     if word == b":save-edits!".as_slice() {
         return save_of(Saved::Edits, true, rest);
+    }
+    if word == b":load".as_slice() {
+        return reading(Colon::Load, rest);
     }
     asked_run(word, rest)
 }
@@ -258,7 +263,7 @@ impl Colon {
     }
 }
 
-/// The second word of a line, which names the file of `:save`, `:draw` or `:test`.
+/// The second word of a line, which names the file of `:save`, `:draw`, `:test` or `:load`.
 pub fn file_of(line: &[u8]) -> Option<&[u8]>
     ensures { option_map (λ x. x.now) result ≡ second (words line.now) }
 {
@@ -267,7 +272,7 @@ pub fn file_of(line: &[u8]) -> Option<&[u8]>
     Some(file)
 }
 
-/// The command that is meant by a word of another command's name, where one is.
+/// The command that is meant by a word of another command's name, or of another program's, where one is.
 #[tactic(auto, unfolding(crate::specs::Commands::meant_run))]
 fn meant_run(word: &[u8]) -> Option<&'static [u8]>
     ensures { option_map (λ x. x.now) result ≡ meant_run word.now }
@@ -286,6 +291,9 @@ fn meant_run(word: &[u8]) -> Option<&'static [u8]>
     }
     if word == b"draw".as_slice() {
         return Some(b":draw FILE");
+    }
+    if word == b"load".as_slice() || word == b"source".as_slice() {
+        return Some(b":load FILE");
     }
     None
 }

@@ -1,6 +1,6 @@
 //! What a desk has come to, and its answers to the lines of sessions.
 
-ghost use Rattle.std.specs.Prelude.{◌≡◌, ◌+◌, ◌<◌, ◌≤◌, ◌^◌, List, ℕ, Ok, Some, IfOk, OnOk, OnErr};
+ghost use Rattle.std.specs.Prelude.{◌≡◌, ◌+◌, ◌<◌, ◌≤◌, ◌^◌, List, ℕ, Ok, Some, IfOk, OnOk, OnErr, vec_len, vec_capacity};
 ghost use Rattle.pd_edit_lines.specs.Grammar.{line_of};
 ghost use Rattle.pd_edit_lines.specs.declared.line.Line.TheVariants as lines_read;
 ghost use Rattle.pd_edit.specs.Refusals.{edited};
@@ -14,6 +14,7 @@ ghost use Rattle.pd_bench.specs.Stream.{IsRunning};
 ghost use Rattle.pd_desk.specs.Desk.{Becomes, IsFaultOf, KeepsNotes, TakesNote};
 ghost use Rattle.pd_desk.specs.Standings.{standing_of};
 
+use crate::copy::copied;
 use crate::notes::{NotedLine, Notes, Step};
 use pd_bench::{Outcome, State, answer_line, refuse};
 use pd_device::{BenchFault, TextOut, write_all};
@@ -37,6 +38,49 @@ pub(crate) struct Desk<const N: usize> {
     /// The same of the scenario that was saved last.
     pub saved: u32,
     pub notes: Notes<N>,
+}
+
+impl<const N: usize> Desk<N> {
+    /// The same desk once more, to try lines on.
+    ///
+    /// # Errors
+    /// There is no memory for it.
+    pub fn copied(&self, alloc: Global) -> Result<Desk<N>, AllocError>
+        ensures { IfOk result (λ copy. standing_of copy ≡ standing_of self.now) }
+    {
+        Ok(Desk {
+            state: State {
+                scenario: copied(alloc, &self.state.scenario)?,
+                tally: self.state.tally,
+            },
+            first: copied(alloc, &self.first)?,
+            number: self.number,
+            saved: self.saved,
+            notes: self.notes.copied(alloc)?,
+        })
+    }
+}
+
+/// Stands for an edited scenario from now on, and has noted the line of the edit, for which there is room.
+pub(crate) fn put_edited<const N: usize>(line: NotedLine, edited: Scenario<N>, desk: &mut Desk<N>)
+    requires earlier { vec_len desk.old.notes.earlier < vec_capacity desk.old.notes.earlier }
+    requires older { vec_len desk.old.notes.older < vec_capacity desk.old.notes.older }
+    requires room { answered desk.old.state.tally + 1 < 2 ^ 32 }
+    ensures made { desk.new.state.scenario ≡ edited.entry }
+    ensures counted { desk.new.state.tally ≡ counted desk.old.state.tally outcomes.Accepted }
+    ensures noted { TakesNote outcomes.Accepted (standing_of desk.old) line (standing_of desk.new) }
+    ensures room { answered desk.new.state.tally ≤ answered desk.old.state.tally + 1 }
+{
+    let scenario = mem::replace(&mut desk.state.scenario, edited);
+    let number = desk.number;
+    desk.notes.note(Step {
+        scenario,
+        number,
+        line,
+    });
+    desk.notes.later.clear();
+    desk.state.tally.count(Outcome::Accepted);
+    desk.number = desk.state.tally.edits;
 }
 
 /// Stands for an edited scenario from now on, and has noted the line of the edit.
@@ -65,16 +109,7 @@ fn make<const N: usize, T: Runner<N>>(
     let line = NotedLine::of(alloc, line)?;
     desk.notes.reserve()?;
     runner.replace(alloc, &edited, meter)?;
-    let scenario = mem::replace(&mut desk.state.scenario, edited);
-    let number = desk.number;
-    desk.notes.note(Step {
-        scenario,
-        number,
-        line,
-    });
-    desk.notes.later.clear();
-    desk.state.tally.count(Outcome::Accepted);
-    desk.number = desk.state.tally.edits;
+    put_edited(line, edited, desk);
     Ok(())
 }
 

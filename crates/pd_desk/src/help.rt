@@ -20,6 +20,7 @@ const HELP: &[u8] = b"= help
 :test FILE         the lines of a test script that fail over the scenario, and how many passed
 :save FILE         writes the scenario to a new file, which reads back as the same
 :save-edits FILE   writes the accepted edits since the start to a new file, an edit script
+:load FILE         makes the edits of an edit script, or none of them where one of its lines is refused
 :draw FILE         writes a picture of the run to a new file, as pdlab draw does
 :save! FILE        as :save, in the place of a file that is there; :save-edits! and :draw! too
 :quit              ends the session, as Ctrl-D does

@@ -14,6 +14,7 @@ mod line_in;
 mod line_reasons;
 mod lines;
 mod live;
+mod load;
 mod notes;
 mod outlets;
 mod own;

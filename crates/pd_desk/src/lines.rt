@@ -50,7 +50,7 @@ fn answer_ended<const N: usize, T: Runner<N>, R: TextIn, W: TextOut, E: TextOut,
     ensures counts { CountsFault result (R.failures reader.old) (R.failures reader.new)
         (W.failures outlets.old.answers) (W.failures outlets.new.answers) }
     ensures runs { IsRunning (T.plan runner.new) (T.entries runner.new) desk.new.state.scenario }
-    ensures room { OnOk result (answered desk.new.state.tally ≤ 16777216) }
+    ensures room { OnOk result (answered desk.new.state.tally ≤ 4016777217) }
 {
     let mut total = 0usize;
     while take_line(reader, line, &mut total)? {

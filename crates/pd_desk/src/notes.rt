@@ -5,6 +5,7 @@ ghost use Rattle.std.specs.List.{flat_map};
 ghost use Rattle.pd_desk.specs.History.{no_notes, noted, script_text};
 ghost use Rattle.pd_desk.specs.Standings.{notes_of};
 
+use crate::copy::copied;
 use pd_scenario::Scenario;
 use std::alloc::{AllocError, Global};
 use std::marker::Model;
@@ -41,6 +42,14 @@ impl NotedLine {
     {
         self.bytes.as_slice()
     }
+
+    /// # Errors
+    /// There is no memory for it.
+    fn copied(&self, alloc: Global) -> Result<NotedLine, AllocError>
+        ensures { IfOk result (λ copy. copy ≡ self.now) }
+    {
+        NotedLine::of(alloc, self.as_slice())
+    }
 }
 
 /// An edit that was made: its line, and the scenario on its other side, with the number of the edit that led to that one.
@@ -61,6 +70,20 @@ impl<const N: usize> Model for Step<N> {
       number = step.number;
       line = step.line;
     } };
+}
+
+impl<const N: usize> Step<N> {
+    /// # Errors
+    /// There is no memory for it.
+    fn copied(&self, alloc: Global) -> Result<Step<N>, AllocError>
+        ensures { IfOk result (λ copy. copy ≡ self.now) }
+    {
+        Ok(Step {
+            scenario: copied(alloc, &self.scenario)?,
+            number: self.number,
+            line: self.line.copied(alloc)?,
+        })
+    }
 }
 
 /// The edits that were made.
@@ -84,6 +107,20 @@ impl<const N: usize> Notes<N> {
             earlier: Vec::new(alloc),
             later: Vec::new(alloc),
         }
+    }
+
+    /// The same notes once more.
+    ///
+    /// # Errors
+    /// There is no memory for it.
+    pub fn copied(&self, alloc: Global) -> Result<Notes<N>, AllocError>
+        ensures { IfOk result (λ copy. notes_of copy ≡ notes_of self.now) }
+    {
+        Ok(Notes {
+            older: copied_lines(alloc, &self.older)?,
+            earlier: copied_steps(alloc, &self.earlier)?,
+            later: copied_steps(alloc, &self.later)?,
+        })
     }
 
     /// Makes room for one edit more.
@@ -124,6 +161,33 @@ impl<const N: usize> Notes<N> {
         push_steps(&mut text, &self.earlier)?;
         Ok(text)
     }
+}
+
+/// The same lines once more.
+fn copied_lines(alloc: Global, lines: &[NotedLine]) -> Result<Vec<NotedLine>, AllocError>
+    ensures { IfOk result (λ copies. copies.items ≡ lines.now) }
+{
+    let mut copies = Vec::new(alloc);
+    for line in lines {
+        let copy = line.copied(alloc)?;
+        copies.push(copy)?;
+    }
+    Ok(copies)
+}
+
+/// The same edits once more.
+fn copied_steps<const N: usize>(
+    alloc: Global,
+    steps: &[Step<N>],
+) -> Result<Vec<Step<N>>, AllocError>
+    ensures { IfOk result (λ copies. copies.items ≡ steps.now) }
+{
+    let mut copies = Vec::new(alloc);
+    for step in steps {
+        let copy = step.copied(alloc)?;
+        copies.push(copy)?;
+    }
+    Ok(copies)
 }
 
 /// Writes lines, each with a line feed behind it.

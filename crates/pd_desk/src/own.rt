@@ -1,23 +1,26 @@
 //! Answers to the desk's own lines.
 
-ghost use Rattle.std.specs.Prelude.{◌≡◌, ◌⊎◌, ◌++◌, [], codes, IfOk, IfErr, MatchResult};
+ghost use Rattle.std.specs.Prelude.{◌≡◌, ◌⊎◌, ◌+◌, ◌<◌, ◌≤◌, ◌^◌, ◌++◌, [], codes, IfOk, IfErr, MatchResult};
 ghost use Rattle.pd_edit_lines.specs.Words.{words};
 ghost use Rattle.pd_scenario.specs.Plans.{plan_of};
 ghost use Rattle.pd_save.specs.Files.{ReadsOtherwise, file_text};
+ghost use Rattle.pd_bench.specs.Session.{answered};
 ghost use Rattle.pd_bench.specs.Stream.{IsRunning};
 ghost use Rattle.pd_desk.specs.Commands.{colon_of, second};
 ghost use Rattle.pd_text.specs.declared.piece.Form.TheVariants.{Words};
 ghost use Rattle.pd_why.specs.Answers.{TellsWhy};
-ghost use Rattle.pd_desk.specs.Desk.{Fails, FailsEdit, FailsSave, FailsShow, FailsTest, FailsWhy, IsSavedAs, ReadsBack, Saves, Tells};
+ghost use Rattle.pd_desk.specs.Desk.{FailsEdit, FailsSave, FailsShow, FailsTest, FailsWhy, IsSavedAs, ReadsBack, Saves, Tells};
 ghost use Rattle.pd_desk.specs.Desk.{TellsAll, TellsChanges, TellsTested, as_saved, saved_text, with_shelf};
 ghost use Rattle.pd_desk.specs.OwnFaults.{own_sentence};
-ghost use Rattle.pd_desk.specs.Standings.{notes_of, standing_of};
+ghost use Rattle.pd_desk.specs.Standings.{IsNotDone, notes_of, standing_of};
+ghost use Rattle.pd_desk.specs.declared.own.NotDone.TheVariants as not_done;
 ghost use Rattle.pd_desk.specs.Tellings.{TellsShow};
 ghost use Rattle.pd_desk.specs.declared.own.OwnFault.TheVariants.{Memory as memory, Differs as differs};
 ghost use Rattle.pd_desk.specs.declared.colon.Saved.TheVariants as saved;
 
 use crate::desk::Desk;
 use crate::help::help_text;
+use crate::load::load;
 use crate::steps::{redo, undo};
 use crate::tellings::{drawn, guaranteed, shown, tested, warned};
 use crate::{Colon, Saved, Shelf, ShelfFault, file_of, run_diff, why_port};
@@ -49,6 +52,10 @@ pub enum OwnFault {
     NotSaved,
     /// The file of expectations couldn't be read.
     NotRead,
+    /// The file of edits couldn't be read.
+    NotLoaded,
+    /// The file is a scenario, and no edit script.
+    NoScript,
     Memory,
 }
 
@@ -57,6 +64,30 @@ impl From<AllocError> for OwnFault {
 
     fn from(_: AllocError) -> OwnFault {
         Self::Memory
+    }
+}
+
+/// Why a line of the desk's own did nothing, and what is told of that.
+#[derive(Drop)]
+pub(crate) enum NotDone {
+    Fault(OwnFault),
+    /// Lines of the script are refused that was to be loaded: which, and why.
+    Refused(Vec<u8>),
+}
+
+impl From<OwnFault> for NotDone {
+    ghost from_gives = { λ fault why. why ≡ not_done.Fault fault };
+
+    fn from(fault: OwnFault) -> NotDone {
+        Self::Fault(fault)
+    }
+}
+
+impl From<AllocError> for NotDone {
+    ghost from_gives = { λ _ why. why ≡ not_done.Fault memory };
+
+    fn from(_: AllocError) -> NotDone {
+        Self::Fault(OwnFault::Memory)
     }
 }
 
@@ -71,7 +102,7 @@ impl OwnFault {
                 text.push_all(
                     b"the desk's own lines are :list, :undo, :redo, :diff, :why, :show, :warn, :guarantee, :test, ",
                 );
-                text.push_all(b":draw, :save, :save-edits and :quit; :help tells of them\n");
+                text.push_all(b":draw, :save, :save-edits, :load and :quit; :help tells of them\n");
             }
             OwnFault::NoEdit => text.push_all(b"no accepted edit is left to take back\n"),
             OwnFault::FewEdits { left } => {
@@ -93,6 +124,10 @@ impl OwnFault {
             }
             OwnFault::NotSaved => text.push_all(b"not saved: the file can't be written\n"),
             OwnFault::NotRead => text.push_all(b"not tested: the file can't be read\n"),
+            OwnFault::NotLoaded => text.push_all(b"not loaded: the file can't be read\n"),
+            OwnFault::NoScript => text.push_all(
+                b"not loaded: it is a scenario, and no edit script; pdlab live FILE opens it\n",
+            ),
             OwnFault::Memory => text.push_all(b"there was no memory for it\n"),
         }
         text
@@ -285,34 +320,34 @@ pub(crate) fn own_text<const N: usize, T: Runner<N>, S: Shelf>(
     runner: &mut T,
     shelf: &mut S,
     meter: &mut Meter,
-) -> Result<Vec<u8>, OwnFault>
+) -> Result<Vec<u8>, NotDone>
     requires runs { IsRunning (T.plan runner.old) (T.entries runner.old) desk.old.state.scenario }
+    requires room { answered desk.old.state.tally + 1 < 2 ^ 32 }
     ensures text { MatchResult result
-        (λ text. Tells N
-        (with_shelf (standing_of desk.old) (S.known shelf.old))
-        (colon_of line.now) (second (words line.now)) text.items
+        (λ text. Tells N (with_shelf (standing_of desk.old) (S.known shelf.old)) (colon_of line.now) (second (words line.now)) text.items
         (with_shelf (standing_of desk.new) (S.known shelf.new)))
-        (λ fault. Fails N
-        (with_shelf (standing_of desk.old) (S.known shelf.old))
-        (colon_of line.now) (second (words line.now)) fault
+        (λ why. IsNotDone N (with_shelf (standing_of desk.old) (S.known shelf.old)) (colon_of line.now) (second (words line.now)) why
         (with_shelf (standing_of desk.new) (S.known shelf.new))) }
     ensures runs { IsRunning (T.plan runner.new) (T.entries runner.new) desk.new.state.scenario }
-    ensures tally { desk.new.state.tally ≡ desk.old.state.tally }
+    ensures room { (answered desk.new.state.tally ≤ answered desk.old.state.tally) ⊎ (answered desk.new.state.tally ≤ 4000000000) }
 {
     match Colon::read(line) {
-        None => Err(OwnFault::Unknown),
+        None => Err(NotDone::Fault(OwnFault::Unknown)),
         Some(Colon::Help) => Ok(help_text(alloc)?),
         Some(Colon::Listing) => Ok(list_scenario(alloc, &desk.state.scenario)?),
-        Some(Colon::Undo { before }) => undo(alloc, before, desk, runner, meter),
-        Some(Colon::Redo) => redo(alloc, desk, runner, meter),
-        Some(Colon::Diff) => diff(alloc, desk, meter),
+        Some(Colon::Undo { before }) => Ok(undo(alloc, before, desk, runner, meter)?),
+        Some(Colon::Redo) => Ok(redo(alloc, desk, runner, meter)?),
+        Some(Colon::Diff) => Ok(diff(alloc, desk, meter)?),
         Some(Colon::DiffAll) => Ok(diff_all(alloc, desk, meter)?),
-        Some(Colon::Save { what, is_over }) => save(alloc, line, what, is_over, desk, shelf, meter),
-        Some(Colon::Why { port, to }) => bounds(alloc, &desk.state.scenario, port, to, meter),
-        Some(Colon::Show { port }) => show(alloc, &desk.state.scenario, port, meter),
+        Some(Colon::Save { what, is_over }) => {
+            Ok(save(alloc, line, what, is_over, desk, shelf, meter)?)
+        }
+        Some(Colon::Why { port, to }) => Ok(bounds(alloc, &desk.state.scenario, port, to, meter)?),
+        Some(Colon::Show { port }) => Ok(show(alloc, &desk.state.scenario, port, meter)?),
         Some(Colon::Warn) => Ok(warned(alloc, &desk.state.scenario, meter)?),
         Some(Colon::Guarantee) => Ok(guaranteed(alloc, &desk.state.scenario)?),
-        Some(Colon::Test) => test(alloc, line, desk, shelf, meter),
+        Some(Colon::Test) => Ok(test(alloc, line, desk, shelf, meter)?),
+        Some(Colon::Load) => load(alloc, line, desk, runner, shelf, meter),
         Some(Colon::Quit) => Ok(Vec::new(alloc)),
     }
 }

@@ -16,7 +16,7 @@ use std::alloc::{AllocError, Global};
 use std::mem;
 
 /// What changes where another scenario stands, which it does from now on in the runner.
-fn turn<const N: usize, T: Runner<N>>(
+pub(crate) fn turn<const N: usize, T: Runner<N>>(
     alloc: Global,
     head: &[u8],
     scenario: &Scenario<N>,

@@ -87,6 +87,7 @@ do nothing, standard error says why:
   :test FILE         the lines of a test script that fail, and how many passed
   :save FILE         writes the scenario to a new file, which reads back as the same
   :save-edits FILE   writes the edits that led to it to a new file, a script
+  :load FILE         makes the edits of a script, or none where a line is refused
   :draw FILE         writes the run to a new file as a picture, as draw does
   :save! FILE        as :save, in the place of a file that is there; so are
                      :save-edits! and :draw!

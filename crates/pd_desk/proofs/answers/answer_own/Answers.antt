@@ -13,11 +13,23 @@ returns-in-Ok-clause-reply g c = (
   told_nothing c.write_all.result _,
 )
 
-pub returns-in-Err-clause-reply : goal.returns-in-Err-clause-reply
-returns-in-Err-clause-reply g c = (
-  [],
-  own_sentence c.in-Err.fault,
-  inr (c.in-Err.fault, c.in-Err.ensures.text, refl, refl),
-  Appends-nil _,
-  (c.write_text.result, rw c.sentence.ensures at c.write_text.ensures.text, c.write_text.ensures.counts),
-)
+pub returns-in-Err-Fault-clause-reply : goal.returns-in-Err-Fault-clause-reply
+returns-in-Err-Fault-clause-reply g c =
+    let fails = rw c.in-Err-Fault.field-0-is at c.in-Err-Fault.ensures.text in (
+      [],
+      own_sentence c.in-Err-Fault.fault,
+      inr (refl, inl (c.in-Err-Fault.fault, fails, refl)),
+      Appends-nil _,
+      (c.write_text.result, rw c.sentence.ensures at c.write_text.ensures.text, c.write_text.ensures.counts),
+    )
+
+pub returns-in-Err-Refused-clause-reply : goal.returns-in-Err-Refused-clause-reply
+returns-in-Err-Refused-clause-reply g c =
+    let refuses = rw c.in-Err-Refused.field-0-is at c.in-Err-Refused.ensures.text in
+    let told = c.write_all-in-Err-Refused in (
+      [],
+      c.in-Err-Refused.told.items,
+      inr (refl, inr refuses),
+      Appends-nil _,
+      (told.result, rw c.as_slice-in-Err-Refused.ensures.value at told.ensures.text, told.ensures.counts),
+    )

@@ -1,6 +1,7 @@
 use Rattle.std.proofs.Common.{◌∙◌, arith, inl, sym}
 use Rattle.std.proofs.lemmas.Result.{err_from_is_err_and}
 use Rattle.pd_desk.proofs.Joins.{Answering-more, DeskCut-line, DeskEnds-stopped}
+use Rattle.pd_desk.proofs.LoadedLines.{room_line}
 use Rattle.pd_desk.proofs.lines.answer_ended.Goals as goal
 
 pub returns-in_err-take_line-clause-text : goal.returns-in_err-take_line-clause-text
@@ -29,7 +30,7 @@ loop-line-preserved g c =
       reads = c.in_ok-take_line.ensures.counts.0 ∙ so_far.reads;
       writes = c.in_ok-answer_desk.ensures.counts ∙ so_far.writes;
       runs = c.in_ok-answer_desk.ensures.runs;
-      room = omega (arith, took.counts, so_far.room, c.in_ok-answer_desk.ensures.room);
+      room = room_line _ _ c.loop-line.total _ so_far.room (omega (arith, took.counts)) c.in_ok-answer_desk.ensures.room;
       few = took.few;
       empty = c.clear.ensures;
     }

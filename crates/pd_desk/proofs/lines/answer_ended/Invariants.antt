@@ -1,4 +1,4 @@
-use Rattle.std.proofs.Common.{◌≡◌, ◌-◌, ◌≤◌, []}
+use Rattle.std.proofs.Common.{◌≡◌, ◌+◌, ◌-◌, ◌≤◌, []}
 use Rattle.pd_bench.specs.Session.{answered}
 use Rattle.pd_bench.specs.Stream.{IsRunning}
 use Rattle.pd_desk.specs.Desk.{with_shelf}
@@ -18,7 +18,7 @@ invariant-loop-line g l = record {
   reads : g.R.TextIn.failures l.reader ≡ g.R.TextIn.failures l.fn.reader;
   writes : g.W.TextOut.failures l.outlets.answers ≡ g.W.TextOut.failures l.fn.outlets.answers;
   runs : IsRunning (g.T.Runner.plan l.runner) (g.T.Runner.entries l.runner) l.desk.state.scenario;
-  room : answered l.desk.state.tally ≤ l.total;
+  room : answered l.desk.state.tally ≤ 4000000000 + l.total;
   few : l.total ≤ 16777217;
   empty : l.line ≡ [];
 }
