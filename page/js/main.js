@@ -304,9 +304,10 @@ class Page {
     const answer = value.trim() ? this.engine.test(this.scenario.text, value) : { ending: Ending.DONE, text: "" };
     const objects = answer.ending === Ending.DONE ? objectsOf(answer.text) : [{ sentence: endingWords(answer) }];
     this.tables.tests.give(objects);
-    const counts = objects.at(-1);
-    const words = counts?.passed === undefined ? "" : counts.failed ? `${counts.failed} failed` : `${counts.passed} passed`;
-    this.tabs.count("Tests", words, counts?.failed > 0);
+    const { passed, failed = 0, refused = 0 } = objects.at(-1) ?? {};
+    const wrong = [failed && `${failed} failed`, refused && `${refused} refused`].filter(Boolean);
+    const right = passed ? `${passed} passed` : "nothing expected";
+    this.tabs.count("Tests", passed === undefined ? "" : wrong.join(", ") || right, wrong.length > 0);
   }
 
   showLog() {

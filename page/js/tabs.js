@@ -146,7 +146,10 @@ export function shownTables(go, goToTold) {
       const what = it.expected ? `failed: ${it.expected}; there is ${it.found}` : it.sentence ?? `not lost: ${it.not_lost ?? it.not_tried}`;
       return [it.line ?? "", `${it.refusal ? `refused ${it.refusal}: ` : ""}${what}${it.hint ? ` — ${it.hint}` : ""}`];
     },
-    kind: (row) => (made.tests.rows[row].passed === undefined || made.tests.rows[row].failed ? "bad" : "come"),
+    kind: (row) => {
+      const { passed, failed, refused } = made.tests.rows[row];
+      return passed === undefined || failed || refused ? "bad" : "come";
+    },
   });
   made.log = new Rows({
     label: "Decoded lines", none: "no line of a log", columns: [{ title: "line", width: 50, right: true }, { title: "what", width: 200 },
