@@ -12,17 +12,17 @@ use Rattle.pd_port.specs.Port.{due}
 use Rattle.pd_port.proofs.BudgetLaws.{due_some}
 use Rattle.pd_port.proofs.PortLaws.{due_event}
 use Rattle.pd_scenario.specs.declared.budget.BudgetChange.{BudgetChange}
-use Rattle.pd_scenario.specs.Plan.{ComesBefore, IsPlan, Plan, count, number_of, script_of, told_at}
+use Rattle.pd_scenario.specs.Plan.{IsFollowedBy, IsPlan, Plan, count, is_change, script_of, told_at}
 use Rattle.pd_run.specs.Order.{EachAfter}
 use Rattle.pd_run.specs.Run.{GoesOn, Move, Run, Standing, due_after, standing}
 use Rattle.pd_run.proofs.Moves.{standing-other, standing-same}
 use Rattle.pd_run.proofs.Scripts.{IsSorted}
 use Rattle.pd_run.proofs.Steps.{some_event}
 
-no_later : (e f : EventData) → ComesBefore e f → e.at ≤ f.at
+no_later : (e f : EventData) → IsFollowedBy e f → e.at ≤ f.at
 no_later e f h =
     ⊎_elim (λ (before : e.at < f.at). omega arith)
-    (λ (same : (e.at ≡ f.at) × (number_of e.happening < number_of f.happening)). omega (arith, same.0)) h
+    (λ (same : (e.at ≡ f.at) × (is_change f.happening ≡ false)). omega (arith, same.0)) h
 
 -- what stands before an event of a script is no later
 sorted_at : (script : List EventData) (i n : ℕ) (e f : EventData) → IsSorted script → slice_get script i ≡ Some e

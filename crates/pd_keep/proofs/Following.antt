@@ -204,7 +204,7 @@ aside_none plan past away live s = StandsBut-all plan past [] live s (λ p lt. r
 
 -- a port has had few events where it passes for one
 pub passing_few : (n : ℕ) (plan : Plan) (past : List Move) (away : List Bool) (whole live : LiveData) (k : KeptData) → IsPlan n plan
-    → IsPassing plan past away whole live k → is_event k.due.what ≡ true → slice_index live.taken (k.port - 1) < 4096
+    → IsPassing plan past away whole live k → is_event k.due.what ≡ true → slice_index live.taken (k.port - 1) < 1000000
 passing_few n plan past away whole live k is h event =
     let few = taken_few n plan past whole (k.port - 1) k.due is h.but.stands h.next.first.known h.next.first.is_due event in
     let same = ap (λ ts. slice_index ts (k.port - 1)) h.but.taken_is in

@@ -61,6 +61,28 @@ impl<const N: usize> Runner<N> for Kept<N> {
         }
     }
 
+    fn run_plan(
+        &mut self,
+        alloc: Global,
+        next: Plan<N>,
+        meter: &mut Meter,
+    ) -> Result<(), AllocError>
+        ensures plan { OnOk result (self.new.plan ≡ Some next.entry) }
+        ensures moves { OnOk result (SafeRun next.entry self.new.moves) }
+        ensures cost { OnOk result (IsCharged self.old next.entry self.new.moves meter.old meter.new) }
+        ensures paid { OnOk result (IsPaid CostsFreshMoves self.old.plan next.entry meter.old meter.new) }
+        ensures same { OnErr result (self.new ≡ self.old) }
+        ensures run { OnOk result (Shows next.entry (map shown self.new.moves)) }
+        ensures same_plan { OnErr result (self.new.plan ≡ self.old.plan) }
+        ensures same_run { OnErr result (map shown self.new.moves ≡ map shown self.old.moves) }
+        ensures rises { meter.old ≤ meter.new }
+    {
+        let spans = spans_of(alloc, &self.run, &next, &mut self.spare, meter)?;
+        let old = mem::replace(&mut self.run, Some(KeptRun { plan: next, spans }));
+        let_go(old, &mut self.spare);
+        Ok(())
+    }
+
     fn replace(
         &mut self,
         alloc: Global,
@@ -78,10 +100,7 @@ impl<const N: usize> Runner<N> for Kept<N> {
         ensures rises { meter.old ≤ meter.new }
     {
         let plan = Plan::of_scenario(alloc, scenario)?;
-        let spans = spans_of(alloc, &self.run, &plan, &mut self.spare, meter)?;
-        let old = mem::replace(&mut self.run, Some(KeptRun { plan, spans }));
-        let_go(old, &mut self.spare);
-        Ok(())
+        self.run_plan(alloc, plan, meter)
     }
 
     fn len(&self) -> usize {

@@ -9,7 +9,7 @@ use Rattle.pd_port.specs.declared.due.What.TheVariants as what
 use Rattle.pd_port.specs.Port.{PortRecord, is_event, due}
 use Rattle.pd_port.specs.Laws.{NotBefore}
 use Rattle.pd_port.proofs.PortLaws.{due_later, due_first, due_event}
-use Rattle.pd_scenario.specs.Plan.{Plan, IsPlan, count, settings_of, script_of, number_of, ComesBefore}
+use Rattle.pd_scenario.specs.Plan.{Plan, IsPlan, count, settings_of, script_of, is_change, IsFollowedBy}
 use Rattle.pd_run.specs.Order.{IsNoLater}
 use Rattle.pd_run.specs.Run.{Move, Run, Standing, standing, moved, taken_after, due_after, due_from, GoesOn, IsInOrder, IsAnswered}
 use Rattle.pd_run.specs.Live.{LiveData, RunsTo, StandsAfter, IsFirst, IsOver, next_move}
@@ -18,9 +18,9 @@ use Rattle.pd_run.proofs.Moves.{standing-same, due_after-other, EachAfter-push, 
 pub runs_start : (plan : Plan) → RunsTo plan []
 runs_start plan = record { chained = tt; ordered = tt; answered = tt; timely = tt; ahead = λ p d k e. tt }
 
-not_before : (e f : EventData) → ComesBefore e f → e.at ≤ f.at
+not_before : (e f : EventData) → IsFollowedBy e f → e.at ≤ f.at
 not_before e f h = ⊎_elim (λ (before : e.at < f.at). omega arith)
-    (λ (same : (e.at ≡ f.at) × (number_of e.happening < number_of f.happening)). omega (arith, same.0)) h
+    (λ (same : (e.at ≡ f.at) × (is_change f.happening ≡ false)). omega (arith, same.0)) h
 
 next_of : (es : List EventData) (t i : ℕ) (o : Option EventData) → o ≡ slice_get es i
     → ((f : EventData) → slice_get es i ≡ Some f → t ≤ f.at) → NotBefore t o

@@ -1,23 +1,24 @@
 -- Where in a port's script the budget changes.
-use Rattle.std.proofs.Common.{◌≡◌, ◌≢◌, ⊎_elim, ℕ, zero, suc, ◌+◌, ◌-◌, ◌<◌, ◌≤◌, List, Some, ap, ◌∙◌, inl, inr, arith, slice_get, get_or}
+use Rattle.std.proofs.Common.{◌≡◌, ◌≢◌, ⊎_elim, ℕ, zero, suc, ◌+◌, ◌-◌, ◌<◌, ◌≤◌, List, Some, false, ap, ◌∙◌, inl, inr, arith}
+use Rattle.std.proofs.Common.{get_or, slice_get}
 use Rattle.std.specs.Prelude.{Contains}
 use Rattle.std.proofs.lemmas.Bool.{cases_lt, cases_eq}
 use Rattle.std.proofs.lemmas.Option.{slice_get-get_or, slice_get_within}
 use Rattle.pd_setup.specs.Events.{EventData}
-use Rattle.pd_scenario.specs.Plan.{number_of, ComesBefore, told_at}
+use Rattle.pd_scenario.specs.Plan.{is_change, IsFollowedBy, told_at}
 
 -- a script in the order of times and numbers
 abbrev pub IsSorted : List EventData → Type 0
-IsSorted script = (i : ℕ) (e f : EventData) → slice_get script i ≡ Some e → slice_get script (i + 1) ≡ Some f → ComesBefore e f
+IsSorted script = (i : ℕ) (e f : EventData) → slice_get script i ≡ Some e → slice_get script (i + 1) ≡ Some f → IsFollowedBy e f
 
-no_later : (e f : EventData) → ComesBefore e f → e.at ≤ f.at
+no_later : (e f : EventData) → IsFollowedBy e f → e.at ≤ f.at
 no_later e f h = ⊎_elim (λ (before : e.at < f.at). omega arith)
-    (λ (same : (e.at ≡ f.at) × (number_of e.happening < number_of f.happening)). omega (arith, same.0)) h
+    (λ (same : (e.at ≡ f.at) × (is_change f.happening ≡ false)). omega (arith, same.0)) h
 
 -- nothing comes before a change at its time
-before_change : (e : EventData) (t : ℕ) → ComesBefore e (told_at t) → e.at < t
+before_change : (e : EventData) (t : ℕ) → IsFollowedBy e (told_at t) → e.at < t
 before_change e t h = ⊎_elim (λ (before : e.at < t). before)
-    (λ (same : (e.at ≡ t) × (number_of e.happening < 0)). absurd (omega (arith, same.1))) h
+    (λ (same : (e.at ≡ t) × (is_change (told_at t).happening ≡ false)). absurd cc) h
 
 -- so all that stands before a change is earlier
 all_earlier : (script : List EventData) (t j : ℕ) → IsSorted script → slice_get script j ≡ Some (told_at t) → (n i : ℕ) (e : EventData)

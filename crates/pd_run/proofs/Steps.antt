@@ -182,7 +182,7 @@ some_event (what.Timer side timer) h = cc
 
 -- a script isn't used up where an event falls due
 pub taken_few : (n : ℕ) (plan : Plan) (past : List Move) (live : LiveData) (p : ℕ) (d : Due) → IsPlan n plan
-    → StandsAfter plan past live → p < count plan → due_at live p ≡ Some d → is_event d.what ≡ true → slice_index live.taken p < 4096
+    → StandsAfter plan past live → p < count plan → due_at live p ≡ Some d → is_event d.what ≡ true → slice_index live.taken p < 1000000
 taken_few n plan past live p d is s lt du ev =
     let e = some_event d.what ev in
     let next = due_event _ _ d e.0 (sym (s.dues_are p lt) ∙ du) e.1 in

@@ -299,7 +299,7 @@ impl<const N: usize> Live<N> {
     pub fn pass(&mut self, port: usize, is_event: bool)
         requires first { 1 ≤ port }
         requires last { port ≤ N }
-        requires few { is_event ≡ true → slice_index self.old.taken (port - 1) < 4096 }
+        requires few { is_event ≡ true → slice_index self.old.taken (port - 1) < 1000000 }
         ensures { self.new ≡ record self.old {
           taken = slice_set self.old.taken (port - 1)
               (had_with (slice_index self.old.taken (port - 1)) is_event);
@@ -320,7 +320,7 @@ impl<const N: usize> Live<N> {
         left: u64,
     ) -> bool
         requires holds { (past : List Move) × (m : Move) × HoldsOn plan.now past self.old.account m port entry.now answer.now left }
-        requires few { is_event entry.now.due.what ≡ true → slice_index self.old.taken (port - 1) < 4096 }
+        requires few { is_event entry.now.due.what ≡ true → slice_index self.old.taken (port - 1) < 1000000 }
         ensures answered { (past : List Move) (m : Move)
             → HoldsOn plan.now past self.old.account m port entry.now answer.now left → (IsTrue result ↔ IsAnswered plan.now past m) }
         ensures followed { IsTrue result → self.new ≡ followed plan.now self.old (port - 1) entry.now.due left }
@@ -484,7 +484,7 @@ fn next_dues<const N: usize>(
 
 // How many events a port has had after a due.
 fn taken_after(taken: usize, due: &Due) -> usize
-    requires { is_event due.now.what ≡ true → taken < 4096 }
+    requires { is_event due.now.what ≡ true → taken < 1000000 }
     ensures { result ≡ taken_after taken due.now }
 {
     if is_event(&due.what) {

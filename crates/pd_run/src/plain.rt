@@ -43,6 +43,27 @@ impl<const N: usize> Runner<N> for Plain<N> {
         }
     }
 
+    fn run_plan(
+        &mut self,
+        alloc: Global,
+        next: Plan<N>,
+        meter: &mut Meter,
+    ) -> Result<(), AllocError>
+        ensures plan { OnOk result (self.new.plan ≡ Some next.entry) }
+        ensures run { OnOk result (Shows next.entry self.new.entries) }
+        ensures same_plan { OnErr result (self.new.plan ≡ self.old.plan) }
+        ensures same_run { OnErr result (self.new.entries ≡ self.old.entries) }
+        ensures rises { meter.old ≤ meter.new }
+        ensures cost { OnOk result (meter.new ≡ raised meter.old (length self.new.entries)) }
+        ensures paid { OnOk result (IsPaid CostsAllMoves self.old.plan next.entry meter.old meter.new) }
+    {
+        let entries = run(alloc, &next, meter)?;
+        let _end = next.end();
+        self.entries = entries;
+        self.plan = Some(next);
+        Ok(())
+    }
+
     fn replace(
         &mut self,
         alloc: Global,
@@ -58,11 +79,7 @@ impl<const N: usize> Runner<N> for Plain<N> {
         ensures paid { OnOk result (IsPaid CostsAllMoves self.old.plan (plan_of scenario.now) meter.old meter.new) }
     {
         let plan = Plan::of_scenario(alloc, scenario)?;
-        let entries = run(alloc, &plan, meter)?;
-        let _end = plan.end();
-        self.entries = entries;
-        self.plan = Some(plan);
-        Ok(())
+        self.run_plan(alloc, plan, meter)
     }
 
     fn len(&self) -> usize {

@@ -1,8 +1,8 @@
 //! A plan, as a runner keeps it.
 
-ghost use Rattle.std.specs.Prelude.{◌≡◌, ℕ, ◌+◌, ◌-◌, ◌<◌, ◌≤◌, ◌↔◌, slice_get, map, All, IfOk, IsTrue};
+ghost use Rattle.std.specs.Prelude.{◌≡◌, ℕ, ◌+◌, ◌-◌, ◌<◌, ◌≤◌, ◌↔◌, slice_get, slice_set, length, map, All, IfOk, IsTrue};
 ghost use Rattle.std.specs.Option.{option_copied};
-ghost use Rattle.pd_scenario.specs.Plan.{IsPlan, settings_of, script_of, floors_of, force};
+ghost use Rattle.pd_scenario.specs.Plan.{IsPlan, IsScripted, settings_of, script_of, with_script, floors_of, force};
 ghost use Rattle.pd_scenario.specs.Plans.{plan_of};
 ghost use Rattle.pd_run.specs.Start.{start_of};
 
@@ -67,6 +67,34 @@ impl<const N: usize> Plan<N> {
         })
     }
 
+    /// The same plan with another script of a port.
+    ///
+    /// # Errors
+    /// There is no memory.
+    pub fn with_script(
+        &self,
+        alloc: Global,
+        port: usize,
+        script: Vec<Event>,
+    ) -> Result<Plan<N>, AllocError>
+        requires first { 1 ≤ port }
+        requires last { port ≤ N }
+        requires script { IsScripted self.now.forces script.items }
+        ensures { IfOk result (λ plan. plan ≡ with_script self.now (port - 1) script.items) }
+    {
+        let forces = self.forces.copy(alloc)?;
+        let settings = copy_settings(alloc, &self.settings)?;
+        let mut scripts = copy_scripts(alloc, &self.scripts)?;
+        set_script(&mut scripts, port - 1, script);
+        Ok(Plan {
+            settings,
+            scripts,
+            budget: self.budget,
+            forces,
+            end: self.end,
+        })
+    }
+
     /// Whether another plan asks the same.
     pub fn same(&self, other: &Plan<N>) -> bool
         ensures { IsTrue result ↔ (self.now ≡ other.now) }
@@ -99,7 +127,7 @@ impl<const N: usize> Plan<N> {
     }
 
     /// The events of a port.
-    pub(crate) fn script(&self, port: usize) -> &[Event]
+    pub fn script(&self, port: usize) -> &[Event]
         requires first { 1 ≤ port }
         requires last { port ≤ N }
         ensures script { result.now ≡ script_of self.now (port - 1) }
@@ -129,7 +157,7 @@ impl<const N: usize> Plan<N> {
     }
 
     /// The changes of the shared budget.
-    pub(crate) fn forces(&self) -> &[BudgetChange]
+    pub fn forces(&self) -> &[BudgetChange]
         ensures forces { result.now ≡ self.now.forces }
         ensures is_plan { IsPlan N self.now }
     {
@@ -192,6 +220,39 @@ fn all_same_scripts(scripts: &[Vec<Event>], others: &[Vec<Event>]) -> bool
         }
         _ => false,
     }
+}
+
+// The same settings in the same order.
+fn copy_settings(alloc: Global, settings: &[Settings]) -> Result<Vec<Settings>, AllocError>
+    ensures { IfOk result (λ v. v.items ≡ settings.now) }
+{
+    let mut copy = Vec::with_capacity(alloc, settings.len())?;
+    for one in settings {
+        copy.push(one.copy())?;
+    }
+    Ok(copy)
+}
+
+// The same scripts in the same order.
+fn copy_scripts(alloc: Global, scripts: &[Vec<Event>]) -> Result<Vec<Vec<Event>>, AllocError>
+    ensures { IfOk result (λ v. map (λ s. s.items) v.items ≡ map (λ s. s.items) scripts.now) }
+{
+    let mut copy = Vec::with_capacity(alloc, scripts.len())?;
+    for script in scripts {
+        let mut events = Vec::with_capacity(alloc, script.len())?;
+        events.extend_from_slice(script)?;
+        copy.push(events)?;
+    }
+    Ok(copy)
+}
+
+// Another script in the place of one.
+#[tactic(auto, using(crate::proofs::Plans::items_set))]
+fn set_script(scripts: &mut Vec<Vec<Event>>, place: usize, script: Vec<Event>)
+    requires { place < length scripts.old.items }
+    ensures { map (λ s. s.items) scripts.new.items ≡ slice_set (map (λ s. s.items) scripts.old.items) place script.items }
+{
+    scripts[place] = script;
 }
 
 // What each port is set to.

@@ -8,7 +8,7 @@ ghost use Rattle.pd_run.specs.Cost.{Costs, IsPaid};
 ghost use Rattle.pd_run.specs.Notes.{IsNextWith};
 ghost use Rattle.pd_run.specs.Shown.{Shows, AreEntriesOf};
 
-use crate::Note;
+use crate::{Note, Plan};
 use pd_port::{Entry, Meter};
 use pd_scenario::Scenario;
 use std::alloc::{AllocError, Global};
@@ -28,6 +28,23 @@ pub trait Runner<const N: usize> {
     fn empty(alloc: Global) -> Self
         ensures plan { plan result ≡ None }
         ensures entries { entries result ≡ [] };
+
+    /// Stands for the run of this plan from now on. The meter rises by what that costs, and never falls.
+    ///
+    /// # Errors
+    /// There is no memory. The runner stands for what it stood for; the meter may have risen.
+    fn run_plan(
+        &mut self,
+        alloc: Global,
+        next: Plan<N>,
+        meter: &mut Meter,
+    ) -> Result<(), AllocError>
+        ensures plan { OnOk result (plan self.new ≡ Some next.entry) }
+        ensures run { OnOk result (Shows next.entry (entries self.new)) }
+        ensures same_plan { OnErr result (plan self.new ≡ plan self.old) }
+        ensures same_run { OnErr result (entries self.new ≡ entries self.old) }
+        ensures paid { OnOk result (IsPaid costs (plan self.old) next.entry meter.old meter.new) }
+        ensures rises { meter.old ≤ meter.new };
 
     /// Stands for this scenario's run from now on. The meter rises by what that costs, and never falls.
     ///

@@ -1,6 +1,6 @@
 -- The plan of a valid scenario is a plan.
 use Rattle.std.proofs.Common.{◌≡◌, ℕ, ◌+◌, ◌*◌, ◌<◌, ◌≤◌, Bool, true, false, not, ◌&&◌, cond, List, [], ◌∷◌, length, map, fold, refl, sym}
-use Rattle.std.proofs.Common.{ap, ◌∙◌, inl, inr, arith, add-one, Some, None}
+use Rattle.std.proofs.Common.{◌⊎◌, ⊎_elim, ap, ◌∙◌, inl, inr, arith, add-one, Some, None}
 use Rattle.std.specs.Prelude.{Option, option_map, sum, sum_by, slice_get, ◌==◌, nat_le, Contains}
 use Rattle.std.specs.List.{range_with_len, filter_map, list_all}
 use Rattle.std.proofs.lemmas.Bool.{cases_Bool, cases_lt, false≢true, and_parts, not-true}
@@ -22,7 +22,8 @@ use Rattle.pd_scenario.specs.Events.{ScenarioEventKind}
 use Rattle.pd_scenario.specs.declared.event.ScenarioEvent.{ScenarioEvent}
 use Rattle.pd_scenario.specs.declared.limits.Quantity.TheVariants as quantity
 use Rattle.pd_scenario.specs.Limits.{allows}
-use Rattle.pd_scenario.specs.Plan.{IsPlan, ComesBefore, script_of, number_of, told_at, force, budget_after, last_change}
+use Rattle.pd_scenario.specs.Plan.{IsPlan, ComesBefore, IsFollowedBy, is_change, script_of, number_of, told_at, force}
+use Rattle.pd_scenario.specs.Plan.{budget_after, last_change}
 use Rattle.pd_scenario.specs.Scenarios.{ScenarioData, IsValid, has_id, ids_differ, event_fits, happening_fits, budget_in, budget_of}
 use Rattle.pd_scenario.specs.Script.{AreOneEach, script, events_for, event_for, seen_by, resolved, put}
 use Rattle.pd_scenario.specs.Plans.{plan_of, change_in, change_of, changes_of, IsScript}
@@ -169,7 +170,7 @@ one_script c port events others left right =
     one_order events others (from_adjacent events left.in_order) (from_adjacent others right.in_order)
     (λ x h. (right.all x).1 ((left.all x).0 h)) (λ x h. (left.all x).1 ((right.all x).0 h))
 
-length-script : (n : ℕ) (c : ScenarioData) → IsValid n c → (port : ℕ) → length (script c.cables c.sinks c.events port) ≤ 4096
+pub length-script : (n : ℕ) (c : ScenarioData) → IsValid n c → (port : ℕ) → length (script c.cables c.sinks c.events port) ≤ 4096
 unfolding script
 length-script n c valid port =
     let made = length-filter_map (event_for c.cables c.sinks port) c.events in
@@ -186,11 +187,21 @@ no_script n c valid p h =
 nothing : (i : ℕ) (e : EventData) → slice_get [] i ≡ Some e → ⊥
 nothing i e h = cc
 
+-- what has a greater number than another event is no change of the budget
+no_change : (k : ℕ) (h : Happening) → k < number_of h → is_change h ≡ false
+no_change k (Port id kind) lt = refl
+no_change k happens.Budget lt = absurd (omega (arith, lt))
+
+followed : (e f : EventData) → ComesBefore e f → IsFollowedBy e f
+followed e f h = ⊎_elim (λ (before : e.at < f.at). inl before)
+    (λ (same : (e.at ≡ f.at) × (number_of e.happening < number_of f.happening)).
+    inr (same.0, no_change (number_of e.happening) f.happening same.1)) h
+
 scripts_in_order : (n : ℕ) (c : ScenarioData) → IsValid n c → (p i : ℕ) (e f : EventData) → slice_get (script_of (plan_of c) p) i ≡ Some e
-    → slice_get (script_of (plan_of c) p) (i + 1) ≡ Some f → ComesBefore e f
+    → slice_get (script_of (plan_of c) p) (i + 1) ≡ Some f → IsFollowedBy e f
 scripts_in_order n c valid p i e f a b =
     elim (cases_lt p n) [
-      | inl inside ↦ (script_is_in_order n c valid p inside).in_order i e f a b
+      | inl inside ↦ followed e f ((script_is_in_order n c valid p inside).in_order i e f a b)
       | inr outside ↦ absurd (nothing i e (rw (no_script n c valid p outside) at a))
     ]
 
@@ -290,7 +301,8 @@ valid_is_plan n c valid = record {
   always_funded = λ at. (force_funds n c valid at).enough;
   most_force = λ at. (force_funds n c valid at).few;
   soon = soon c.end_us valid.end_fits;
-  brief = λ p h. rw (script_of-plan_of c p (omega (arith, valid.settings_count))) (length-script n c valid (p + 1));
+  brief = λ p h. (let short = length-script n c valid (p + 1) in
+      rw (script_of-plan_of c p (omega (arith, valid.settings_count))) (omega (arith, short)));
   in_order = scripts_in_order n c valid;
   told = told n c valid;
 }

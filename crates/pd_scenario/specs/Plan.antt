@@ -1,6 +1,6 @@
 -- A plan, which is what a scenario asks of a charger, and what each plan keeps: this product's own.
 use Rattle.std.specs.Prelude.{◌≡◌, ℕ, ◌≤◌, ◌<◌, ◌⊎◌, ◌+◌, Bool, true, false, ◌&&◌, ◌||◌, ◌==◌, nat_le, nat_lt, List, [], length, map, fold}
-use Rattle.std.specs.Prelude.{sum, Option, Some, None, slice_get, slice_index_or, Contains, if◌then◌else◌}
+use Rattle.std.specs.Prelude.{sum, Option, Some, None, slice_get, slice_index_or, slice_set, Contains, if◌then◌else◌}
 use Rattle.pd_setup.specs.Settings.{SettingsData, floor_of}
 use Rattle.pd_setup.specs.Events.{EventData}
 use Rattle.pd_setup.specs.declared.event.Happening.{Happening}
@@ -32,6 +32,10 @@ settings_of plan p = slice_index_or plan.settings p no_settings
 abbrev pub script_of : Plan → ℕ → List EventData
 script_of plan p = slice_index_or plan.scripts p []
 
+-- the plan with another script of a port
+abbrev pub with_script : Plan → ℕ → List EventData → Plan
+with_script plan p events = record plan { scripts = slice_set plan.scripts p events }
+
 -- the floors in microwatts
 abbrev pub floors_of : Plan → List ℕ
 floors_of plan = map floor_of plan.settings
@@ -44,6 +48,15 @@ number_of Budget = 0
 -- an event comes before another by its time, and at one time by its number
 abbrev pub ComesBefore : EventData → EventData → Type 0
 ComesBefore e f = (e.at < f.at) ⊎ ((e.at ≡ f.at) × (number_of e.happening < number_of f.happening))
+
+-- it is a change of the budget, of which all ports are told
+abbrev pub is_change : Happening → Bool
+is_change (Port id kind) = false
+is_change Budget = true
+
+-- Of two events of a port one behind the other, the second is later; or at one time it is no change of the budget, which comes first.
+abbrev pub IsFollowedBy : EventData → EventData → Type 0
+IsFollowedBy e f = (e.at < f.at) ⊎ ((e.at ≡ f.at) × (is_change f.happening ≡ false))
 
 -- what tells a port that the budget changes at a time
 abbrev pub told_at : ℕ → EventData
@@ -70,8 +83,16 @@ budget_after budget (Some change) = change.budget
 unfoldable pub force : Plan → ℕ → ℕ
 force plan at = budget_after plan.budget (last_change plan.forces at)
 
--- What the plan of each scenario of n ports keeps: floors within the budget at all times, an end within two minutes, few
--- events, in the order of their times and numbers, and among them one for each change of the budget.
+-- What a port's script keeps beside these changes of the budget: few events, in the order of their times, and among them one for
+-- each of the changes, which comes first of its time.
+pub record IsScripted (forces : List BudgetChange) (events : List EventData) : Type 0 where
+  pub brief : length events ≤ 1000000
+  pub in_order : (i : ℕ) (e f : EventData) → slice_get events i ≡ Some e → slice_get events (i + 1) ≡ Some f → IsFollowedBy e f
+  pub told : (change : BudgetChange) → Contains forces change → Contains events (told_at change.at)
+
+-- What the plan of each scenario of n ports keeps, and one with more events of a port: floors within the budget at
+-- all times, an end within two minutes, few events, in the order of their times, and among them one for each change of the budget, which
+-- comes first of its time.
 pub record IsPlan (n : ℕ) (plan : Plan) : Type 0 where
   pub settings_count : length plan.settings ≡ n
   pub scripts_count : length plan.scripts ≡ n
@@ -82,8 +103,8 @@ pub record IsPlan (n : ℕ) (plan : Plan) : Type 0 where
   pub always_funded : (at : ℕ) → sum (floors_of plan) ≤ force plan at
   pub most_force : (at : ℕ) → force plan at ≤ 1000000000
   pub soon : plan.end ≤ 120000000
-  pub brief : (p : ℕ) → p < n → length (script_of plan p) ≤ 4096
+  pub brief : (p : ℕ) → p < n → length (script_of plan p) ≤ 1000000
   pub in_order : (p i : ℕ) (e f : EventData) → slice_get (script_of plan p) i ≡ Some e
-      → slice_get (script_of plan p) (i + 1) ≡ Some f → ComesBefore e f
+      → slice_get (script_of plan p) (i + 1) ≡ Some f → IsFollowedBy e f
   pub told : (p : ℕ) → p < n → (change : BudgetChange) → Contains plan.forces change
       → Contains (script_of plan p) (told_at change.at)

@@ -47,6 +47,20 @@ impl Changes {
         Ok(Changes { made, by_time })
     }
 
+    /// The same changes.
+    ///
+    /// # Errors
+    /// There is no memory.
+    pub fn copy(&self, alloc: Global) -> Result<Changes, AllocError>
+        ensures { IfOk result (λ changes. changes ≡ self.now) }
+    {
+        let mut made = Vec::new(alloc);
+        made.extend_from_slice(&self.made)?;
+        let mut by_time = Vec::new(alloc);
+        by_time.extend_from_slice(&self.by_time)?;
+        Ok(Changes { made, by_time })
+    }
+
     /// The changes in the order of their making.
     pub fn as_slice(&self) -> &[BudgetChange]
         ensures { result.now ≡ self.now }

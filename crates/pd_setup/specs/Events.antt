@@ -33,9 +33,9 @@ pub record EventData : Type 0 where
   pub at : ℕ
   pub happening : Happening
 
--- an event of the port has an id from 1 to 1,000,000
+-- an event of the port has an id up to 1,000,000: that of a scenario's event, which is from 1 on, or 0 where it stands in no scenario
 abbrev pub HasId : Happening → Type 0
-HasId (Port id kind) = (1 ≤ id) × (id ≤ 1000000)
+HasId (Port id kind) = id ≤ 1000000
 HasId Budget = Unit {0}
 
 -- within two minutes

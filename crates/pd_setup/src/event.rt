@@ -96,8 +96,8 @@ impl PortEventKind {
     }
 }
 
-/// What happens: something to the port itself, under an id from 1 to 1,000,000, or a change of the budget that all ports
-/// share.
+/// What happens: something to the port itself, or a change of the budget that all ports share. The id is that of a scenario's event,
+/// from 1 to 1,000,000; or 0, where the event stands in no scenario.
 #[derive(Clone, Copy, Debug)]
 pub enum Happening {
     Port { id: u32, kind: PortEventKind },
