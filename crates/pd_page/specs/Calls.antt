@@ -22,7 +22,6 @@ use Rattle.pd_sweep.specs.Counts.{HasPackets}
 use Rattle.pd_sweep.specs.Sweeps.{WroteSweep}
 use Rattle.pd_sweep.specs.declared.choice.Campaign.{Campaign}
 use Rattle.pd_sweep.specs.declared.choice.Choice.{Choice as Packets}
-use Rattle.pd_sweep.specs.declared.form.Form.TheVariants as sweep_form
 use Rattle.pd_sweep.specs.declared.part.Part.{Part}
 use Rattle.pd_sweep.specs.declared.tally.Tally.{Tally}
 use Rattle.pd_save.specs.EditLines.{Lists}
@@ -31,6 +30,7 @@ use Rattle.pd_expect.specs.Cases.{cases_text, tally_of}
 use Rattle.pd_expect.specs.Tests.{Tests}
 use Rattle.pd_expect.specs.Words.{tally_object}
 use Rattle.pd_expect.specs.declared.case.Case.{Case}
+use Rattle.pd_page.specs.Choices.{each_packet}
 use Rattle.pd_page.specs.Logs.{TellsLog}
 use Rattle.pd_page.specs.declared.ending.Ending.{Ending}
 use Rattle.pd_page.specs.declared.ending.Ending.TheVariants.{Done, Refused, NoSuchPort, NoMemory, TooLong}
@@ -83,7 +83,7 @@ Guarantees script = Tells [] None (λ n s out. out ≡ charger_text form.Json (c
 abbrev pub Sweeps : Campaign → Part → List ℕ → List ℕ → Ending → List ℕ → Type 0
 Sweeps campaign part script =
     Tells [] campaign.choice.port
-    (λ n s out. (tally : Tally) × WroteSweep n (left_by script n s) campaign (Some part) sweep_form.Json (Some []) (Some out) tally)
+    (λ n s out. (tally : Tally) × WroteSweep n (left_by script n s) campaign (Some part) each_packet (Some []) (Some out) tally)
 
 -- how many packets its sweep has
 abbrev pub Counts : Packets → List ℕ → List ℕ → Ending → ℕ → Type 0

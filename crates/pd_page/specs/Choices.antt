@@ -7,6 +7,8 @@ use Rattle.pd_sweep.specs.declared.choice.Campaign.{Campaign}
 use Rattle.pd_sweep.specs.declared.choice.Choice.{Choice as Packets}
 use Rattle.pd_sweep.specs.declared.choice.Loss.{Loss}
 use Rattle.pd_sweep.specs.declared.choice.Loss.TheVariants.{Damaged, Lost}
+use Rattle.pd_sweep.specs.declared.form.Form.TheVariants as sweep_form
+use Rattle.pd_sweep.specs.declared.form.Look.{Look as Telling}
 use Rattle.pd_sweep.specs.declared.part.Part.{Part}
 use Rattle.pd_why.specs.declared.question.Question.{Question}
 
@@ -42,3 +44,7 @@ campaign_of packets damaged behind = record { choice = packets; loss = loss_of d
 
 abbrev pub part_of : ℕ → ℕ → Part
 part_of first count = record { first = first; count = count }
+
+-- an object for each packet that is tried
+abbrev pub each_packet : Telling
+each_packet = record { form = sweep_form.Json; changed = false; by_message = false }

@@ -10,7 +10,7 @@ use crate::answer::{Answer, no_output};
 use crate::choices::port_of;
 use crate::ending::scene_ending;
 use pd_port::Meter;
-use pd_sweep::{Campaign, Choice, Form, Loss, Part, Refused, packet_count, sweep_part_text};
+use pd_sweep::{Campaign, Choice, Form, Look, Loss, Part, Refused, packet_count, sweep_part_text};
 use std::alloc::Global;
 
 /// The packets of a port, or of all, from one time to another.
@@ -44,6 +44,11 @@ fn swept(
     ensures { Sweeps campaign.now part script.now scenario.now result.ending result.text.items }
 {
     let mut output = no_output(alloc);
+    let look = Look {
+        form: Form::Json,
+        changed: false,
+        by_message: false,
+    };
     match sweep_part_text(
         alloc,
         scenario,
@@ -51,7 +56,7 @@ fn swept(
         Refused::Skipped,
         campaign,
         part,
-        Form::Json,
+        look,
         &mut output,
         meter,
     ) {
@@ -103,7 +108,7 @@ pub extern "C" fn page_sweep(
     from: u64,
     to: u64,
     damaged: bool,
-    behind: u32,
+    behind: u8,
     first: u64,
     count: u64,
     meter: &mut Meter,
@@ -116,7 +121,7 @@ pub extern "C" fn page_sweep(
     let campaign = Campaign {
         choice: packets_of(port, from, to),
         loss: loss_of(damaged),
-        behind: u64::from(behind),
+        behind,
         reserve: None,
     };
     let part = Part {

@@ -2,6 +2,7 @@
 use Rattle.std.proofs.Common.{◌≡◌, ℕ, true, List, ap, ◌∙◌}
 use Rattle.pd_port.specs.declared.entry.Entry.{Entry}
 use Rattle.pd_run.specs.Shown.{Shows}
+use Rattle.pd_scenario.specs.Plan.{Plan}
 use Rattle.pd_scenario.specs.Plans.{plan_of}
 use Rattle.pd_scenario.specs.Scenarios.{ScenarioData}
 use Rattle.pd_sweep.specs.Beside.{AreInOrder, measures_by}
@@ -18,10 +19,10 @@ module _ (c : ScenarioData) (base : Base) (is : IsBaseOf c base) (end : ℕ) (sa
   pub base_in_order : AreInOrder end base.steps.items
   base_in_order = rw same is.is.in_order
 
-  pub is_effect : (v : ScenarioData) (target : Target) (effect : Effect) (moves : List (ℕ × Entry)) → Shows (plan_of v) moves
-      → is_hit c.events target moves ≡ true → AreFindings (plan_of v) moves effect.findings
-      → effect.measures ≡ measures_by end base.steps.items (steps_of end moves) → IsEffect c v target effect
-  is_effect v target effect moves shows hit found measured = record {
+  pub is_effect : (plan : Plan) (target : Target) (effect : Effect) (moves : List (ℕ × Entry)) → Shows plan moves
+      → is_hit c.events target moves ≡ true → AreFindings plan moves effect.findings
+      → effect.measures ≡ measures_by end base.steps.items (steps_of end moves) → IsEffect c plan target effect
+  is_effect plan target effect moves shows hit found measured = record {
     base = is.moves;
     base_shows = is.shows;
     moves = moves;

@@ -1,12 +1,11 @@
 -- Looking for a packet that is hit.
-use Rattle.std.proofs.Common.{◌≡◌, ◌⊎◌, ℕ, zero, suc, ◌+◌, ◌<◌, ◌≤◌, Bool, true, false, cond, List, [], ◌∷◌, ◌++◌, length, drop, map, min}
-use Rattle.std.proofs.Common.{get_or, Option, Some, None, refl, sym, ap, ◌∙◌, subst, inl, inr, arith, fold, slice_get}
-use Rattle.std.specs.Prelude.{◌==◌, ◌&&◌, ◌||◌, Contains, MatchOption, option_map}
-use Rattle.std.specs.List.{AllByRecursion}
-use Rattle.std.proofs.lemmas.Bool.{and_parts, cases_Bool}
+use Rattle.std.proofs.Common.{◌≡◌, ℕ, ◌+◌, ◌-◌, ◌<◌, ◌≤◌, Bool, true, false, cond, List, [], ◌∷◌, ◌++◌, length, drop, map, min}
+use Rattle.std.proofs.Common.{Option, Some, None, refl, sym, ap, ◌∙◌, subst, inl, inr, arith, fold, slice_get}
+use Rattle.std.specs.Prelude.{◌==◌, ◌&&◌, ◌||◌, Contains, MatchOption, option_map, replicate}
+use Rattle.std.proofs.lemmas.Bool.{cases_Bool}
 use Rattle.std.proofs.lemmas.List.{drop_all}
 use Rattle.std.proofs.lemmas.Option.{get_or_from_slice_get, same_Some, slice_get_within}
-use Rattle.pd_setup.specs.Events.{EventData, PortEventKind}
+use Rattle.pd_setup.specs.Events.{EventData}
 use Rattle.pd_setup.specs.declared.event.EventKind.TheVariants.{Attach, Detach, Demand, Lose, Damage, GetSource, GetSink}
 use Rattle.pd_setup.specs.declared.event.Happening.{Happening}
 use Rattle.pd_setup.specs.declared.event.Happening.TheVariants as happens
@@ -26,18 +25,22 @@ use Rattle.pd_scenario.specs.Plan.{Plan, count, script_of}
 use Rattle.pd_scenario.specs.Plans.{plan_of}
 use Rattle.pd_scenario.specs.Scenarios.{ScenarioData}
 use Rattle.pd_scenario.specs.Script.{event_for, events_for, resolved, script, seen_by}
-use Rattle.pd_scenario.proofs.Lists.{From, cases, filter_map_from, none}
+use Rattle.pd_scenario.proofs.Lists.{cases, filter_map_from, none}
 use Rattle.pd_scenario.proofs.Ordered.{each_only}
 use Rattle.pd_scenario.proofs.Plans.{script_of-plan_of}
 use Rattle.pd_run.specs.Order.{EachAfter}
-use Rattle.pd_run.specs.Run.{GoesOn, Move, shown}
+use Rattle.pd_run.specs.Run.{GoesOn, Move, shown, standing}
 use Rattle.pd_run.specs.Shown.{AreEntriesOf}
 use Rattle.pd_report.proofs.MarginLemmas.{at-due, drop-next}
 use Rattle.pd_watch.specs.Watch.{WatchData}
-use Rattle.pd_sweep.specs.Along.{disturbs, disturbs_on, earlier_disturbance, first_disturbance, is_disturbance}
+use Rattle.pd_sweep.specs.Along.{IsQuietBefore, disturbs, disturbs_happening, disturbs_kind, disturbs_on, earlier_disturbance}
+use Rattle.pd_sweep.specs.Along.{first_disturbance, is_disturbance}
+use Rattle.pd_sweep.specs.Lost.{lost, put_in}
 use Rattle.pd_sweep.specs.Trials.{hit_from, hits, watched_on}
 use Rattle.pd_sweep.specs.declared.packets.Target.{Target}
-use Rattle.pd_sweep.proofs.WatchLemmas.{QuietBefore, disturbs_happening, disturbs_kind, disturbs_what}
+use Rattle.pd_sweep.specs.declared.choice.Loss.{Loss}
+use Rattle.pd_sweep.proofs.LostLemmas.{events_are, its_events, only_one, own_script, same_count, scripts_known}
+use Rattle.pd_sweep.proofs.WatchLemmas.{QuietBefore, disturbs_what}
 
 -- ---- the first event that disturbs a packet
 
@@ -83,15 +86,12 @@ made_of at (Some y) x h =
     let is : record { at = at; happening = y } ≡ x = same_Some (record { at = at; happening = y }) x h in
     (ap (λ (z : EventData). z.at) is, ap (λ (z : EventData). Some z.happening) is)
 
-pub is_of : (v : ScenarioData) (p i : ℕ) (x : EventData) → p < count (plan_of v) → slice_get (script_of (plan_of v) p) i ≡ Some x
-    → IsOf v (p + 1) x
+pub is_of : (v : ScenarioData) (p : ℕ) (x : EventData) → p < count (plan_of v) → Contains (script_of (plan_of v) p) x → IsOf v (p + 1) x
 unfolding plan_of script
-is_of v p i x known get =
+is_of v p x known there =
     let list : script_of (plan_of v) p ≡ script v.cables v.sinks v.events (p + 1) = script_of-plan_of v p known in
-    let got : slice_get (script v.cables v.sinks v.events (p + 1)) i ≡ Some x = ap (λ l. slice_get l i) (sym list) ∙ get in
-    let inside = slice_get_within (script v.cables v.sinks v.events (p + 1)) i x got in
-    let there : Contains (script v.cables v.sinks v.events (p + 1)) x = (i, inside, get_or_from_slice_get _ i x x got) in
-    elim (each_only [] (events_for v.cables v.sinks (p + 1) v.events) x there) [
+    let its : Contains (script v.cables v.sinks v.events (p + 1)) x = subst (λ l. Contains l x) list there in
+    elim (each_only [] (events_for v.cables v.sinks (p + 1) v.events) x its) [
       | inl early ↦ absurd (none x early)
       | inr made ↦
           let from = filter_map_from (event_for v.cables v.sinks (p + 1)) v.events x made in
@@ -132,44 +132,68 @@ unfolding entry_of
 entry_due plan past m h = ap (λ (e : Entry). e.due) h.entry_is
 
 -- the event that a move is for, of which its port's script tells
-pub event_of : (v : ScenarioData) (past : List Move) (m : Move) (x : EventData) → GoesOn (plan_of v) past m
-    → m.entry.due.what ≡ what.Event x → IsOf v (m.port + 1) x × (m.due.time ≡ x.at)
-event_of v past m x goes is =
-    let here : m.due.what ≡ what.Event x = ap (λ (d : Due). d.what) (sym (entry_due (plan_of v) past m goes)) ∙ is in
-    let next = due_event _ _ m.due x goes.due_is here in
-    (is_of v m.port _ x goes.known next.0, next.1)
+pub event_in : (plan : Plan) (past : List Move) (m : Move) (x : EventData) → GoesOn plan past m → m.entry.due.what ≡ what.Event x
+    → Contains (script_of plan m.port) x × (m.due.time ≡ x.at)
+event_in plan past m x goes is =
+    let here : m.due.what ≡ what.Event x = ap (λ (d : Due). d.what) (sym (entry_due plan past m goes)) ∙ is in
+    let taken = (standing plan past m.port).taken in
+    let next = due_event _ (slice_get (script_of plan m.port) taken) m.due x goes.due_is here in
+    let inside = slice_get_within (script_of plan m.port) taken x next.0 in
+    ((taken, inside, get_or_from_slice_get (script_of plan m.port) taken x x next.0), next.1)
 
-quiet_move : (v : ScenarioData) (past : List Move) (m : Move) (t : Target) → GoesOn (plan_of v) past m
-    → m.entry.at < first_disturbance v.events t.port t.at → m.port + 1 ≡ t.port → disturbs_what m.entry.due.what ≡ false
-quiet_move v past m t goes early port = by_what m.entry.due.what refl
-  where
-    by_event : (x : EventData) → m.entry.due.what ≡ what.Event x → disturbs_happening x.happening ≡ false
-    by_event x is =
-        elim (cases_Bool (disturbs_happening x.happening)) [
-          | inl so ↦
-              let of = event_of v past m x goes is in
-              let e = (of.0).event in
-              let on_time = (of.0).on_time in
-              let test : is_disturbance t.port e ≡ true =
-              seen_disturbs v.cables v.sinks t.port e.id e.happening x.happening
-              (ap (λ q. seen_by v.cables v.sinks q e.id e.happening) (sym port) ∙ (of.0).is) so in
-              let by = first_by t.port v.events t.at e (of.0).there test in
-              let at = at-due (plan_of v) past m goes in
-              let due = of.1 in
-              absurd (omega arith)
-          | inr not_so ↦ not_so
-        ]
+-- of the events of a scenario
+pub quiet_scenario : (v : ScenarioData) (t : Target) → IsQuietBefore (plan_of v) t.port (first_disturbance v.events t.port t.at)
+quiet_scenario v t p e known port there so =
+    let of = is_of v p e known there in
+    let test : is_disturbance t.port of.event ≡ true =
+    seen_disturbs v.cables v.sinks t.port of.event.id of.event.happening e.happening
+    (ap (λ q. seen_by v.cables v.sinks q of.event.id of.event.happening) (sym port) ∙ of.is) so in
+    let by = first_by t.port v.events t.at of.event of.there test in
+    let on_time = of.on_time in
+    omega arith
 
-    by_what : (x : What) → m.entry.due.what ≡ x → disturbs_what x ≡ false
-    by_what (what.Event x) is = by_event x is
-    by_what what.Line is = refl
-    by_what (what.Timer side timer) is = refl
+-- and of those that were put in
+pub quiet_lost : (c : ScenarioData) (loss : Loss) (behind : ℕ) (t : Target)
+    → IsQuietBefore (lost (plan_of c) loss behind t) t.port (first_disturbance c.events t.port t.at)
+quiet_lost c loss behind t p e known port there so =
+    let own : p < count (plan_of c) = rw (sym (same_count (plan_of c) loss behind t)) known in
+    let place : p ≡ t.port - 1 = omega arith in
+    let its : Contains (its_events (plan_of c) loss behind t) e =
+    subst (λ l. Contains l e) (own_script (plan_of c) loss behind t p (scripts_known c p own) place) there in
+    elim (events_are (replicate (behind + 1) (put_in loss t.at)) t.at (script_of (plan_of c) (t.port - 1)) e its) [
+      | inl new ↦
+          let one : put_in loss t.at ≡ e = only_one (behind + 1) (put_in loss t.at) e new in
+          let on_time : t.at ≡ e.at = ap (λ (x : EventData). x.at) one in
+          let soon = first_soon t.port c.events t.at in
+          omega arith
+      | inr old ↦ quiet_scenario c t p e own port (subst (λ q. Contains (script_of (plan_of c) q) e) (sym place) old) so
+    ]
 
-pub quiet_before : (v : ScenarioData) (past ms : List Move) (t : Target) → EachAfter (GoesOn (plan_of v)) past ms
-    → QuietBefore t (first_disturbance v.events t.port t.at) (map shown ms)
-quiet_before v past [] t goes = tt
-quiet_before v past (m ∷ ms) t goes =
-    (λ early port. quiet_move v past m t goes.0 early port, quiet_before v (past ++ m ∷ []) ms t goes.1)
+module _ (plan : Plan) (t : Target) (first : ℕ) (quiet : IsQuietBefore plan t.port first) where
+  quiet_move : (past : List Move) (m : Move) → GoesOn plan past m → m.entry.at < first → m.port + 1 ≡ t.port
+      → disturbs_what m.entry.due.what ≡ false
+  quiet_move past m goes early port = by_what m.entry.due.what refl
+    where
+      by_event : (x : EventData) → m.entry.due.what ≡ what.Event x → disturbs_happening x.happening ≡ false
+      by_event x is =
+          elim (cases_Bool (disturbs_happening x.happening)) [
+            | inl so ↦
+                let has = event_in plan past m x goes is in
+                let late = quiet m.port x goes.known port has.0 so in
+                let at = at-due plan past m goes in
+                let due = has.1 in
+                absurd (omega arith)
+            | inr not_so ↦ not_so
+          ]
+
+      by_what : (x : What) → m.entry.due.what ≡ x → disturbs_what x ≡ false
+      by_what (what.Event x) is = by_event x is
+      by_what what.Line is = refl
+      by_what (what.Timer side timer) is = refl
+
+  quiet_moves : (past ms : List Move) → EachAfter (GoesOn plan) past ms → QuietBefore t first (map shown ms)
+  quiet_moves past [] goes = tt
+  quiet_moves past (m ∷ ms) goes = (λ early port. quiet_move past m goes.0 early port, quiet_moves (past ++ m ∷ []) ms goes.1)
 
 -- ---- one more entry is looked at
 
@@ -195,10 +219,10 @@ module _ (events : List ScenarioEvent) (t : Target) (moves : List (ℕ × Entry)
       or_none true = refl
       or_none false = refl
 
--- the entries of a runner that stands for a scenario
-pub quiet_in : (n : ℕ) (v : ScenarioData) (moves : List (ℕ × Entry)) (o : Option Plan) (t : Target) → o ≡ Some (plan_of v)
-    → AreEntriesOf n o moves → QuietBefore t (first_disturbance v.events t.port t.at) moves
-quiet_in n v moves o t is are =
+-- the entries of a runner that stands for a plan
+pub quiet_in : (n : ℕ) (plan : Plan) (moves : List (ℕ × Entry)) (o : Option Plan) (t : Target) (first : ℕ) → o ≡ Some plan
+    → IsQuietBefore plan t.port first → AreEntriesOf n o moves → QuietBefore t first moves
+quiet_in n plan moves o t first is quiet are =
     let s = subst (λ p. AreEntriesOf n p moves) is are in
-    subst (QuietBefore t (first_disturbance v.events t.port t.at)) (sym s.shows.entries_are)
-    (quiet_before v [] s.shows.moves t s.shows.safe.run.chained)
+    subst (QuietBefore t first) (sym s.shows.entries_are)
+    (quiet_moves plan t first quiet [] s.shows.moves s.shows.safe.run.chained)

@@ -6,10 +6,14 @@ mod HitLemmas
 mod IdLemmas
 mod InstantLemmas
 mod JoinLemmas
+mod LimitLemmas
+mod LostLemmas
+mod PacketLemmas
 mod PlaceLemmas
 mod QuietLemmas
-mod RowLemmas
+mod ShareLemmas
 mod StepLemmas
+mod SumLemmas
 mod SweepLemmas
 pub mod TrialLemmas
 mod TruthLemmas

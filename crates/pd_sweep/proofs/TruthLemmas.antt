@@ -1,8 +1,7 @@
 -- A packet that is hit has taken the disturbance of an event that was put in for it.
-use Rattle.std.proofs.Common.{◌≡◌, ◌≢◌, ◌⊎◌, ℕ, zero, suc, ◌+◌, ◌-◌, ◌<◌, Bool, true, false, cond, List, [], ◌∷◌, ◌++◌, length, map}
-use Rattle.std.proofs.Common.{get_or, set, drop, fold, Option, Some, None, Result, Ok, Err, refl, sym, ap, ◌∙◌, subst, inl, inr, ⊎_elim}
-use Rattle.std.proofs.Common.{arith}
-use Rattle.std.specs.Prelude.{◌==◌, ◌&&◌, ◌||◌, Contains, MatchBool, find}
+use Rattle.std.proofs.Common.{◌≡◌, ◌≢◌, ◌⊎◌, ℕ, suc, ◌+◌, ◌-◌, ◌<◌, Bool, true, false, cond, List, [], ◌∷◌, ◌++◌, length, map}
+use Rattle.std.proofs.Common.{get_or, set, drop, fold, Option, Some, None, refl, sym, ap, ◌∙◌, subst, inl, inr, ⊎_elim, arith}
+use Rattle.std.specs.Prelude.{◌==◌, ◌&&◌, ◌||◌, Contains, MatchBool, replicate}
 use Rattle.std.specs.List.{AllByRecursion}
 use Rattle.std.proofs.lemmas.Bool.{and_parts, cases_Bool, cases_eq, eq-eqb, eqb-true, ne_eqb, not-true}
 use Rattle.std.proofs.lemmas.List.{get_or-replicate, get_or-set_other, get_or-set_same, length-replicate}
@@ -28,15 +27,11 @@ use Rattle.pd_scenario.specs.declared.event.ScenarioEvent.{ScenarioEvent}
 use Rattle.pd_scenario.specs.declared.event.ScenarioHappening.{ScenarioHappening}
 use Rattle.pd_scenario.specs.declared.event.ScenarioHappening.TheVariants.{OnPort, Budget}
 use Rattle.pd_scenario.specs.Events.{ScenarioEventKind}
-use Rattle.pd_scenario.specs.Plan.{count}
+use Rattle.pd_scenario.specs.Plan.{Plan, count, script_of}
 use Rattle.pd_scenario.specs.Plans.{plan_of}
 use Rattle.pd_scenario.specs.Scenarios.{ScenarioData, has_id}
 use Rattle.pd_scenario.specs.Script.{resolved, seen_by}
 use Rattle.pd_scenario.proofs.Lists.{cases, none}
-use Rattle.pd_edit.specs.Edits.{inserted_event, outcome}
-use Rattle.pd_edit.specs.Refusals.{answered, edited, refusals, refuses}
-use Rattle.pd_edit_lines.specs.declared.edit.EditHappening.TheVariants as edit
-use Rattle.pd_edit_lines.specs.declared.fault.EditFault.{EditFault}
 use Rattle.pd_run.specs.Order.{EachAfter}
 use Rattle.pd_run.specs.Run.{GoesOn, Move, Run, shown}
 use Rattle.pd_run.proofs.OneRun.{run_unique}
@@ -49,71 +44,17 @@ use Rattle.pd_watch.proofs.Watched.{step_length, takers_are_named}
 use Rattle.pd_sweep.specs.Laws.{HitsAreTrue, IsHit, MeasuresAreTrue, RanHit}
 use Rattle.pd_sweep.specs.Measures.{measures_of}
 use Rattle.pd_sweep.specs.Summaries.{AreFindings}
-use Rattle.pd_sweep.specs.Trials.{IsOfVariant, hit_from, hits, is_packet, is_put_in, set_place, side_place, watched_on}
-use Rattle.pd_sweep.specs.Variants.{free_id, goes_on, insertion, kind_of, least_id, refused_as, row_variant, variant, with_id}
+use Rattle.pd_sweep.specs.Lost.{harm_of, lost, put_in}
+use Rattle.pd_sweep.specs.Trials.{IsRunOf, hit_from, hits, is_packet, is_put_in, set_place, side_place, watched_on}
 use Rattle.pd_sweep.specs.declared.choice.Campaign.{Campaign}
 use Rattle.pd_sweep.specs.declared.choice.Loss.{Loss}
 use Rattle.pd_sweep.specs.declared.effect.Effect.{Effect}
 use Rattle.pd_sweep.specs.declared.packets.Target.{Target}
 use Rattle.pd_sweep.specs.declared.trial.Outcome.TheVariants.{Ran, Disturbed}
-use Rattle.pd_sweep.specs.declared.variant.Obstacle.{Obstacle}
-use Rattle.pd_sweep.proofs.HitLemmas.{event_of}
+use Rattle.pd_sweep.proofs.HitLemmas.{event_in, is_of}
+use Rattle.pd_sweep.proofs.LostLemmas.{events_are, new_there, only_one, other_script, own_script, same_count, scripts_known}
 
--- ---- the events of a variant
-
--- an event of the variant is one of the scenario's, or was put in
-abbrev IsOldOrNew : ScenarioData → Loss → Target → ScenarioEvent → Type 0
-IsOldOrNew c harm t e = Contains c.events e ⊎ (e ≡ inserted_event e.id t.at (edit.OnPort t.port (kind_of harm)))
-
-last_or_before : {X : Type 0} (xs : List X) (x e : X) → Contains (xs ++ x ∷ []) e → Contains xs e ⊎ (x ≡ e)
-last_or_before [] x e h = elim (cases x e [] h) [ inl is ↦ inr is | inr more ↦ absurd (none e more) ]
-last_or_before (y ∷ ys) x e h =
-    elim (cases y e (ys ++ x ∷ []) h) [
-      | inl is ↦ inl (0, omega arith, is)
-      | inr more ↦ elim (last_or_before ys x e more) [
-        | inl before ↦ inl (suc before.0, (let k = before.1 in omega arith), before.2)
-        | inr last ↦ inr last
-      ]
-    ]
-
-module _ (n : ℕ) (harm : Loss) (t : Target) where
-  of_answer : (o : Option EditFault) (c new v : ScenarioData) → refused_as (answered o new) ≡ Ok v → new ≡ v
-  of_answer None c new v h = cc
-  of_answer (Some fault) c new v h = absurd (cc)
-
-  of_id : (o : Option ℕ) (c v : ScenarioData) (e : ScenarioEvent) → with_id n c harm t o ≡ Ok v → Contains v.events e
-      → IsOldOrNew c harm t e
-  unfolding edited
-  of_id None c v e h there = absurd (cc)
-  of_id (Some id) c v e h there =
-      let one : ScenarioEvent = inserted_event id t.at (edit.OnPort t.port (kind_of harm)) in
-      let is = of_answer (find (λ fault. refuses fault n c (insertion harm t id)) refusals) c (outcome c (insertion harm t id)) v h in
-      let in_all : Contains (c.events ++ one ∷ []) e =
-      subst (λ l. Contains l e) (sym (ap (λ (x : ScenarioData). x.events) is)) there in
-      elim (last_or_before c.events one e in_all) [
-        | inl old ↦ inl old
-        | inr last ↦
-            let same_id : id ≡ e.id = ap (λ (x : ScenarioEvent). x.id) last in
-            inr (sym last ∙ ap (λ k. inserted_event k t.at (edit.OnPort t.port (kind_of harm))) same_id)
-      ]
-
-  one_put_in : (c v : ScenarioData) (e : ScenarioEvent) → variant n c harm t ≡ Ok v → Contains v.events e → IsOldOrNew c harm t e
-  unfolding variant
-  one_put_in c v e h there = of_id (free_id c.events (least_id c.events t.port t.at - 1)) c v e h there
-
-  of_row : (behind : ℕ) (c v : ScenarioData) (e : ScenarioEvent) (r : Result ScenarioData Obstacle) → variant n c harm t ≡ r
-      → goes_on r (λ more. row_variant behind n more harm t) ≡ Ok v
-      → ((more : ScenarioData) → row_variant behind n more harm t ≡ Ok v → IsOldOrNew more harm t e) → IsOldOrNew c harm t e
-  of_row behind c v e (Ok more) is h rest =
-      elim (rest more h) [ inl old ↦ one_put_in c more e is old | inr new ↦ inr new ]
-  of_row behind c v e (Err obstacle) is h rest = absurd (cc)
-
-  row_put_in : (behind : ℕ) (c v : ScenarioData) (e : ScenarioEvent) → row_variant behind n c harm t ≡ Ok v → Contains v.events e
-      → IsOldOrNew c harm t e
-  unfolding row_variant
-  row_put_in zero c v e h there = one_put_in c v e h there
-  row_put_in (suc behind) c v e h there =
-      of_row behind c v e (variant n c harm t) refl h (λ more k. row_put_in behind more v e k there)
+-- ---- what waits is of the scenario's events, or was put in
 
 known_id : (es : List ScenarioEvent) (e : ScenarioEvent) → Contains es e → has_id es e.id ≡ true
 known_id [] e h = absurd (none e h)
@@ -127,46 +68,42 @@ known_id (x ∷ es) e h =
     or_true true = refl
     or_true false = refl
 
--- ---- what waits is of the variant's events
+-- the id is that of an event of the scenario, or of one that stands in none
+abbrev IsKnown : ScenarioData → ℕ → Type 0
+IsKnown c id = (has_id c.events id ≡ true) ⊎ (id ≡ 0)
 
--- an event of the variant has the id
-record IsOfEvent (v : ScenarioData) (id : ℕ) : Type 0 where
-  event : ScenarioEvent
-  there : Contains v.events event
-  id_is : event.id ≡ id
+abbrev AreKnown : ScenarioData → List Disturber → Type 0
+AreKnown c ds = AllByRecursion (λ (d : Disturber). IsKnown c d.id) ds
 
-abbrev AreOfEvents : ScenarioData → List Disturber → Type 0
-AreOfEvents v ds = AllByRecursion (λ (d : Disturber). IsOfEvent v d.id) ds
+module _ (c : ScenarioData) (w : WatchData) (are : AreKnown c w.waiting) where
+  kind_known : (at id : ℕ) (kind : PortEventKind) → IsKnown c id → AreKnown c (after_kind w at id kind).waiting
+  kind_known at id Detach is = tt
+  kind_known at id Lose is = all-append (λ (d : Disturber). IsKnown c d.id) w.waiting (_ ∷ []) are (is, tt)
+  kind_known at id (Damage harm) is = all-append (λ (d : Disturber). IsKnown c d.id) w.waiting (_ ∷ []) are (is, tt)
+  kind_known at id _ is = are
 
-module _ (v : ScenarioData) (w : WatchData) (are : AreOfEvents v w.waiting) where
-  kind_of_event : (at id : ℕ) (kind : PortEventKind) → IsOfEvent v id → AreOfEvents v (after_kind w at id kind).waiting
-  kind_of_event at id Detach is = tt
-  kind_of_event at id Lose is = all-append (λ (d : Disturber). IsOfEvent v d.id) w.waiting (_ ∷ []) are (is, tt)
-  kind_of_event at id (Damage harm) is = all-append (λ (d : Disturber). IsOfEvent v d.id) w.waiting (_ ∷ []) are (is, tt)
-  kind_of_event at id _ is = are
+  happening_known : (at : ℕ) (ignored : Bool) (h : Happening)
+      → ((id : ℕ) (kind : PortEventKind) → h ≡ happens.Port id kind → IsKnown c id)
+      → AreKnown c (after_happening w at ignored h).waiting
+  happening_known at true h is = are
+  happening_known at false (happens.Port id kind) is = kind_known at id kind (is id kind refl)
+  happening_known at false happens.Budget is = are
 
-  happening_of_event : (at : ℕ) (ignored : Bool) (h : Happening)
-      → ((id : ℕ) (kind : PortEventKind) → h ≡ happens.Port id kind → IsOfEvent v id)
-      → AreOfEvents v (after_happening w at ignored h).waiting
-  happening_of_event at true h is = are
-  happening_of_event at false (happens.Port id kind) is = kind_of_event at id kind (is id kind refl)
-  happening_of_event at false happens.Budget is = are
+  what_known : (at : ℕ) (ignored : Bool) (x : What)
+      → ((e : EventData) (id : ℕ) (kind : PortEventKind) → x ≡ what.Event e → e.happening ≡ happens.Port id kind → IsKnown c id)
+      → AreKnown c (after_what w at ignored x).waiting
+  what_known at ignored (what.Event e) is = happening_known at ignored e.happening (λ id kind h. is e id kind refl h)
+  what_known at ignored what.Line is = are
+  what_known at ignored (what.Timer side timer) is = are
 
-  what_of_event : (at : ℕ) (ignored : Bool) (x : What)
-      → ((e : EventData) (id : ℕ) (kind : PortEventKind) → x ≡ what.Event e → e.happening ≡ happens.Port id kind → IsOfEvent v id)
-      → AreOfEvents v (after_what w at ignored x).waiting
-  what_of_event at ignored (what.Event e) is = happening_of_event at ignored e.happening (λ id kind h. is e id kind refl h)
-  what_of_event at ignored what.Line is = are
-  what_of_event at ignored (what.Timer side timer) is = are
+  drop_known : (b : Bool) → AreKnown c (cond b (record w { waiting = drop 1 w.waiting }) w).waiting
+  drop_known true = all-drop (λ (d : Disturber). IsKnown c d.id) w.waiting 1 are
+  drop_known false = are
 
-  drop_of_event : (b : Bool) → AreOfEvents v (cond b (record w { waiting = drop 1 w.waiting }) w).waiting
-  drop_of_event true = all-drop (λ (d : Disturber). IsOfEvent v d.id) w.waiting 1 are
-  drop_of_event false = are
-
-  start_of_event : (s : Option Start) → AreOfEvents v (after_start w s).waiting
-  start_of_event None = are
-  start_of_event (Some (start.HardReset side)) = are
-  start_of_event (Some (start.Packet side packet fate)) = drop_of_event (is_disturbed fate)
+  start_known : (s : Option Start) → AreKnown c (after_start w s).waiting
+  start_known None = are
+  start_known (Some (start.HardReset side)) = are
+  start_known (Some (start.Packet side packet fate)) = drop_known (is_disturbed fate)
 
 -- the id of an event of the port
 id_if : (b : Bool) (cables : List NamedCable) (sinks : List NamedSink) (id other : ℕ) (kind : ScenarioEventKind) (k : PortEventKind)
@@ -179,58 +116,79 @@ seen_id : (cables : List NamedCable) (sinks : List NamedSink) (port id other : �
 seen_id cables sinks port id other (OnPort p kind) k h = id_if (p == port) cables sinks id other kind k h
 seen_id cables sinks port id other (Budget mw) k h = absurd (cc)
 
-module _ (v : ScenarioData) where
-  -- what falls due is an event of the variant
-  of_variant : (past : List Move) (m : Move) → GoesOn (plan_of v) past m → (e : EventData) (id : ℕ) (kind : PortEventKind)
-      → m.entry.due.what ≡ what.Event e → e.happening ≡ happens.Port id kind → IsOfEvent v id
-  of_variant past m goes e id kind is h =
-      let of = (event_of v past m e goes is).0 in
-      record {
-        event = of.event;
-        there = of.there;
-        id_is = seen_id v.cables v.sinks (m.port + 1) of.event.id id of.event.happening kind (of.is ∙ ap Some h);
-      }
+-- an event that was put in has no id
+own_id : (loss : Loss) (at : ℕ) (e : EventData) (id : ℕ) (kind : PortEventKind) → put_in loss at ≡ e → e.happening ≡ happens.Port id kind
+    → id ≡ 0
+own_id loss at e id kind is h =
+    let same : happens.Port 0 (harm_of loss) ≡ happens.Port id kind = ap (λ (x : EventData). x.happening) is ∙ h in
+    cc
 
-  first_waits : (w : WatchData) (past : List Move) (m : Move) → GoesOn (plan_of v) past m → AreOfEvents v w.waiting
-      → AreOfEvents v (after_what w m.entry.at (is_ignored m.entry) m.entry.due.what).waiting
-  first_waits w past m goes are =
-      what_of_event v w are m.entry.at (is_ignored m.entry) m.entry.due.what
-      (λ e id kind is h. of_variant past m goes e id kind is h)
+module _ (c : ScenarioData) (loss : Loss) (behind : ℕ) (t : Target) where
+  abbrev changed : Plan
+  changed = lost (plan_of c) loss behind t
 
-  entry_of_event : (w : WatchData) (past : List Move) (m : Move) → GoesOn (plan_of v) past m → AreOfEvents v w.waiting
-      → AreOfEvents v (after_entry w m.entry).waiting
+  old_known : (p : ℕ) (e : EventData) (id : ℕ) (kind : PortEventKind) → p < count (plan_of c) → Contains (script_of (plan_of c) p) e
+      → e.happening ≡ happens.Port id kind → IsKnown c id
+  old_known p e id kind known there h =
+      let of = is_of c p e known there in
+      let same = seen_id c.cables c.sinks (p + 1) of.event.id id of.event.happening kind (of.is ∙ ap Some h) in
+      inl (ap (has_id c.events) (sym same) ∙ known_id c.events of.event of.there)
+
+  -- what falls due is such an event
+  due_known : (past : List Move) (m : Move) → GoesOn changed past m → (e : EventData) (id : ℕ) (kind : PortEventKind)
+      → m.entry.due.what ≡ what.Event e → e.happening ≡ happens.Port id kind → IsKnown c id
+  due_known past m goes e id kind is h =
+      let known : m.port < count (plan_of c) = rw (sym (same_count (plan_of c) loss behind t)) goes.known in
+      let there = (event_in changed past m e goes is).0 in
+      elim (cases_eq m.port (t.port - 1)) [
+        | inl own ↦
+            let its = subst (λ l. Contains l e) (own_script (plan_of c) loss behind t m.port (scripts_known c m.port known) own) there in
+            elim (events_are (replicate (behind + 1) (put_in loss t.at)) t.at (script_of (plan_of c) (t.port - 1)) e its) [
+              | inl new ↦ inr (own_id loss t.at e id kind (only_one (behind + 1) (put_in loss t.at) e new) h)
+              | inr old ↦ old_known m.port e id kind known (subst (λ q. Contains (script_of (plan_of c) q) e) (sym own) old) h
+            ]
+        | inr other ↦
+            old_known m.port e id kind known (subst (λ l. Contains l e) (other_script (plan_of c) loss behind t m.port other) there) h
+      ]
+
+  first_known : (w : WatchData) (past : List Move) (m : Move) → GoesOn changed past m → AreKnown c w.waiting
+      → AreKnown c (after_what w m.entry.at (is_ignored m.entry) m.entry.due.what).waiting
+  first_known w past m goes are =
+      what_known c w are m.entry.at (is_ignored m.entry) m.entry.due.what (λ e id kind is h. due_known past m goes e id kind is h)
+
+  entry_known : (w : WatchData) (past : List Move) (m : Move) → GoesOn changed past m → AreKnown c w.waiting
+      → AreKnown c (after_entry w m.entry).waiting
   unfolding after_entry
-  entry_of_event w past m goes are =
-      start_of_event v (after_what w m.entry.at (is_ignored m.entry) m.entry.due.what) (first_waits w past m goes are) m.entry.start
+  entry_known w past m goes are =
+      start_known c (after_what w m.entry.at (is_ignored m.entry) m.entry.due.what) (first_known w past m goes are) m.entry.start
 
-  on_of_event : (b : Bool) (w : WatchData) (past : List Move) (m : Move) → GoesOn (plan_of v) past m → AreOfEvents v w.waiting
-      → AreOfEvents v (cond b (after_entry w m.entry) w).waiting
-  on_of_event true w past m goes are = entry_of_event w past m goes are
-  on_of_event false w past m goes are = are
+  on_known : (b : Bool) (w : WatchData) (past : List Move) (m : Move) → GoesOn changed past m → AreKnown c w.waiting
+      → AreKnown c (cond b (after_entry w m.entry) w).waiting
+  on_known true w past m goes are = entry_known w past m goes are
+  on_known false w past m goes are = are
 
-  along_of_event : (t : Target) (w : WatchData) (past ms : List Move) → EachAfter (GoesOn (plan_of v)) past ms → AreOfEvents v w.waiting
-      → AreOfEvents v (fold (watched_on t) w (map shown ms)).waiting
-  along_of_event t w past [] goes are = are
-  along_of_event t w past (m ∷ ms) goes are =
-      along_of_event t (watched_on t w (shown m)) (past ++ m ∷ []) ms goes.1 (on_of_event (m.port + 1 == t.port) w past m goes.0 are)
+  along_known : (w : WatchData) (past ms : List Move) → EachAfter (GoesOn changed) past ms → AreKnown c w.waiting
+      → AreKnown c (fold (watched_on t) w (map shown ms)).waiting
+  along_known w past [] goes are = are
+  along_known w past (m ∷ ms) goes are =
+      along_known (watched_on t w (shown m)) (past ++ m ∷ []) ms goes.1 (on_known (m.port + 1 == t.port) w past m goes.0 are)
 
-  taken_of_event : (ds : List Disturber) (b : Bool) (d : Disturber) → AreOfEvents v ds → cond b (first_of ds) None ≡ Some d
-      → IsOfEvent v d.id
-  taken_of_event [] true d are h = absurd (cc)
-  taken_of_event [] false d are h = absurd (cc)
-  taken_of_event (x ∷ ds) true d are h = subst (λ (y : Disturber). IsOfEvent v y.id) (same_Some x d h) are.0
-  taken_of_event (x ∷ ds) false d are h = absurd (cc)
+  taken_known : (ds : List Disturber) (b : Bool) (d : Disturber) → AreKnown c ds → cond b (first_of ds) None ≡ Some d → IsKnown c d.id
+  taken_known [] true d are h = absurd (cc)
+  taken_known [] false d are h = absurd (cc)
+  taken_known (x ∷ ds) true d are h = subst (λ (y : Disturber). IsKnown c y.id) (same_Some x d h) are.0
+  taken_known (x ∷ ds) false d are h = absurd (cc)
 
-  start_taken : (z : WatchData) (s : Option Start) (d : Disturber) → AreOfEvents v z.waiting → taken_by z s ≡ Some d → IsOfEvent v d.id
-  start_taken z None d are h = absurd (cc)
-  start_taken z (Some (start.HardReset side)) d are h = absurd (cc)
-  start_taken z (Some (start.Packet side packet fate)) d are h = taken_of_event z.waiting (is_disturbed fate) d are h
+  taker_known : (z : WatchData) (s : Option Start) (d : Disturber) → AreKnown c z.waiting → taken_by z s ≡ Some d → IsKnown c d.id
+  taker_known z None d are h = absurd (cc)
+  taker_known z (Some (start.HardReset side)) d are h = absurd (cc)
+  taker_known z (Some (start.Packet side packet fate)) d are h = taken_known z.waiting (is_disturbed fate) d are h
 
-  disturber_of_event : (w : WatchData) (past : List Move) (m : Move) (d : Disturber) → GoesOn (plan_of v) past m
-      → AreOfEvents v w.waiting → disturber_of w m.entry ≡ Some d → IsOfEvent v d.id
+  disturber_known : (w : WatchData) (past : List Move) (m : Move) (d : Disturber) → GoesOn changed past m → AreKnown c w.waiting
+      → disturber_of w m.entry ≡ Some d → IsKnown c d.id
   unfolding disturber_of
-  disturber_of_event w past m d goes are h =
-      start_taken (after_what w m.entry.at (is_ignored m.entry) m.entry.due.what) m.entry.start d (first_waits w past m goes are) h
+  disturber_known w past m d goes are h =
+      taker_known (after_what w m.entry.at (is_ignored m.entry) m.entry.due.what) m.entry.start d (first_known w past m goes are) h
 
 -- ---- where it is hit
 
@@ -366,14 +324,15 @@ is_taken w e side packet fate d is h = start_disturbed (after_what w e.at (is_ig
 
 -- ---- all of it
 
-module _ (n : ℕ) (c v : ScenarioData) (behind : ℕ) (harm : Loss) (t : Target) (moves : List Move)
-    (is_variant : row_variant behind n c harm t ≡ Ok v) (run : Run (plan_of v) moves) where
-  hit_is_true : HitAt c.events t at_rest moves → IsHit c v harm t moves
+module _ (c : ScenarioData) (loss : Loss) (behind : ℕ) (t : Target) (moves : List Move)
+    (run : Run (lost (plan_of c) loss behind t) moves) where
+  hit_is_true : HitAt c.events t at_rest moves → IsHit c (lost (plan_of c) loss behind t) loss t moves
   hit_is_true h =
+      let plan : Plan = lost (plan_of c) loss behind t in
       let m = h.move in
-      let there = subst (EachAfter (GoesOn (plan_of v)) []) h.moves_are run.chained in
-      let before = EachAfter-front (GoesOn (plan_of v)) [] h.past (m ∷ h.later) there in
-      let goes = (EachAfter-back (GoesOn (plan_of v)) [] h.past (m ∷ h.later) there).0 in
+      let goes_on = subst (EachAfter (GoesOn plan) []) h.moves_are run.chained in
+      let before = EachAfter-front (GoesOn plan) [] h.past (m ∷ h.later) goes_on in
+      let goes = (EachAfter-back (GoesOn plan) [] h.past (m ∷ h.later) goes_on).0 in
       let w : WatchData = fold (watched_on t) at_rest (map shown h.past) in
       let (port, rest) =
       and_parts (m.port + 1 == t.port)
@@ -385,22 +344,20 @@ module _ (n : ℕ) (c v : ScenarioData) (behind : ℕ) (harm : Loss) (t : Target
       let very = very_one t m.entry.start packet in
       let who = named c.events (disturber_of w m.entry) new in
       let known = goes.known in
-      let count_is = length-replicate (count (plan_of v)) at_rest in
-      let start_at : watch_at (all_at_rest (count (plan_of v))) (m.port + 1) ≡ at_rest =
-      watch_number (all_at_rest (count (plan_of v))) m.port
-      ∙ get_or-replicate (count (plan_of v)) m.port at_rest at_rest known in
-      let ws : List WatchData = after_steps (all_at_rest (count (plan_of v))) (map shown h.past) in
+      let count_is = length-replicate (count plan) at_rest in
+      let start_at : watch_at (all_at_rest (count plan)) (m.port + 1) ≡ at_rest =
+      watch_number (all_at_rest (count plan)) m.port ∙ get_or-replicate (count plan) m.port at_rest at_rest known in
+      let ws : List WatchData = after_steps (all_at_rest (count plan)) (map shown h.past) in
       let watched : watch_at ws (m.port + 1) ≡ w =
-      steps_same t m.port (sym on_port) (all_at_rest (count (plan_of v))) at_rest h.past (omega arith) start_at in
+      steps_same t m.port (sym on_port) (all_at_rest (count plan)) at_rest h.past (omega arith) start_at in
       let takes : disturber_of (watch_at ws (m.port + 1)) m.entry ≡ Some who.taker =
       ap (λ z. disturber_of z m.entry) watched ∙ who.is in
       let named_so =
-      takers_are_named (plan_of v) h.past m before goes very.side very.packet very.fate very.starts
+      takers_are_named plan h.past m before goes very.side very.packet very.fate very.starts
       (is_taken w m.entry very.side very.packet very.fate who.taker very.starts who.is) in
       let one : named_so.0 ≡ who.taker = same_Some named_so.0 who.taker (sym named_so.1 ∙ takes) in
       let of =
-      disturber_of_event v w h.past m who.taker goes
-      (along_of_event v t at_rest [] h.past before tt) who.is in
+      disturber_known c loss behind t w h.past m who.taker goes (along_known c loss behind t at_rest [] h.past before tt) who.is in
       record {
         past = h.past;
         move = m;
@@ -419,62 +376,58 @@ module _ (n : ℕ) (c v : ScenarioData) (behind : ℕ) (harm : Loss) (t : Target
         takes = takes;
         fate_is = ap (λ (d : Disturber). d.fate) (sym one) ∙ named_so.2;
         is_new = who.is_new;
-        is_put_in = put_in who.taker.id who.is_new of;
+        is_put_in = no_id who.taker.id who.is_new of;
+        there = row_there m.port (rw (sym (same_count (plan_of c) loss behind t)) known) (omega (arith, on_port));
       }
     where
-      put_in : (id : ℕ) → has_id c.events id ≡ false → IsOfEvent v id
-          → Contains v.events (inserted_event id t.at (edit.OnPort t.port (kind_of harm)))
-      put_in id new of =
-          elim (row_put_in n harm t behind c v of.event is_variant of.there) [
-            | inl old ↦
-                let known : has_id c.events id ≡ true = ap (has_id c.events) (sym of.id_is) ∙ known_id c.events of.event old in
-                absurd (cc)
-            | inr is ↦
-                subst (Contains v.events) (is ∙ ap (λ k. inserted_event k t.at (edit.OnPort t.port (kind_of harm))) of.id_is) of.there
-          ]
+      no_id : (id : ℕ) → has_id c.events id ≡ false → IsKnown c id → id ≡ 0
+      no_id id new of = elim of [ inl old ↦ absurd (cc) | inr is ↦ is ]
 
-run_is_true : (n : ℕ) (c : ScenarioData) (campaign : Campaign) (t : Target) (r : Result ScenarioData Obstacle) (effect : Effect)
-    → row_variant campaign.behind n c campaign.loss t ≡ r → IsOfVariant c r t (Ran effect) → RanHit n c campaign t effect
-run_is_true n c campaign t (Ok v) effect is ran = record {
-  variant = v;
-  variant_is = is;
-  moves = ran.shows.moves;
-  safe = ran.shows.safe;
-  found = subst (λ l. AreFindings (plan_of v) l effect.findings) ran.shows.entries_are ran.found;
-  base = ran.base_shows.moves;
-  base_safe = ran.base_shows.safe;
-  measured =
-      ran.measured ∙ ap (λ l. measures_of (plan_of c).end l ran.moves) ran.base_shows.entries_are
-      ∙ ap (λ l. measures_of (plan_of c).end (map shown ran.base_shows.moves) l) ran.shows.entries_are;
-  hit =
-      hit_is_true n c v campaign.behind campaign.loss t ran.shows.moves is ran.shows.safe.run
-      (hit_at c.events t at_rest ran.shows.moves (ap (hit_from c.events t at_rest) (sym ran.shows.entries_are) ∙ ran.hit));
-}
-run_is_true n c campaign t (Err obstacle) effect is h = absurd (cc)
+      row_there : (p : ℕ) → p < count (plan_of c) → p ≡ t.port - 1
+          → Contains (script_of (lost (plan_of c) loss behind t) p) (put_in loss t.at)
+      row_there p known place =
+          let more : replicate (behind + 1) (put_in loss t.at) ≡ put_in loss t.at ∷ replicate behind (put_in loss t.at) =
+          (let count : behind + 1 ≡ suc behind = omega arith in ap (λ k. replicate k (put_in loss t.at)) count) in
+          subst (λ l. Contains l (put_in loss t.at)) (sym (own_script (plan_of c) loss behind t p (scripts_known c p known) place))
+          (new_there (replicate (behind + 1) (put_in loss t.at)) t.at (script_of (plan_of c) (t.port - 1)) (put_in loss t.at)
+          (subst (λ l. Contains l (put_in loss t.at)) (sym more) (0, omega arith, refl)))
+
+run_is_true : (c : ScenarioData) (campaign : Campaign) (t : Target) (effect : Effect)
+    → IsRunOf c (lost (plan_of c) campaign.loss campaign.behind t) t (Ran effect) → RanHit c campaign t effect
+run_is_true c campaign t effect ran =
+    let plan : Plan = lost (plan_of c) campaign.loss campaign.behind t in
+    record {
+      moves = ran.shows.moves;
+      safe = ran.shows.safe;
+      found = subst (λ l. AreFindings plan l effect.findings) ran.shows.entries_are ran.found;
+      base = ran.base_shows.moves;
+      base_safe = ran.base_shows.safe;
+      measured =
+          ran.measured ∙ ap (λ l. measures_of (plan_of c).end l ran.moves) ran.base_shows.entries_are
+          ∙ ap (λ l. measures_of (plan_of c).end (map shown ran.base_shows.moves) l) ran.shows.entries_are;
+      hit =
+          hit_is_true c campaign.loss campaign.behind t ran.shows.moves ran.shows.safe.run
+          (hit_at c.events t at_rest ran.shows.moves (ap (hit_from c.events t at_rest) (sym ran.shows.entries_are) ∙ ran.hit));
+    }
 
 pub hits_are_true : HitsAreTrue
 hits_are_true n c campaign trial effect is ran = by_disturbed trial.target.disturbed is
   where
     by_disturbed : (b : Bool)
         → MatchBool b (trial.outcome ≡ Disturbed)
-        (IsOfVariant c (row_variant campaign.behind n c campaign.loss trial.target) trial.target trial.outcome)
-        → RanHit n c campaign trial.target effect
+        (IsRunOf c (lost (plan_of c) campaign.loss campaign.behind trial.target) trial.target trial.outcome)
+        → RanHit c campaign trial.target effect
     by_disturbed true h = let never : Disturbed ≡ Ran effect = sym h ∙ ran in absurd (cc)
     by_disturbed false h =
-        run_is_true n c campaign trial.target (row_variant campaign.behind n c campaign.loss trial.target) effect refl
-        (subst (IsOfVariant c (row_variant campaign.behind n c campaign.loss trial.target) trial.target) ran h)
-
-same_variant : (v w : ScenarioData) (r : Result ScenarioData Obstacle) → r ≡ Ok v → r ≡ Ok w → w ≡ v
-same_variant v w r e f = cc
+        run_is_true c campaign trial.target effect
+        (subst (IsRunOf c (lost (plan_of c) campaign.loss campaign.behind trial.target) trial.target) ran h)
 
 pub measures_are_true : MeasuresAreTrue
-measures_are_true n c v campaign trial effect base moves is ran variant base_run run =
-    let hit : RanHit n c campaign trial.target effect = hits_are_true n c campaign trial effect is ran in
-    let same : v ≡ hit.variant =
-    same_variant hit.variant v (row_variant campaign.behind n c campaign.loss trial.target) hit.variant_is variant in
-    let its : Run (plan_of hit.variant) moves = subst (λ (x : ScenarioData). Run (plan_of x) moves) same run in
+measures_are_true n c campaign trial effect base moves is ran base_run run =
+    let plan : Plan = lost (plan_of c) campaign.loss campaign.behind trial.target in
+    let hit : RanHit c campaign trial.target effect = hits_are_true n c campaign trial effect is ran in
     hit.measured
     ∙ ap (λ (l : List Move). measures_of (plan_of c).end (map shown l) (map shown hit.moves))
     (run_unique (plan_of c) hit.base base hit.base_safe.run base_run)
     ∙ ap (λ (l : List Move). measures_of (plan_of c).end (map shown base) (map shown l))
-    (run_unique (plan_of hit.variant) hit.moves moves hit.safe.run its)
+    (run_unique plan hit.moves moves hit.safe.run run)

@@ -19,6 +19,7 @@ use Rattle.pd_scenario.specs.declared.event.ScenarioEvent.{ScenarioEvent}
 use Rattle.pd_watch.specs.declared.watch.Disturber.{Disturber}
 use Rattle.pd_watch.specs.Watch.{WatchData, after_entry, after_happening, after_kind, after_start, after_what, at_rest, disturber_of}
 use Rattle.pd_watch.specs.Watch.{first_of, id_of, is_disturbed, is_ignored, taken_by}
+use Rattle.pd_sweep.specs.Along.{disturbs_happening, disturbs_kind}
 use Rattle.pd_sweep.specs.Trials.{AreBefore, hit_from, hits, is_packet, is_put_in, watched_on}
 use Rattle.pd_sweep.specs.declared.packets.Target.{Target}
 use Rattle.pd_sweep.proofs.QuietLemmas.{and_false}
@@ -89,15 +90,6 @@ module _ (events : List ScenarioEvent) (t : Target) where
       ∙ ap (λ b. hits events t v m || b) (hit_row (watched_on t w m) (watched_on t v m) ms (on_row w v (m.0 == t.port) m.1 same))
 
 -- ---- where no disturbance comes, none waits
-
-abbrev pub disturbs_kind : PortEventKind → Bool
-disturbs_kind Lose = true
-disturbs_kind (Damage harm) = true
-disturbs_kind _ = false
-
-abbrev pub disturbs_happening : Happening → Bool
-disturbs_happening (happening.Port id kind) = disturbs_kind kind
-disturbs_happening happening.Budget = false
 
 abbrev pub disturbs_what : What → Bool
 disturbs_what (what.Event e) = disturbs_happening e.happening

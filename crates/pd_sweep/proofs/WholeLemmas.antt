@@ -25,7 +25,7 @@ use Rattle.pd_sweep.specs.declared.trial.Trial.{Trial}
 
 -- ---- one run has one list of findings
 
-same_entries : (plan : Plan) (a b : List (ℕ × Entry)) → Shows plan a → Shows plan b → b ≡ a
+pub same_entries : (plan : Plan) (a b : List (ℕ × Entry)) → Shows plan a → Shows plan b → b ≡ a
 same_entries plan a b p q = q.entries_are ∙ ap (map shown) (run_unique plan q.moves p.moves q.safe.run p.safe.run) ∙ sym p.entries_are
 
 no_later : (plan : Plan) (moves : List (ℕ × Entry)) (a b : Margin) → IsLeastMargin plan moves a → IsLeastMargin plan moves b →
@@ -46,7 +46,7 @@ same_margin plan moves a b p q =
     let margin : ℕ → ℕ → Margin = λ t l. record { at = t; left = l } in
     ap (λ t. margin t b.left) (sym at) ∙ ap (λ l. margin a.at l) (sym left)
 
-same_findings : (plan : Plan) (moves : List (ℕ × Entry)) (a b : Findings) → AreFindings plan moves a → AreFindings plan moves b → b ≡ a
+pub same_findings : (plan : Plan) (moves : List (ℕ × Entry)) (a b : Findings) → AreFindings plan moves a → AreFindings plan moves b → b ≡ a
 same_findings plan moves a b p q =
     let margins : b.margin ≡ a.margin = same_margin plan moves a.margin b.margin p.margin_is q.margin_is in
     let summaries : b.summary ≡ a.summary = q.summary_is ∙ sym p.summary_is in

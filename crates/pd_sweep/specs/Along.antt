@@ -1,10 +1,14 @@
 -- Going along a run: what is known after one more entry.
-use Rattle.std.specs.Prelude.{ℕ, ◌+◌, ◌-◌, ◌==◌, ◌&&◌, min, Bool, true, false, List, [], ◌++◌, fold, length, count_by, replicate, slice_set}
-use Rattle.std.specs.Prelude.{Option, Some, None, if◌then◌else◌}
+use Rattle.std.specs.Prelude.{◌≡◌, ℕ, ◌+◌, ◌-◌, ◌≤◌, ◌<◌, ◌==◌, ◌&&◌, min, Bool, true, false, List, [], ◌++◌, fold, length, count_by}
+use Rattle.std.specs.Prelude.{Contains, replicate, slice_set, Option, Some, None, if◌then◌else◌}
 use Rattle.std.specs.List.{cons_option}
 use Rattle.pd_port.specs.declared.entry.ContractChange.{ContractChange}
 use Rattle.pd_port.specs.declared.entry.Entry.{Entry}
+use Rattle.pd_setup.specs.Events.{EventData, PortEventKind}
 use Rattle.pd_setup.specs.declared.event.EventKind.TheVariants.{Lose, Damage}
+use Rattle.pd_setup.specs.declared.event.Happening.{Happening}
+use Rattle.pd_setup.specs.declared.event.Happening.TheVariants as happening
+use Rattle.pd_scenario.specs.Plan.{Plan, count, script_of}
 use Rattle.pd_scenario.specs.Events.{ScenarioEventKind}
 use Rattle.pd_scenario.specs.declared.event.ScenarioEvent.{ScenarioEvent}
 use Rattle.pd_scenario.specs.declared.event.ScenarioHappening.{ScenarioHappening}
@@ -55,6 +59,22 @@ abbrev pub disturbs : ScenarioEventKind → Bool
 disturbs Lose = true
 disturbs (Damage damage) = true
 disturbs _ = false
+
+-- an event at a port does so
+abbrev pub disturbs_kind : PortEventKind → Bool
+disturbs_kind Lose = true
+disturbs_kind (Damage harm) = true
+disturbs_kind _ = false
+
+abbrev pub disturbs_happening : Happening → Bool
+disturbs_happening (happening.Port id kind) = disturbs_kind kind
+disturbs_happening happening.Budget = false
+
+-- no event of a port before a time does so, the ports being numbered from 1
+abbrev pub IsQuietBefore : Plan → ℕ → ℕ → Type 0
+IsQuietBefore plan port first =
+    (p : ℕ) (e : EventData) → p < count plan → p + 1 ≡ port → Contains (script_of plan p) e → disturbs_happening e.happening ≡ true
+    → first ≤ e.at
 
 -- an event does so to a packet of the port
 abbrev pub disturbs_on : ℕ → ScenarioHappening → Bool

@@ -1,22 +1,20 @@
 -- What holds of a packet that is told to be hit.
-use Rattle.std.specs.Prelude.{◌≡◌, ℕ, ◌+◌, false, List, ◌∷◌, ◌++◌, map, Contains, Some, Ok}
+use Rattle.std.specs.Prelude.{◌≡◌, ℕ, ◌+◌, false, List, ◌∷◌, ◌++◌, map, Contains, Some}
 use Rattle.pd_packet.specs.Contents.{Contents}
 use Rattle.pd_packet.specs.declared.fate.Fate.{Fate}
 use Rattle.pd_header.specs.declared.side.Side.{Side}
 use Rattle.pd_line.specs.declared.notes.Start.TheVariants as start
 use Rattle.pd_run.specs.Run.{Move, Run, shown}
 use Rattle.pd_run.specs.Shown.{SafeRun}
-use Rattle.pd_scenario.specs.Plan.{count}
+use Rattle.pd_scenario.specs.Plan.{Plan, count, script_of}
 use Rattle.pd_scenario.specs.Plans.{plan_of}
 use Rattle.pd_scenario.specs.Scenarios.{ScenarioData, has_id}
-use Rattle.pd_edit.specs.Edits.{inserted_event}
-use Rattle.pd_edit_lines.specs.declared.edit.EditHappening.TheVariants as edit
 use Rattle.pd_watch.specs.declared.watch.Disturber.{Disturber}
 use Rattle.pd_watch.specs.Watch.{after_steps, all_at_rest, disturber_of, watch_at}
+use Rattle.pd_sweep.specs.Lost.{lost, put_in}
 use Rattle.pd_sweep.specs.Measures.{measures_of}
 use Rattle.pd_sweep.specs.Summaries.{AreFindings}
 use Rattle.pd_sweep.specs.Trials.{IsTrial}
-use Rattle.pd_sweep.specs.Variants.{kind_of, row_variant}
 use Rattle.pd_sweep.specs.declared.choice.Campaign.{Campaign}
 use Rattle.pd_sweep.specs.declared.choice.Loss.{Loss}
 use Rattle.pd_sweep.specs.declared.effect.Effect.{Effect}
@@ -24,10 +22,10 @@ use Rattle.pd_sweep.specs.declared.packets.Target.{Target}
 use Rattle.pd_sweep.specs.declared.trial.Outcome.TheVariants.{Ran}
 use Rattle.pd_sweep.specs.declared.trial.Trial.{Trial}
 
--- In these moves of the variant of a scenario the packet starts, from its side, with its ordered set and its header, at its time on its
--- port. What becomes of it is what the disturbance of an event makes of it that waits there first (pd_watch); and this event is one of
--- the variant's that the scenario doesn't have: the one that loses or damages a packet of that port from that time on.
-pub record IsHit (c v : ScenarioData) (harm : Loss) (t : Target) (moves : List Move) : Type 0 where
+-- In these moves of the plan in which a packet of a scenario's run is lost the packet starts, from its side, with its ordered set and its
+-- header, at its time on its port. What becomes of it is what the disturbance of an event makes of it that waits there first (pd_watch);
+-- and this event is none of the scenario's, but one of those that the packet's port has more.
+pub record IsHit (c : ScenarioData) (plan : Plan) (loss : Loss) (t : Target) (moves : List Move) : Type 0 where
   pub past : List Move
   pub move : Move
   pub later : List Move
@@ -42,35 +40,34 @@ pub record IsHit (c v : ScenarioData) (harm : Loss) (t : Target) (moves : List M
   pub channel_is : packet.channel ≡ t.channel
   pub header_is : packet.header ≡ t.header
   pub taker : Disturber
-  pub takes : disturber_of (watch_at (after_steps (all_at_rest (count (plan_of v))) (map shown past)) (move.port + 1)) move.entry
-      ≡ Some taker
+  pub takes : disturber_of (watch_at (after_steps (all_at_rest (count plan)) (map shown past)) (move.port + 1)) move.entry ≡ Some taker
   pub fate_is : taker.fate ≡ fate
   pub is_new : has_id c.events taker.id ≡ false
-  pub is_put_in : Contains v.events (inserted_event taker.id t.at (edit.OnPort t.port (kind_of harm)))
+  pub is_put_in : taker.id ≡ 0
+  pub there : Contains (script_of plan move.port) (put_in loss t.at)
 
--- it is so in the safe run of the variant, of which these findings are told; and the measures are those of that run beside the safe run
--- of the scenario
-pub record RanHit (n : ℕ) (c : ScenarioData) (campaign : Campaign) (t : Target) (effect : Effect) : Type 0 where
-  pub variant : ScenarioData
-  pub variant_is : row_variant campaign.behind n c campaign.loss t ≡ Ok variant
+-- it is so in the safe run of that plan, of which these findings are told; and the measures are those of that run beside the safe run of
+-- the scenario
+pub record RanHit (c : ScenarioData) (campaign : Campaign) (t : Target) (effect : Effect) : Type 0 where
   pub moves : List Move
-  pub safe : SafeRun (plan_of variant) moves
-  pub found : AreFindings (plan_of variant) (map shown moves) effect.findings
+  pub safe : SafeRun (lost (plan_of c) campaign.loss campaign.behind t) moves
+  pub found : AreFindings (lost (plan_of c) campaign.loss campaign.behind t) (map shown moves) effect.findings
   pub base : List Move
   pub base_safe : SafeRun (plan_of c) base
   pub measured : effect.measures ≡ measures_of (plan_of c).end (map shown base) (map shown moves)
-  pub hit : IsHit c variant campaign.loss t moves
+  pub hit : IsHit c (lost (plan_of c) campaign.loss campaign.behind t) campaign.loss t moves
 
 -- So is each packet hit of which the line tells a run.
 abbrev pub HitsAreTrue : Type 0
 HitsAreTrue =
     (n : ℕ) (c : ScenarioData) (campaign : Campaign) (trial : Trial) (effect : Effect) → IsTrial n c campaign trial
-    → trial.outcome ≡ Ran effect → RanHit n c campaign trial.target effect
+    → trial.outcome ≡ Ran effect → RanHit c campaign trial.target effect
 
--- The measures of a line are those of any run of the variant beside any run of the scenario: there is one of each.
+-- The measures of a line are those of any run of the plan in which the packet is lost, beside any run of the scenario: there is one of
+-- each.
 abbrev pub MeasuresAreTrue : Type 0
 MeasuresAreTrue =
-    (n : ℕ) (c v : ScenarioData) (campaign : Campaign) (trial : Trial) (effect : Effect) (base moves : List Move)
-    → IsTrial n c campaign trial → trial.outcome ≡ Ran effect → row_variant campaign.behind n c campaign.loss trial.target ≡ Ok v
-    → Run (plan_of c) base → Run (plan_of v) moves
+    (n : ℕ) (c : ScenarioData) (campaign : Campaign) (trial : Trial) (effect : Effect) (base moves : List Move)
+    → IsTrial n c campaign trial → trial.outcome ≡ Ran effect
+    → Run (plan_of c) base → Run (lost (plan_of c) campaign.loss campaign.behind trial.target) moves
     → effect.measures ≡ measures_of (plan_of c).end (map shown base) (map shown moves)

@@ -1,6 +1,9 @@
 pub mod Columns
 pub mod Counts
 pub mod Forms
+pub mod KindLines
+pub mod Limits
+pub mod Sums
 pub mod Names
 pub mod Objects
 pub mod Parts
@@ -11,6 +14,7 @@ pub mod Along
 pub mod Beside
 pub mod Choices
 pub mod Laws
+pub mod Lost
 pub mod Measures
 pub mod Summaries
 pub mod Tallies

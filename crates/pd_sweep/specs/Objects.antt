@@ -4,7 +4,6 @@ use Rattle.pd_symbols.specs.declared.channel.Channel.{Channel}
 use Rattle.pd_header.specs.Header.{id_of}
 use Rattle.pd_header.specs.Kinds.{kind_of_header, name_of}
 use Rattle.pd_objects.specs.declared.contract.Contract.{Contract}
-use Rattle.pd_edit_lines.specs.Numbers.{number_of}
 use Rattle.pd_tell.specs.Members.{number_member, text_member}
 use Rattle.pd_tell.specs.Words.{side_words}
 use Rattle.pd_sweep.specs.Words.{are_same, extent_of, is_same, listed, makes_difference}
@@ -16,10 +15,8 @@ use Rattle.pd_sweep.specs.declared.measure.Extent.TheVariants.{Until}
 use Rattle.pd_sweep.specs.declared.measure.Measure.{Measure}
 use Rattle.pd_sweep.specs.declared.summary.Mishaps.{Mishaps}
 use Rattle.pd_sweep.specs.declared.trial.Outcome.{Outcome}
-use Rattle.pd_sweep.specs.declared.trial.Outcome.TheVariants.{Ran, Missed, Disturbed, Barred}
+use Rattle.pd_sweep.specs.declared.trial.Outcome.TheVariants.{Ran, Missed, Disturbed}
 use Rattle.pd_sweep.specs.declared.trial.Trial.{Trial}
-use Rattle.pd_sweep.specs.declared.variant.Obstacle.{Obstacle}
-use Rattle.pd_sweep.specs.declared.variant.Obstacle.TheVariants.{NoId, Refused}
 use Rattle.pd_sweep.specs.Names.{set_name, signed_text, truth}
 
 -- ---- members, each behind a comma
@@ -132,18 +129,10 @@ run_members old effect =
 abbrev pub hit_members : Findings → Effect → List ℕ
 hit_members old effect = text_member (codes "outcome") (codes "hit") ++ run_members old effect
 
-abbrev pub refused_members : ℕ → List ℕ
-refused_members number = text_member (codes "outcome") (codes "refused") ++ number_member (codes "refusal") number
-
-abbrev pub barred_members : Obstacle → List ℕ
-barred_members NoId = text_member (codes "outcome") (codes "no_id")
-barred_members (Refused fault) = refused_members (number_of fault)
-
 abbrev pub outcome_members : Findings → Outcome → List ℕ
 outcome_members old (Ran effect) = hit_members old effect
 outcome_members old Missed = text_member (codes "outcome") (codes "not_hit")
 outcome_members old Disturbed = text_member (codes "outcome") (codes "disturbed")
-outcome_members old (Barred obstacle) = barred_members obstacle
 
 -- an object, and the end of its line
 unfoldable pub trial_object : Findings → Trial → List ℕ

@@ -4,7 +4,6 @@ use Rattle.pd_symbols.specs.declared.channel.Channel.{Channel}
 use Rattle.pd_header.specs.Header.{id_of}
 use Rattle.pd_header.specs.Kinds.{kind_of_header, name_of}
 use Rattle.pd_objects.specs.declared.contract.Contract.{Contract}
-use Rattle.pd_edit_lines.specs.Numbers.{number_of}
 use Rattle.pd_tell.specs.Words.{side_words}
 use Rattle.pd_sweep.specs.Words.{are_same, contracts_words, extent_of, listed, makes_difference, ports_words}
 use Rattle.pd_sweep.specs.declared.effect.Effect.{Effect}
@@ -16,10 +15,8 @@ use Rattle.pd_sweep.specs.declared.measure.Extent.TheVariants.{Less, More, Until
 use Rattle.pd_sweep.specs.declared.measure.Measure.{Measure}
 use Rattle.pd_sweep.specs.declared.summary.Mishaps.{Mishaps}
 use Rattle.pd_sweep.specs.declared.trial.Outcome.{Outcome}
-use Rattle.pd_sweep.specs.declared.trial.Outcome.TheVariants.{Ran, Missed, Disturbed, Barred}
+use Rattle.pd_sweep.specs.declared.trial.Outcome.TheVariants.{Ran, Missed, Disturbed}
 use Rattle.pd_sweep.specs.declared.trial.Trial.{Trial}
-use Rattle.pd_sweep.specs.declared.variant.Obstacle.{Obstacle}
-use Rattle.pd_sweep.specs.declared.variant.Obstacle.TheVariants.{NoId, Refused}
 use Rattle.pd_sweep.specs.Names.{set_name, signed_text, truth}
 
 -- the names of the values
@@ -86,10 +83,6 @@ run_values old effect =
     ++ (measures_values effect.measures ++ findings_values old effect.findings)))
 
 -- what comes of losing a packet; without a run twelve values are empty
-abbrev pub barred_values : Obstacle → List ℕ
-barred_values NoId = codes ",no_id,,,,,,,,,,,,"
-barred_values (Refused fault) = codes ",refused " ++ (decimal (number_of fault) ++ codes ",,,,,,,,,,,,")
-
 abbrev pub hit_values : Findings → Effect → List ℕ
 hit_values old effect = codes ",hit" ++ run_values old effect
 
@@ -97,7 +90,6 @@ abbrev pub outcome_values : Findings → Outcome → List ℕ
 outcome_values old (Ran effect) = hit_values old effect
 outcome_values old Missed = codes ",not_hit,,,,,,,,,,,,"
 outcome_values old Disturbed = codes ",disturbed,,,,,,,,,,,,"
-outcome_values old (Barred obstacle) = barred_values obstacle
 
 -- a row
 unfoldable pub trial_row : Findings → Trial → List ℕ

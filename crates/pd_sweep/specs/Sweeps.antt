@@ -1,6 +1,6 @@
 -- What a sweep writes.
 use Rattle.std.specs.Prelude.{◌≡◌, ℕ, List, ◌++◌, map, ◌⊎◌, Option, Result, Ok, Err}
-use Rattle.std.specs.List.{AllByRecursion, flat_map}
+use Rattle.std.specs.List.{AllByRecursion, filter, flat_map}
 use Rattle.std.specs.Io.KnownBytes.{Appends}
 use Rattle.pd_device.specs.Device.{WrotePart, one_more}
 use Rattle.pd_device.specs.declared.fault.BenchFault.{BenchFault}
@@ -11,6 +11,7 @@ use Rattle.pd_scenario.specs.Plans.{plan_of}
 use Rattle.pd_scenario.specs.Scenarios.{ScenarioData}
 use Rattle.pd_sweep.specs.Choices.{chosen}
 use Rattle.pd_sweep.specs.Summaries.{AreFindings}
+use Rattle.pd_sweep.specs.Sums.{sums_of}
 use Rattle.pd_sweep.specs.Tallies.{tally_of}
 use Rattle.pd_sweep.specs.Trials.{IsTrial}
 use Rattle.pd_sweep.specs.declared.choice.Campaign.{Campaign}
@@ -18,18 +19,26 @@ use Rattle.pd_sweep.specs.declared.findings.Findings.{Findings}
 use Rattle.pd_sweep.specs.declared.tally.Tally.{Tally}
 use Rattle.pd_sweep.specs.declared.packets.Target.{Target}
 use Rattle.pd_sweep.specs.declared.trial.Trial.{Trial}
-use Rattle.pd_sweep.specs.Forms.{head, tally_text, trial_text}
+use Rattle.pd_sweep.specs.Forms.{closing, head, is_shown, trial_text}
 use Rattle.pd_sweep.specs.Parts.{part_of}
-use Rattle.pd_sweep.specs.declared.form.Form.{Form}
+use Rattle.pd_sweep.specs.declared.form.Look.{Look}
 use Rattle.pd_sweep.specs.declared.part.Part.{Part}
 
 -- the packets of trials
 abbrev pub packets : List Trial → List Target
 packets trials = map (λ (trial : Trial). trial.target) trials
 
--- what stands first, and a line for each trial
-abbrev pub lines_of : Form → Findings → List Trial → List ℕ
-lines_of form old trials = head form ++ flat_map (trial_text form old) trials
+-- a line for each trial that is shown, in their order
+abbrev pub packet_lines : Look → Findings → List Trial → List ℕ
+packet_lines look old trials = flat_map (trial_text look.form old) (filter (is_shown look old) trials)
+
+-- what stands first, and these lines
+abbrev pub lines_of : Look → Findings → List Trial → List ℕ
+lines_of look old trials = head look ++ packet_lines look old trials
+
+-- and the kinds of messages, where they are told of in place of packets, and the summary
+abbrev pub text_of : Look → Option ℕ → Findings → List Trial → List ℕ
+text_of look reserve old trials = lines_of look old trials ++ closing look reserve (sums_of reserve old trials)
 
 -- Each packet that is chosen of the scenario's run, which is safe, or each of a part of these, has its trial, in the run's order; and
 -- these are the findings of that run, in which none is lost.
@@ -42,16 +51,16 @@ pub record AreTrials (n : ℕ) (c : ScenarioData) (campaign : Campaign) (part : 
   pub each : AllByRecursion (IsTrial n c campaign) trials
 
 -- the text tells of these trials
-pub record WroteSweep (n : ℕ) (c : ScenarioData) (campaign : Campaign) (part : Option Part) (form : Form) (old new : Option (List ℕ))
+pub record WroteSweep (n : ℕ) (c : ScenarioData) (campaign : Campaign) (part : Option Part) (look : Look) (old new : Option (List ℕ))
     (tally : Tally) : Type 0 where
   pub without : Findings
   pub trials : List Trial
   pub are_trials : AreTrials n c campaign part without trials
   pub tally_is : tally ≡ tally_of campaign.reserve without trials
-  pub appends : Appends old new (lines_of form without trials ++ tally_text form campaign.reserve tally)
+  pub appends : Appends old new (text_of look campaign.reserve without trials)
 
 -- the first bytes of the text of the first of these packets were written
-pub record BeganSweep (n : ℕ) (c : ScenarioData) (campaign : Campaign) (part : Option Part) (form : Form) (old new : Option (List ℕ))
+pub record BeganSweep (n : ℕ) (c : ScenarioData) (campaign : Campaign) (part : Option Part) (look : Look) (old new : Option (List ℕ))
     : Type 0 where
   pub base : List (ℕ × Entry)
   pub shows : Shows (plan_of c) base
@@ -61,13 +70,12 @@ pub record BeganSweep (n : ℕ) (c : ScenarioData) (campaign : Campaign) (part :
   pub rest : List Target
   pub packets_are : packets trials ++ rest ≡ part_of part (chosen campaign.choice base)
   pub each : AllByRecursion (IsTrial n c campaign) trials
-  pub wrote :
-      WrotePart old new (lines_of form without trials ++ tally_text form campaign.reserve (tally_of campaign.reserve without trials))
+  pub wrote : WrotePart old new (text_of look campaign.reserve without trials)
 
 -- where the run of the scenario itself has no memory, nothing is written
-abbrev pub Sweeps : ℕ → ScenarioData → Campaign → Option Part → Form → Result Tally BenchFault → Option (List ℕ) → Option (List ℕ) → Type 0
-Sweeps n c campaign part form (Ok tally) old new = WroteSweep n c campaign part form old new tally
-Sweeps n c campaign part form (Err fault) old new = (new ≡ old) ⊎ BeganSweep n c campaign part form old new
+abbrev pub Sweeps : ℕ → ScenarioData → Campaign → Option Part → Look → Result Tally BenchFault → Option (List ℕ) → Option (List ℕ) → Type 0
+Sweeps n c campaign part look (Ok tally) old new = WroteSweep n c campaign part look old new tally
+Sweeps n c campaign part look (Err fault) old new = (new ≡ old) ⊎ BeganSweep n c campaign part look old new
 
 -- whether a write failed, by the count of failed calls; no read does
 abbrev pub CountsSweep : {X : Type 0} → Result X BenchFault → ℕ → ℕ → Type 0

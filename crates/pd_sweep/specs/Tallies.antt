@@ -14,7 +14,7 @@ use Rattle.pd_sweep.specs.declared.tally.Worst.{Worst}
 use Rattle.pd_sweep.specs.declared.tally.WorstOn.{WorstOn}
 use Rattle.pd_sweep.specs.declared.packets.Target.{Target}
 use Rattle.pd_sweep.specs.declared.trial.Outcome.{Outcome}
-use Rattle.pd_sweep.specs.declared.trial.Outcome.TheVariants.{Ran, Missed, Disturbed, Barred}
+use Rattle.pd_sweep.specs.declared.trial.Outcome.TheVariants.{Ran, Missed, Disturbed}
 use Rattle.pd_sweep.specs.declared.trial.Trial.{Trial}
 
 -- nothing was tried
@@ -89,7 +89,6 @@ abbrev pub noted_outcome : Option ℕ → Findings → Tally → Target → Outc
 noted_outcome reserve old tally t (Ran effect) = counted reserve old tally t effect
 noted_outcome reserve old tally t Missed = tally
 noted_outcome reserve old tally t Disturbed = tally
-noted_outcome reserve old tally t (Barred obstacle) = tally
 
 abbrev pub noted_trial : Option ℕ → Findings → Tally → Trial → Tally
 noted_trial reserve old tally trial = noted_outcome reserve old tally trial.target trial.outcome

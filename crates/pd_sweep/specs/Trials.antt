@@ -1,6 +1,6 @@
 -- What losing a packet leads to.
 use Rattle.std.specs.Prelude.{◌≡◌, ℕ, ◌==◌, ◌<◌, ◌&&◌, ◌||◌, not, Bool, true, false, List, [], ◌∷◌, MatchBool, if◌then◌else◌}
-use Rattle.std.specs.Prelude.{Option, Some, None, Result, Ok, Err}
+use Rattle.std.specs.Prelude.{Option, Some, None}
 use Rattle.std.specs.List.{AllByRecursion}
 use Rattle.pd_symbols.specs.declared.channel.Channel.{Channel}
 use Rattle.pd_symbols.specs.declared.channel.Channel.TheVariants.{Sop, SopPrime}
@@ -16,17 +16,16 @@ use Rattle.pd_scenario.specs.Scenarios.{ScenarioData, has_id}
 use Rattle.pd_scenario.specs.declared.event.ScenarioEvent.{ScenarioEvent}
 use Rattle.pd_watch.specs.Watch.{WatchData, after_entry, at_rest, disturber_of, id_of}
 use Rattle.pd_sweep.specs.Beside.{AreInOrder}
+use Rattle.pd_sweep.specs.Lost.{lost}
 use Rattle.pd_sweep.specs.Measures.{measures_of, steps_of}
 use Rattle.pd_sweep.specs.Summaries.{AreFindings}
-use Rattle.pd_sweep.specs.Variants.{row_variant}
 use Rattle.pd_sweep.specs.declared.base.Base.{Base}
 use Rattle.pd_sweep.specs.declared.choice.Campaign.{Campaign}
 use Rattle.pd_sweep.specs.declared.effect.Effect.{Effect}
 use Rattle.pd_sweep.specs.declared.packets.Target.{Target}
 use Rattle.pd_sweep.specs.declared.trial.Outcome.{Outcome}
-use Rattle.pd_sweep.specs.declared.trial.Outcome.TheVariants.{Ran, Missed, Disturbed, Barred}
+use Rattle.pd_sweep.specs.declared.trial.Outcome.TheVariants.{Ran, Missed, Disturbed}
 use Rattle.pd_sweep.specs.declared.trial.Trial.{Trial}
-use Rattle.pd_sweep.specs.declared.variant.Obstacle.{Obstacle}
 
 -- the numbers by which sides, and ordered sets, are told apart
 abbrev pub side_place : Side → ℕ
@@ -74,33 +73,28 @@ AreBefore at moves = AllByRecursion (λ move. move.1.at < at) moves
 abbrev pub is_hit : List ScenarioEvent → Target → List (ℕ × Entry) → Bool
 is_hit events t moves = hit_from events t at_rest moves
 
--- The packet is hit in the run of a variant of a scenario, by an event that the scenario doesn't have; and these are what is found of
--- that run, and how the contracts in it differ from those in the scenario's own run. Both runs are safe.
-pub record IsEffect (c v : ScenarioData) (target : Target) (effect : Effect) : Type 0 where
+-- The packet is hit in the run of a plan, by an event that a scenario doesn't have; and these are what is found of that run, and how the
+-- contracts in it differ from those in the scenario's own run. Both runs are safe.
+pub record IsEffect (c : ScenarioData) (plan : Plan) (target : Target) (effect : Effect) : Type 0 where
   pub base : List (ℕ × Entry)
   pub base_shows : Shows (plan_of c) base
   pub moves : List (ℕ × Entry)
-  pub shows : Shows (plan_of v) moves
+  pub shows : Shows plan moves
   pub hit : is_hit c.events target moves ≡ true
-  pub found : AreFindings (plan_of v) moves effect.findings
+  pub found : AreFindings plan moves effect.findings
   pub measured : effect.measures ≡ measures_of (plan_of c).end base moves
 
--- what the run of a variant of a scenario comes to
-abbrev pub IsRunOf : ScenarioData → ScenarioData → Target → Outcome → Type 0
-IsRunOf c v target (Ran effect) = IsEffect c v target effect
-IsRunOf c v target Missed = (moves : List (ℕ × Entry)) × Shows (plan_of v) moves × (is_hit c.events target moves ≡ false)
-IsRunOf c v target Disturbed = ⊥
-IsRunOf c v target (Barred obstacle) = ⊥
+-- what the run of a plan comes to
+abbrev pub IsRunOf : ScenarioData → Plan → Target → Outcome → Type 0
+IsRunOf c plan target (Ran effect) = IsEffect c plan target effect
+IsRunOf c plan target Missed = (moves : List (ℕ × Entry)) × Shows plan moves × (is_hit c.events target moves ≡ false)
+IsRunOf c plan target Disturbed = ⊥
 
-abbrev pub IsOfVariant : ScenarioData → Result ScenarioData Obstacle → Target → Outcome → Type 0
-IsOfVariant c (Ok v) target outcome = IsRunOf c v target outcome
-IsOfVariant c (Err obstacle) target outcome = outcome ≡ Barred obstacle
-
--- the run in which the packet is lost; a packet that the scenario itself disturbs has none
+-- the run of the plan in which the packet is lost; a packet that the scenario itself disturbs has none
 abbrev pub IsTrial : ℕ → ScenarioData → Campaign → Trial → Type 0
 IsTrial n c campaign trial =
     MatchBool trial.target.disturbed (trial.outcome ≡ Disturbed)
-    (IsOfVariant c (row_variant campaign.behind n c campaign.loss trial.target) trial.target trial.outcome)
+    (IsRunOf c (lost (plan_of c) campaign.loss campaign.behind trial.target) trial.target trial.outcome)
 
 -- what is kept of the run of a plan, to tell others beside it: what is found of it, and its changes of contracts before the plan's end
 pub record IsBase (plan : Plan) (moves : List (ℕ × Entry)) (base : Base) : Type 0 where

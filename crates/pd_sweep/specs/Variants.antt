@@ -1,4 +1,5 @@
--- The scenario in which a packet is lost: one event more, at the packet's time on its port, before the port's other events then.
+-- The scenario in which a packet is lost, as an edit makes it: one event more, at the packet's time on its port, before the port's other
+-- events then.
 use Rattle.std.specs.Prelude.{ℕ, zero, suc, ◌==◌, ◌-◌, ◌&&◌, Bool, false, min, List, fold, if◌then◌else◌, Option, Some, None}
 use Rattle.std.specs.Prelude.{Result, Ok, Err}
 use Rattle.pd_setup.specs.declared.event.EventKind.TheVariants as kind
@@ -60,13 +61,3 @@ with_id n c harm target (Some id) = refused_as (edited n c (insertion harm targe
 -- its way.
 unfoldable pub variant : ℕ → ScenarioData → Loss → Target → Result ScenarioData Obstacle
 variant n c harm target = with_id n c harm target (free_id c.events (least_id c.events target.port target.at - 1))
-
-abbrev pub goes_on : Result ScenarioData Obstacle → (ScenarioData → Result ScenarioData Obstacle) → Result ScenarioData Obstacle
-goes_on (Ok c) f = f c
-goes_on (Err obstacle) f = Err obstacle
-
--- The scenario with one such event for the packet and one for each of so many behind it. All come before the port's other events
--- then, and wait in a row at the port: each packet that starts takes one.
-unfoldable pub row_variant : ℕ → ℕ → ScenarioData → Loss → Target → Result ScenarioData Obstacle
-row_variant zero n c harm target = variant n c harm target
-row_variant (suc behind) n c harm target = goes_on (variant n c harm target) (λ more. row_variant behind n more harm target)

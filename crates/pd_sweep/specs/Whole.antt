@@ -1,9 +1,14 @@
 -- The parts of a sweep together are the sweep.
-use Rattle.std.specs.Prelude.{◌≡◌, ℕ, ◌+◌, ◌<◌, List, ◌++◌, length, None, Some}
+use Rattle.std.specs.Prelude.{◌≡◌, ℕ, ◌+◌, ◌<◌, ◌≤◌, List, ◌++◌, length, None, Some}
+use Rattle.std.specs.List.{flat_map, range_with_len}
 use Rattle.pd_scenario.specs.Scenarios.{ScenarioData}
-use Rattle.pd_sweep.specs.Sweeps.{AreTrials}
+use Rattle.pd_sweep.specs.Counts.{HasPackets}
+use Rattle.pd_sweep.specs.Forms.{head}
+use Rattle.pd_sweep.specs.Parts.{share_of}
+use Rattle.pd_sweep.specs.Sweeps.{AreTrials, lines_of, packet_lines}
 use Rattle.pd_sweep.specs.declared.choice.Campaign.{Campaign}
 use Rattle.pd_sweep.specs.declared.findings.Findings.{Findings}
+use Rattle.pd_sweep.specs.declared.form.Look.{Look}
 use Rattle.pd_sweep.specs.declared.part.Part.{Part}
 use Rattle.pd_sweep.specs.declared.trial.Trial.{Trial}
 
@@ -25,3 +30,30 @@ ShortPartIsWhole =
     (n : ℕ) (c : ScenarioData) (campaign : Campaign) (count : ℕ) (without : Findings) (trials : List Trial)
     → AreTrials n c campaign (Some (from_on 0 count)) without trials → length trials < count
     → AreTrials n c campaign None without trials
+
+-- the places of a part
+abbrev pub places_of : Part → List ℕ
+places_of part = range_with_len part.first part.count
+
+-- The places of all shares of some packets, from the first share to the last, are the places of these packets, each once and in order.
+abbrev pub SharesCoverOnce : Type 0
+SharesCoverOnce =
+    (shares packets : ℕ) → 0 < shares
+    → flat_map (λ number. places_of (share_of number shares packets)) (range_with_len 1 shares) ≡ range_with_len 0 packets
+
+-- The trials of all shares of a sweep, each made with its own run without a loss, are from the first share to the last the trials of the
+-- whole sweep; and so are their lines.
+pub record AreWhole (n : ℕ) (c : ScenarioData) (campaign : Campaign) (shares : ℕ) (withouts : ℕ → Findings) (trials : ℕ → List Trial)
+    : Type 0 where
+  pub are_trials : AreTrials n c campaign None (withouts 1) (flat_map trials (range_with_len 1 shares))
+  pub lines : (look : Look)
+      → lines_of look (withouts 1) (flat_map trials (range_with_len 1 shares))
+      ≡ head look ++ flat_map (λ number. packet_lines look (withouts number) (trials number)) (range_with_len 1 shares)
+
+abbrev pub SharesAreTheSweep : Type 0
+SharesAreTheSweep =
+    (n : ℕ) (c : ScenarioData) (campaign : Campaign) (shares packets : ℕ) (withouts : ℕ → Findings) (trials : ℕ → List Trial)
+    → 0 < shares → HasPackets c campaign.choice packets
+    → ((number : ℕ) → 1 ≤ number → number ≤ shares
+    → AreTrials n c campaign (Some (share_of number shares packets)) (withouts number) (trials number))
+    → AreWhole n c campaign shares withouts trials

@@ -19,7 +19,7 @@ use Rattle.pd_sweep.specs.declared.measure.Measure.{Measure}
 use Rattle.pd_sweep.specs.declared.summary.Mishaps.{Mishaps}
 use Rattle.pd_sweep.specs.declared.packets.Target.{Target}
 use Rattle.pd_sweep.specs.declared.trial.Outcome.{Outcome}
-use Rattle.pd_sweep.specs.declared.trial.Outcome.TheVariants.{Ran, Missed, Disturbed, Barred}
+use Rattle.pd_sweep.specs.declared.trial.Outcome.TheVariants.{Ran, Missed, Disturbed}
 use Rattle.pd_sweep.specs.declared.trial.Trial.{Trial}
 use Rattle.pd_sweep.specs.declared.variant.Obstacle.{Obstacle}
 use Rattle.pd_sweep.specs.declared.variant.Obstacle.TheVariants.{NoId, Refused}
@@ -178,7 +178,6 @@ abbrev pub outcome_words : Findings → Outcome → List ℕ
 outcome_words old (Ran effect) = run_words old effect
 outcome_words old Missed = codes "not hit"
 outcome_words old Disturbed = codes "not tried: disturbed already"
-outcome_words old (Barred obstacle) = codes "not tried: " ++ obstacle_words obstacle
 
 -- a line
 unfoldable pub trial_line : Findings → Trial → List ℕ

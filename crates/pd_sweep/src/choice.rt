@@ -14,7 +14,7 @@ pub struct Campaign {
     /// How it harms them.
     pub loss: Loss,
     /// How many of the packets that start behind each on its port it harms too.
-    pub behind: u64,
+    pub behind: u8,
     /// What each of these runs is to leave of the budget at the end of every instant, in milliwatts, where that is asked.
     pub reserve: Option<u64>,
 }

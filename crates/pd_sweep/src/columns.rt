@@ -160,7 +160,11 @@ fn push_short(text: &mut Vec<u8>, reserve: Option<u64>, short: u64) -> Result<()
 }
 
 /// Writes the members of the summary.
-fn push_members(text: &mut Vec<u8>, reserve: Option<u64>, tally: &Tally) -> Result<(), AllocError>
+pub(crate) fn push_members(
+    text: &mut Vec<u8>,
+    reserve: Option<u64>,
+    tally: &Tally,
+) -> Result<(), AllocError>
     ensures { OnOk result (text.new.items ≡ text.old.items ++ tally_members reserve tally.now) }
 {
     push_counts(text, tally)?;

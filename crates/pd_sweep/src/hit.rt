@@ -1,12 +1,14 @@
 //! Whether a packet is hit in a run.
 
-ghost use Rattle.std.specs.Prelude.{◌≡◌, ◌<◌, IfOk, MatchOption, OnOk, Some, length, slice_get};
+ghost use Rattle.std.specs.Prelude.{◌≡◌, ◌<◌, ◌≤◌, IfOk, MatchOption, OnOk, Some, length, slice_get};
 ghost use Rattle.pd_scenario.specs.Plans.{plan_of};
-ghost use Rattle.pd_sweep.specs.Along.{disturbs, first_disturbance, is_disturbance};
+ghost use Rattle.pd_scenario.specs.Plan.{Plan as PlanData};
+ghost use Rattle.pd_sweep.specs.Along.{IsQuietBefore, disturbs, first_disturbance, is_disturbance};
+ghost use Rattle.pd_sweep.specs.Lost.{lost};
 ghost use Rattle.pd_sweep.specs.Trials.{hits, is_hit, is_packet, is_put_in, set_place, side_place, watched_on};
 
-use crate::Target;
 use crate::trial::place_at;
+use crate::{Campaign, Target};
 use pd_header::Side;
 use pd_line::Start;
 use pd_port::Entry;
@@ -136,6 +138,31 @@ fn first_disturbance(events: &[ScenarioEvent], port: u64, at: u64) -> u64
     first
 }
 
+/// Whether a packet takes the disturbance of an event that a scenario doesn't have, in a run in which no event of its port disturbs a
+/// packet before a time.
+fn is_hit_from<const N: usize, T: Runner<N>>(
+    alloc: Global,
+    scenario: &Scenario<N>,
+    target: &Target,
+    run: &T,
+    first: u64,
+) -> Result<bool, AllocError>
+    requires quiet { (plan : PlanData) × (T.plan run.now ≡ Some plan) × IsQuietBefore plan target.now.port first }
+    requires soon { first ≤ target.now.at }
+    ensures { IfOk result (λ hit. hit ≡ is_hit scenario.now.events target.now (T.entries run.now)) }
+{
+    let count = run.len();
+    // Before the first disturbance none waits on the port, so none is taken.
+    let mut index = place_at(run, first);
+    let mut watch = Watch::new(alloc);
+    let mut hit = false;
+    while index < count && !hit {
+        hit = watch_at(scenario, target, &mut watch, run, index)?;
+        index += 1;
+    }
+    Ok(hit)
+}
+
 /// Whether a packet of the run of a scenario is hit in that of a variant, which the runner stands for: whether it takes the disturbance
 /// of an event there that the scenario doesn't have.
 ///
@@ -151,15 +178,24 @@ pub fn is_hit<const N: usize, T: Runner<N>>(
     requires { T.plan run.now ≡ Some (plan_of variant.now) }
     ensures { IfOk result (λ hit. hit ≡ is_hit scenario.now.events target.now (T.entries run.now)) }
 {
-    let count = run.len();
-    // Before its first disturbance none waits on the port, so none is taken.
     let first = first_disturbance(variant.events(), target.port as u64, target.at);
-    let mut index = place_at(run, first);
-    let mut watch = Watch::new(alloc);
-    let mut hit = false;
-    while index < count && !hit {
-        hit = watch_at(scenario, target, &mut watch, run, index)?;
-        index += 1;
-    }
-    Ok(hit)
+    is_hit_from(alloc, scenario, target, run, first)
+}
+
+/// Whether a packet of the run of a scenario is hit in that of the plan in which it is lost, which the runner stands for.
+///
+/// # Errors
+/// There is no memory.
+pub(crate) fn is_hit_where_lost<const N: usize, T: Runner<N>>(
+    alloc: Global,
+    scenario: &Scenario<N>,
+    campaign: &Campaign,
+    target: &Target,
+    run: &T,
+) -> Result<bool, AllocError>
+    requires { T.plan run.now ≡ Some (lost (plan_of scenario.now) campaign.now.loss campaign.now.behind target.now) }
+    ensures { IfOk result (λ hit. hit ≡ is_hit scenario.now.events target.now (T.entries run.now)) }
+{
+    let first = first_disturbance(scenario.events(), target.port as u64, target.at);
+    is_hit_from(alloc, scenario, target, run, first)
 }

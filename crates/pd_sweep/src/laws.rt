@@ -1,7 +1,8 @@
-//! What holds of trials, and of the parts of a sweep. It runs nothing.
+//! What holds of trials, of the parts of a sweep, and of its limits. It runs nothing.
 
 ghost use Rattle.pd_sweep.specs.Laws.{HitsAreTrue, MeasuresAreTrue};
-ghost use Rattle.pd_sweep.specs.Whole.{PartsJoin, ShortPartIsWhole};
+ghost use Rattle.pd_sweep.specs.Limits.{LimitsAreOfRuns};
+ghost use Rattle.pd_sweep.specs.Whole.{PartsJoin, SharesAreTheSweep, SharesCoverOnce, ShortPartIsWhole};
 
 /// A packet that is told to be hit is lost or damaged in the run of the variant: it starts there at its time on its port, and the
 /// disturbance that it takes is that of an event which was put in for it, or for a packet before it in a row.
@@ -20,4 +21,15 @@ pub fn measures_are_true()
 pub fn parts_are_the_sweep()
     ensures join { PartsJoin }
     ensures whole { ShortPartIsWhole }
+{}
+
+/// The shares of a sweep cover each packet once, in order; their trials, and the lines of these, are those of the whole sweep.
+pub fn shares_are_the_sweep()
+    ensures places { SharesCoverOnce }
+    ensures trials { SharesAreTheSweep }
+{}
+
+/// A limit of a sweep is passed exactly where one of its runs passes it.
+pub fn limits_are_of_runs()
+    ensures { LimitsAreOfRuns }
 {}

@@ -10,7 +10,10 @@ mod effect;
 mod findings;
 mod form;
 mod hit;
+mod kind_lines;
 mod laws;
+mod limits;
+mod lose;
 mod makers;
 mod measure;
 mod names;
@@ -20,6 +23,7 @@ mod part;
 mod rows;
 mod steps;
 mod summary;
+mod sums;
 mod tally;
 mod texts;
 mod trial;
@@ -33,9 +37,13 @@ pub use choice::{Campaign, Choice, Loss};
 pub use count::packet_count;
 pub use effect::Effect;
 pub use findings::Findings;
-pub use form::Form;
+pub use form::{Form, Look};
 pub use hit::is_hit;
-pub use laws::{hits_are_true, measures_are_true, parts_are_the_sweep};
+pub use laws::{
+    hits_are_true, limits_are_of_runs, measures_are_true, parts_are_the_sweep, shares_are_the_sweep,
+};
+pub use limits::{Limits, Passed, push_passed};
+pub use lose::lost;
 pub use makers::{Makers, makers_of};
 pub use measure::{Extent, Measure, Step};
 pub use packets::{Target, chosen};
@@ -45,7 +53,7 @@ pub use summary::{Mishaps, Standing, Summary, summary_of};
 pub use tally::{Lowest, Tally, Worst, WorstOn, push_tally};
 pub use texts::{sweep_part_text, sweep_text};
 pub use trial::{Outcome, Trial, try_packet};
-pub use variant::{Obstacle, row_variant_of, variant_of};
+pub use variant::{Obstacle, variant_of};
 pub use walk::sweep;
 pub use words::{
     are_same, is_same, push_contracts, push_listed, push_makers, push_obstacle, push_trial,

@@ -1,16 +1,16 @@
 //! A trial as a JSON object.
 
 ghost use Rattle.std.specs.Prelude.{◌≡◌, ◌+◌, ◌<◌, ◌^◌, ◌++◌, OnOk, length};
-ghost use Rattle.pd_sweep.specs.Objects.{barred_members, change_object, change_objects, changes_member, contract_json};
+ghost use Rattle.pd_sweep.specs.Objects.{change_object, change_objects, changes_member, contract_json};
 ghost use Rattle.pd_sweep.specs.Objects.{contract_object, contracts_members, findings_members, flag_member, hit_members};
 ghost use Rattle.pd_sweep.specs.Objects.{instant_members, lower_members, margin_members, measures_member, message_members};
 ghost use Rattle.pd_sweep.specs.Objects.{mishaps_members, outcome_members, packet_members, port_object, port_objects};
-ghost use Rattle.pd_sweep.specs.Objects.{ports_member, refused_members, run_members, signed_member, trial_object};
+ghost use Rattle.pd_sweep.specs.Objects.{ports_member, run_members, signed_member, trial_object};
 
 use crate::names::{push_signed, set_name, truth};
 use crate::{
-    Effect, Extent, Findings, Makers, Measure, Mishaps, Obstacle, Outcome, Target, Trial, are_same,
-    is_same, push_listed,
+    Effect, Extent, Findings, Makers, Measure, Mishaps, Outcome, Target, Trial, are_same, is_same,
+    push_listed,
 };
 use pd_header::{header_id, header_kind};
 use pd_objects::Contract;
@@ -283,24 +283,6 @@ fn push_hit(text: &mut Vec<u8>, old: &Findings, effect: &Effect) -> Result<(), A
     push_run(text, old, effect)
 }
 
-/// Writes that the event is refused.
-fn push_refused(text: &mut Vec<u8>, number: u64) -> Result<(), AllocError>
-    ensures { OnOk result (text.new.items ≡ text.old.items ++ refused_members number) }
-{
-    push_text_member(text, b"outcome", b"refused")?;
-    push_number_member(text, b"refusal", number)
-}
-
-/// Writes why a packet can't be lost.
-fn push_barred(text: &mut Vec<u8>, obstacle: &Obstacle) -> Result<(), AllocError>
-    ensures { OnOk result (text.new.items ≡ text.old.items ++ barred_members obstacle.now) }
-{
-    match obstacle {
-        Obstacle::NoId => push_text_member(text, b"outcome", b"no_id"),
-        Obstacle::Refused(fault) => push_refused(text, u64::from(fault.number())),
-    }
-}
-
 /// Writes what comes of losing a packet.
 fn push_outcome(text: &mut Vec<u8>, old: &Findings, outcome: &Outcome) -> Result<(), AllocError>
     ensures { OnOk result (text.new.items ≡ text.old.items ++ outcome_members old.now outcome.now) }
@@ -309,7 +291,6 @@ fn push_outcome(text: &mut Vec<u8>, old: &Findings, outcome: &Outcome) -> Result
         Outcome::Ran(effect) => push_hit(text, old, effect),
         Outcome::Missed => push_text_member(text, b"outcome", b"not_hit"),
         Outcome::Disturbed => push_text_member(text, b"outcome", b"disturbed"),
-        Outcome::Barred(obstacle) => push_barred(text, obstacle),
     }
 }
 

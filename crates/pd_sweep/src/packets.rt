@@ -1,6 +1,8 @@
 //! The packets of a run.
 
 ghost use Rattle.std.specs.Prelude.{◌≡◌, ◌++◌, ◌<◌, IfOk, List, MatchOption, OnOk, length, option_map, slice_get};
+ghost use Rattle.std.specs.List.{AllByRecursion};
+ghost use Rattle.pd_sweep.specs.Lost.{IsOfRun};
 ghost use Rattle.pd_sweep.specs.Choices.{chosen, chosen_of, is_disturbed, packet_at};
 
 use crate::Choice;
@@ -92,7 +94,8 @@ pub fn chosen<const N: usize, T: Runner<N>>(
     run: &T,
     choice: &Choice,
 ) -> Result<Vec<Target>, AllocError>
-    ensures { IfOk result (λ v. v.items ≡ chosen choice.now (T.entries run.now)) }
+    ensures value { IfOk result (λ v. v.items ≡ chosen choice.now (T.entries run.now)) }
+    ensures known { IfOk result (λ v. AllByRecursion (IsOfRun N) v.items) }
 {
     let mut targets = Vec::new(alloc);
     for index in 0..run.len() {

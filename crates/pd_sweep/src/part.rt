@@ -1,7 +1,7 @@
 //! Which of the packets that are chosen are tried.
 
-ghost use Rattle.std.specs.Prelude.{◌≡◌, drop, take};
-ghost use Rattle.pd_sweep.specs.Parts.{part_of};
+ghost use Rattle.std.specs.Prelude.{◌≡◌, ◌<◌, ◌≤◌, drop, take};
+ghost use Rattle.pd_sweep.specs.Parts.{part_of, share_of, share_start};
 
 use crate::Target;
 
@@ -12,6 +12,33 @@ pub struct Part {
     pub first: usize,
     /// How many they are at most.
     pub count: usize,
+}
+
+/// How many of some packets stand before the share behind so many of all shares.
+fn share_start(before: u64, shares: u64, packets: usize) -> usize
+    requires some { 0 < shares }
+    requires within { before ≤ shares }
+    ensures value { result ≡ share_start before shares packets }
+    ensures within { result ≤ packets }
+{
+    (u128::from(before) * packets as u128 / u128::from(shares)) as usize
+}
+
+impl Part {
+    /// One of so many shares of so many packets, numbered from 1. The shares stand one behind another, and none has two packets more
+    /// than another; some have none where there are more shares than packets.
+    pub fn share(number: u64, shares: u64, packets: usize) -> Part
+        requires first { 1 ≤ number }
+        requires last { number ≤ shares }
+        ensures { result ≡ share_of number shares packets }
+    {
+        let first = share_start(number - 1, shares, packets);
+        let end = share_start(number, shares, packets);
+        Part {
+            first,
+            count: end.saturating_sub(first),
+        }
+    }
 }
 
 /// The packets of a part.

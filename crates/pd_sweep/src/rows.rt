@@ -1,14 +1,14 @@
 //! A trial as comma-separated values.
 
 ghost use Rattle.std.specs.Prelude.{◌≡◌, ◌++◌, OnOk};
-ghost use Rattle.pd_sweep.specs.Rows.{barred_values, contracts_values, findings_values, hit_values, instant_values, lower_values};
+ghost use Rattle.pd_sweep.specs.Rows.{contracts_values, findings_values, hit_values, instant_values, lower_values};
 ghost use Rattle.pd_sweep.specs.Rows.{margin_values, measures_values, message_values, mishaps_values, more_value, most_of};
 ghost use Rattle.pd_sweep.specs.Rows.{outcome_values, packet_values, run_values, trial_row, until_value};
 
 use crate::names::{push_signed, set_name, truth};
 use crate::words::push_ports;
 use crate::{
-    Effect, Extent, Findings, Makers, Measure, Mishaps, Obstacle, Outcome, Target, Trial, are_same,
+    Effect, Extent, Findings, Makers, Measure, Mishaps, Outcome, Target, Trial, are_same,
     push_contracts, push_listed,
 };
 use pd_header::{header_id, header_kind};
@@ -159,20 +159,6 @@ fn push_run(text: &mut Vec<u8>, old: &Findings, effect: &Effect) -> Result<(), A
     push_findings(text, old, &effect.findings)
 }
 
-/// Writes why a packet can't be lost.
-fn push_barred(text: &mut Vec<u8>, obstacle: &Obstacle) -> Result<(), AllocError>
-    ensures { OnOk result (text.new.items ≡ text.old.items ++ barred_values obstacle.now) }
-{
-    match obstacle {
-        Obstacle::NoId => text.extend_from_slice(b",no_id,,,,,,,,,,,,"),
-        Obstacle::Refused(fault) => {
-            text.extend_from_slice(b",refused ")?;
-            push_number(text, u64::from(fault.number()))?;
-            text.extend_from_slice(b",,,,,,,,,,,,")
-        }
-    }
-}
-
 /// Writes that a packet is hit, and the run in which it is.
 fn push_hit(text: &mut Vec<u8>, old: &Findings, effect: &Effect) -> Result<(), AllocError>
     ensures { OnOk result (text.new.items ≡ text.old.items ++ hit_values old.now effect.now) }
@@ -189,7 +175,6 @@ fn push_outcome(text: &mut Vec<u8>, old: &Findings, outcome: &Outcome) -> Result
         Outcome::Ran(effect) => push_hit(text, old, effect),
         Outcome::Missed => text.extend_from_slice(b",not_hit,,,,,,,,,,,,"),
         Outcome::Disturbed => text.extend_from_slice(b",disturbed,,,,,,,,,,,,"),
-        Outcome::Barred(obstacle) => push_barred(text, obstacle),
     }
 }
 

@@ -5,7 +5,7 @@ ghost use Rattle.pd_scene.specs.Outlet.{SameEnds};
 ghost use Rattle.pd_scene.specs.Scene.{EditedScene};
 ghost use Rattle.pd_sweep.specs.Texts.{SweepsScene};
 
-use crate::{Campaign, Form, Part, Tally, sweep};
+use crate::{Campaign, Look, Part, Tally, sweep};
 use pd_device::{BenchFault, TextOut};
 use pd_keep::Kept;
 use pd_port::Meter;
@@ -19,7 +19,7 @@ use std::alloc::Global;
 struct Sweeping<'a> {
     campaign: &'a Campaign,
     part: Option<Part>,
-    form: Form,
+    look: Look,
 }
 
 impl<'w, W: TextOut> Job<Outlet<'w, W, Meter>> for Sweeping<'_> {
@@ -28,7 +28,7 @@ impl<'w, W: TextOut> Job<Outlet<'w, W, Meter>> for Sweeping<'_> {
     ghost needs = { λ j. j.campaign.now.choice.port };
 
     ghost does = { λ j n s r old new. SameEnds old new
-        × SweepsScene j.campaign.now j.part j.form n s r (W.taken old.writer.now) (W.taken new.writer.now)
+        × SweepsScene j.campaign.now j.part j.look n s r (W.taken old.writer.now) (W.taken new.writer.now)
         (W.failures old.writer.now) (W.failures new.writer.now) };
 
     fn port(&self) -> Option<usize> {
@@ -44,7 +44,7 @@ impl<'w, const N: usize, W: TextOut> JobOn<N, Outlet<'w, W, Meter>> for Sweeping
         to: &mut Outlet<'w, W, Meter>,
     ) -> Result<Tally, BenchFault>
         ensures { SameEnds to.old to.new
-            × SweepsScene self.now.campaign.now self.now.part self.now.form N scenario.entry result
+            × SweepsScene self.now.campaign.now self.now.part self.now.look N scenario.entry result
             (W.taken to.old.writer.now) (W.taken to.new.writer.now) (W.failures to.old.writer.now) (W.failures to.new.writer.now) }
     {
         let mut run: Kept<N> = Kept::empty(alloc);
@@ -54,7 +54,7 @@ impl<'w, const N: usize, W: TextOut> JobOn<N, Outlet<'w, W, Meter>> for Sweeping
             &scenario,
             self.campaign,
             self.part,
-            self.form,
+            self.look,
             to.writer,
             to.meter,
         )
@@ -72,7 +72,7 @@ fn on_sweep<W: TextOut>(
     meter: &mut Meter,
 ) -> Result<Tally, SceneFault>
     ensures { EditedScene refused sweeping.now.campaign.now.choice.port (λ n s r old new. SweepsScene sweeping.now.campaign.now
-        sweeping.now.part sweeping.now.form n s r (W.taken old) (W.taken new) (W.failures old) (W.failures new))
+        sweeping.now.part sweeping.now.look n s r (W.taken old) (W.taken new) (W.failures old) (W.failures new))
         script.now result text.now writer.old writer.new }
 {
     let mut outlet = Outlet { writer, meter };
@@ -96,17 +96,17 @@ pub fn sweep_text<W: TextOut>(
     script: &[u8],
     refused: Refused,
     campaign: &Campaign,
-    form: Form,
+    look: Look,
     writer: &mut W,
     meter: &mut Meter,
 ) -> Result<Tally, SceneFault>
-    ensures { EditedScene refused campaign.now.choice.port (λ n s r old new. SweepsScene campaign.now None form n s r
+    ensures { EditedScene refused campaign.now.choice.port (λ n s r old new. SweepsScene campaign.now None look n s r
         (W.taken old) (W.taken new) (W.failures old) (W.failures new)) script.now result text.now writer.old writer.new }
 {
     let sweeping = Sweeping {
         campaign,
         part: None,
-        form,
+        look,
     };
     on_sweep(alloc, text, script, refused, &sweeping, writer, meter)
 }
@@ -122,17 +122,17 @@ pub fn sweep_part_text<W: TextOut>(
     refused: Refused,
     campaign: &Campaign,
     part: Part,
-    form: Form,
+    look: Look,
     writer: &mut W,
     meter: &mut Meter,
 ) -> Result<Tally, SceneFault>
-    ensures { EditedScene refused campaign.now.choice.port (λ n s r old new. SweepsScene campaign.now (Some part) form n s r
+    ensures { EditedScene refused campaign.now.choice.port (λ n s r old new. SweepsScene campaign.now (Some part) look n s r
         (W.taken old) (W.taken new) (W.failures old) (W.failures new)) script.now result text.now writer.old writer.new }
 {
     let sweeping = Sweeping {
         campaign,
         part: Some(part),
-        form,
+        look,
     };
     on_sweep(alloc, text, script, refused, &sweeping, writer, meter)
 }

@@ -1,20 +1,21 @@
 //! What losing a packet leads to.
 
-ghost use Rattle.std.specs.Prelude.{◌≡◌, ◌<◌, ◌≤◌, IfErr, IfOk, MatchOption, length, nat_lt, slice_get, take};
+ghost use Rattle.std.specs.Prelude.{◌≡◌, ◌<◌, ◌≤◌, IfErr, IfOk, MatchOption, OnOk, Some, length, nat_lt, slice_get, take};
+ghost use Rattle.pd_run.specs.Shown.{Shows};
 ghost use Rattle.pd_device.specs.declared.fault.BenchFault.TheVariants.{Memory as no_memory};
-ghost use Rattle.pd_sweep.specs.Trials.{AreBefore, IsBaseOf, IsOfVariant, IsTrial};
-ghost use Rattle.pd_sweep.specs.Variants.{row_variant};
+ghost use Rattle.pd_scenario.specs.Plans.{plan_of};
+ghost use Rattle.pd_sweep.specs.Lost.{IsOfRun, lost};
+ghost use Rattle.pd_sweep.specs.Trials.{AreBefore, IsBaseOf, IsRunOf, IsTrial};
 
 use crate::base::Base;
 use crate::effect::Effect;
-use crate::hit::is_hit;
-use crate::variant::{Obstacle, row_variant_of};
-use crate::{Campaign, Target};
+use crate::hit::is_hit_where_lost;
+use crate::{Campaign, Target, lost};
 use pd_device::BenchFault;
 use pd_port::Meter;
-use pd_run::Runner;
+use pd_run::{Plan, Runner};
 use pd_scenario::Scenario;
-use std::alloc::Global;
+use std::alloc::{AllocError, Global};
 
 /// What comes of losing a packet.
 #[derive(Clone, Copy, Debug)]
@@ -25,8 +26,6 @@ pub enum Outcome {
     Missed,
     /// The scenario disturbs the packet already.
     Disturbed,
-    /// There is no such scenario.
-    Barred(Obstacle),
 }
 
 /// A packet, and what comes of losing it.
@@ -74,42 +73,56 @@ pub(crate) fn place_at<const N: usize, T: Runner<N>>(run: &T, at: u64) -> usize
     low
 }
 
+/// Runs the plan in which a packet is lost.
+fn run_where_lost<const N: usize, T: Runner<N>>(
+    alloc: Global,
+    run: &mut T,
+    scenario: &Scenario<N>,
+    plan: &Plan<N>,
+    campaign: &Campaign,
+    target: &Target,
+    meter: &mut Meter,
+) -> Result<(), AllocError>
+    requires plan { plan.now ≡ plan_of scenario.now }
+    requires known { IsOfRun N target.now }
+    ensures plan { OnOk result (T.plan run.new
+        ≡ Some (lost (plan_of scenario.now) campaign.now.loss campaign.now.behind target.now)) }
+    ensures run { OnOk result (Shows (lost (plan_of scenario.now) campaign.now.loss campaign.now.behind target.now) (T.entries run.new)) }
+{
+    // Read for the prover alone: that a scenario has few events.
+    let _events = scenario.events();
+    let behind = u64::from(campaign.behind);
+    let changed = lost(alloc, plan, campaign.loss, behind, target)?;
+    run.run_plan(alloc, changed, meter)
+}
+
 /// What comes of losing a packet that the scenario doesn't disturb.
 fn outcome_of<const N: usize, T: Runner<N>>(
     alloc: Global,
     run: &mut T,
     scenario: &Scenario<N>,
+    plan: &Plan<N>,
     base: &Base,
     campaign: &Campaign,
     target: &Target,
     meter: &mut Meter,
-) -> Result<Outcome, BenchFault>
-    requires { IsBaseOf scenario.now base.now }
-    ensures value { IfOk result (λ outcome. IsOfVariant scenario.now
-        (row_variant campaign.now.behind N scenario.now campaign.now.loss target.now) target.now outcome) }
-    ensures memory { IfErr result (λ fault. fault ≡ no_memory) }
+) -> Result<Outcome, AllocError>
+    requires base { IsBaseOf scenario.now base.now }
+    requires plan { plan.now ≡ plan_of scenario.now }
+    requires known { IsOfRun N target.now }
+    ensures { IfOk result (λ outcome. IsRunOf scenario.now
+        (lost (plan_of scenario.now) campaign.now.loss campaign.now.behind target.now) target.now outcome) }
 {
-    let variant = match row_variant_of(alloc, scenario, campaign.loss, target, campaign.behind) {
-        Ok(Ok(variant)) => variant,
-        Ok(Err(obstacle)) => return Ok(Outcome::Barred(obstacle)),
-        Err(fault) => return Err(fault),
-    };
-    let Ok(()) = run.replace(alloc, &variant, meter) else {
-        return Err(BenchFault::Memory);
-    };
-    match is_hit(alloc, scenario, target, run, &variant) {
-        Ok(true) => {}
-        Ok(false) => return Ok(Outcome::Missed),
-        Err(_) => return Err(BenchFault::Memory),
+    run_where_lost(alloc, run, scenario, plan, campaign, target, meter)?;
+    if !is_hit_where_lost(alloc, scenario, campaign, target, run)? {
+        return Ok(Outcome::Missed);
     }
-    match Effect::of(alloc, run, &variant, base, scenario.end_time()) {
-        Ok(effect) => Ok(Outcome::Ran(effect)),
-        Err(_) => Err(BenchFault::Memory),
-    }
+    let effect = Effect::of(alloc, run, scenario, base, scenario.end_time())?;
+    Ok(Outcome::Ran(effect))
 }
 
-/// Loses a packet of the run of a scenario, of which the base is kept. The runner, which may stand for any scenario, stands for the
-/// one in which the packet is lost from then on, where there is one.
+/// Loses a packet of the run of a scenario, of which the plan and the base are kept. The runner, which may stand for any run, stands for
+/// the one in which the packet is lost from then on, where there is one.
 ///
 /// # Errors
 /// `Memory`: there is none.
@@ -117,12 +130,15 @@ pub fn try_packet<const N: usize, T: Runner<N>>(
     alloc: Global,
     run: &mut T,
     scenario: &Scenario<N>,
+    plan: &Plan<N>,
     base: &Base,
     campaign: &Campaign,
     target: Target,
     meter: &mut Meter,
 ) -> Result<Trial, BenchFault>
-    requires { IsBaseOf scenario.now base.now }
+    requires base { IsBaseOf scenario.now base.now }
+    requires plan { plan.now ≡ plan_of scenario.now }
+    requires known { IsOfRun N target }
     ensures packet { IfOk result (λ trial. trial.target ≡ target) }
     ensures value { IfOk result (λ trial. IsTrial N scenario.now campaign.now trial) }
     ensures memory { IfErr result (λ fault. fault ≡ no_memory) }
@@ -133,8 +149,8 @@ pub fn try_packet<const N: usize, T: Runner<N>>(
             outcome: Outcome::Disturbed,
         });
     }
-    match outcome_of(alloc, run, scenario, base, campaign, &target, meter) {
+    match outcome_of(alloc, run, scenario, plan, base, campaign, &target, meter) {
         Ok(outcome) => Ok(Trial { target, outcome }),
-        Err(fault) => Err(fault),
+        Err(_) => Err(BenchFault::Memory),
     }
 }

@@ -1,8 +1,8 @@
-//! The scenario in which a packet is lost.
+//! The scenario in which a packet is lost, as an edit makes it.
 
 ghost use Rattle.std.specs.Prelude.{◌≡◌, ◌<◌, ◌≤◌, IfErr, IfOk, OnOk};
 ghost use Rattle.pd_device.specs.declared.fault.BenchFault.TheVariants.{Memory as no_memory};
-ghost use Rattle.pd_sweep.specs.Variants.{free_id, insertion, is_at, is_on, kind_of, least_id, row_variant, variant};
+ghost use Rattle.pd_sweep.specs.Variants.{free_id, insertion, is_at, is_on, kind_of, least_id, variant};
 
 use crate::{Loss, Target};
 use pd_device::BenchFault;
@@ -111,30 +111,5 @@ pub fn variant_of<const N: usize>(
         Ok(variant) => Ok(Ok(variant)),
         Err(EditFault::Memory) => Err(BenchFault::Memory),
         Err(fault) => Ok(Err(Obstacle::Refused(fault))),
-    }
-}
-
-/// The scenario in which a packet is lost and so many that start behind it on its port, or why there is none.
-///
-/// # Errors
-/// There is no memory.
-#[tactic(auto, using(crate::proofs::RowLemmas::row_none, crate::proofs::RowLemmas::row_next))]
-pub fn row_variant_of<const N: usize>(
-    alloc: Global,
-    scenario: &Scenario<N>,
-    loss: Loss,
-    target: &Target,
-    behind: u64,
-) -> Result<Result<Scenario<N>, Obstacle>, BenchFault>
-    ensures value { IfOk result (λ v. v ≡ row_variant behind N scenario.now loss target.now) }
-    ensures memory { IfErr result (λ fault. fault ≡ no_memory) }
-{
-    if behind == 0 {
-        return variant_of(alloc, scenario, loss, target);
-    }
-    match variant_of(alloc, scenario, loss, target) {
-        Ok(Ok(more)) => row_variant_of(alloc, &more, loss, target, behind - 1),
-        Ok(Err(obstacle)) => Ok(Err(obstacle)),
-        Err(fault) => Err(fault),
     }
 }

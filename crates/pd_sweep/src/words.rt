@@ -391,10 +391,6 @@ fn push_outcome(text: &mut Vec<u8>, old: &Findings, outcome: &Outcome) -> Result
         Outcome::Ran(effect) => push_run(text, old, effect),
         Outcome::Missed => text.extend_from_slice(b"not hit"),
         Outcome::Disturbed => text.extend_from_slice(b"not tried: disturbed already"),
-        Outcome::Barred(obstacle) => {
-            text.extend_from_slice(b"not tried: ")?;
-            push_obstacle(text, obstacle)
-        }
     }
 }
 

@@ -1,7 +1,7 @@
 use Rattle.std.proofs.Common.{◌≡◌, ◌-◌, ◌≤◌, drop, length}
 use Rattle.std.specs.Prelude.{◌||◌}
 use Rattle.pd_sweep.specs.Trials.{hit_from, is_hit}
-use Rattle.pd_sweep.proofs.hit.is_hit.Given as goal
+use Rattle.pd_sweep.proofs.hit.is_hit_from.Given as goal
 
 abbrev pub invariant-loop-index : goal.invariant-loop-index
 invariant-loop-index g l = record {
