@@ -3,6 +3,7 @@ pub mod Cases
 pub mod Counted
 pub mod Details
 pub mod FaultTexts
+pub mod Held
 pub mod Junit
 pub mod Laws
 pub mod Losses

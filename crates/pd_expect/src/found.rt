@@ -147,8 +147,8 @@ pub(crate) fn is_met(expectation: &Expectation, found: &Found) -> bool
     }
 }
 
-/// The port that is named.
-pub(crate) fn port_of(expectation: &Expectation) -> Option<u64>
+/// The port that an expectation names, if it names one.
+pub fn port_of(expectation: &Expectation) -> Option<u64>
     ensures { result ≡ port_of expectation.now }
 {
     match *expectation {

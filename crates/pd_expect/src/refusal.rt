@@ -63,7 +63,7 @@ impl Places {
 }
 
 /// Words of a line in which no fault is told, and nothing where it has none.
-fn wrong_words(line: &[u8]) -> &[u8]
+pub(crate) fn wrong_words(line: &[u8]) -> &[u8]
     ensures { result.now ≡ unwrap_or (wrong_text (quoted line.now)) [] }
 {
     match wrong_text(line) {

@@ -81,7 +81,7 @@ fn judge<const N: usize, T: Runner<N>>(
 }
 
 /// The last time that an expectation names, if it is after the end.
-fn late_time(end: u64, time: Option<u64>) -> Option<u64>
+pub(crate) fn late_time(end: u64, time: Option<u64>) -> Option<u64>
     ensures { result ≡ late_time end time }
 {
     match time {

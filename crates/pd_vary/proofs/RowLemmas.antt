@@ -1,103 +1,157 @@
 -- How far the rows have come.
-use Rattle.std.proofs.Common.{◌≡◌, ℕ, ◌+◌, ◌<◌, ◌≤◌, List, [], ◌∷◌, ◌++◌, length, Option, refl, sym, ap, append_assoc, ◌∙◌, arith, subst}
+use Rattle.std.proofs.Common.{◌≡◌, ℕ, ◌+◌, ◌==◌, ◌<◌, ◌≤◌, List, [], ◌∷◌, ◌++◌, length, Option, refl, sym, ap, append_assoc, ◌∙◌, arith}
+use Rattle.std.proofs.Common.{cond, length-append, subst, true}
 use Rattle.std.specs.List.{flat_map}
 use Rattle.std.specs.Io.KnownBytes.{Appends}
 use Rattle.std.proofs.KnownBytes.{Appends-trans}
+use Rattle.std.proofs.lemmas.Bool.{cond-true}
+use Rattle.std.proofs.lemmas.Bool.Decides.{nat_tests}
 use Rattle.std.proofs.lemmas.List.{append-nil}
 use Rattle.std.proofs.lemmas.List.Concat.{flat_map-append}
-use Rattle.std.proofs.Common.{length-append}
+use Rattle.std.proofs.lemmas.List.Sums.{fold-append}
 use Rattle.pd_device.specs.Device.{WrotePart}
-use Rattle.pd_device.proofs.DeviceLemmas.{WrotePart-after}
+use Rattle.pd_device.proofs.DeviceLemmas.{WrotePart-after, WrotePart-longer}
 use Rattle.pd_scenario.specs.Scenarios.{ScenarioData}
+use Rattle.pd_vary.specs.Rows.{all_hold}
 use Rattle.pd_vary.specs.Sets.{rows_of}
-use Rattle.pd_vary.specs.Tellings.{head}
-use Rattle.pd_vary.specs.Varies.{AreInTurn, BeganRows, IsRow, WroteRows, sets_of, texts_of}
+use Rattle.pd_vary.specs.Tellings.{head, summary}
+use Rattle.pd_vary.specs.Varies.{AreInTurn, BeganRows, IsRow, WroteRows, holding, last_of, sets_of, texts_of, told_of}
 use Rattle.pd_vary.specs.declared.walk.Question.{Question}
+use Rattle.pd_vary.specs.declared.walk.Row.{Row}
 
--- so many rows were told
-pub record Progress (n : ℕ) (c : ScenarioData) (q : Question) (row : ℕ) (a b : Option (List ℕ)) : Type 0 where
-  pub texts : List (List ℕ)
-  pub count : length texts ≡ row
-  pub each : AreInTurn (IsRow n c q) 0 texts
-  pub appends : Appends a b (texts_of q texts)
+-- so many rows were told, and in so many of them all that is expected holds
+pub record Progress (n : ℕ) (c : ScenarioData) (q : Question) (place all : ℕ) (a b : Option (List ℕ)) : Type 0 where
+  pub rows : List Row
+  pub count : length rows ≡ place
+  pub holding_is : all ≡ holding rows
+  pub each : AreInTurn (IsRow n c q) 0 rows
+  pub appends : Appends a b (texts_of q rows)
 
-turn_more : (P : ℕ → List ℕ → Type 0) (place : ℕ) (texts : List (List ℕ)) (text : List ℕ) → AreInTurn P place texts
-    → P (place + length texts) text → AreInTurn P place (texts ++ text ∷ [])
+turn_more : (P : ℕ → Row → Type 0) (place : ℕ) (rows : List Row) (row : Row) → AreInTurn P place rows
+    → P (place + length rows) row → AreInTurn P place (rows ++ row ∷ [])
 unfolding AreInTurn
-turn_more P place [] text h p = (subst (λ k. P k text) (let e : place + 0 ≡ place = omega arith in e) p, tt)
-turn_more P place (one ∷ texts) text h p =
-    let next : place + length (one ∷ texts) ≡ place + 1 + length texts = omega arith in
-    (h.0, turn_more P (place + 1) texts text h.1 (subst (λ k. P k text) next p))
+turn_more P place [] row h p = (subst (λ k. P k row) (let e : place + 0 ≡ place = omega arith in e) p, tt)
+turn_more P place (one ∷ rows) row h p =
+    let next : place + length (one ∷ rows) ≡ place + 1 + length rows = omega arith in
+    (h.0, turn_more P (place + 1) rows row h.1 (subst (λ k. P k row) next p))
+
+-- one more row in which all holds, or not
+holding_more : (rows : List Row) (row : Row) → holding (rows ++ row ∷ []) ≡ holding rows + cond (all_hold row.outcome) 1 0
+holding_more rows row = fold-append (λ (n : ℕ) (r : Row). n + cond (all_hold r.outcome) 1 0) 0 rows (row ∷ [])
+
+own : (n : ℕ) → (n == n) ≡ true
+own n = grind (arith, nat_tests)
 
 module _ (n : ℕ) (c : ScenarioData) (q : Question) where
+  abbrev pub first : List ℕ
+  first = head q.form (length q.sets.now) q.asks.now (length q.wheres.now)
+
   none_told : AreInTurn (IsRow n c q) 0 []
   unfolding AreInTurn
   none_told = tt
 
   -- what stands before the first row
-  pub progress_none : (a b : Option (List ℕ)) → Appends a b (head q.form (length q.sets.now) q.asks.now) → Progress n c q 0 a b
+  pub progress_none : (a b : Option (List ℕ)) → Appends a b first → Progress n c q 0 0 a b
   progress_none a b wrote = record {
-    texts = [];
+    rows = [];
     count = refl;
+    holding_is = refl;
     each = none_told;
-    appends = rw (append-nil (head q.form (length q.sets.now) q.asks.now)) wrote;
+    appends = rw (append-nil first) wrote;
   }
 
-  texts_push : (texts : List (List ℕ)) (text : List ℕ) → texts_of q (texts ++ text ∷ []) ≡ texts_of q texts ++ text
-  texts_push texts text =
-      let f : List ℕ → List ℕ = λ t. t in
-      let front : List ℕ = head q.form (length q.sets.now) q.asks.now in
-      ap (λ v. front ++ v) (flat_map-append f texts (text ∷ []) ∙ ap (λ v. flat_map f texts ++ v) (append-nil text))
-      ∙ sym (append_assoc front (flat_map f texts) text)
+  texts_push : (rows : List Row) (row : Row) → texts_of q (rows ++ row ∷ []) ≡ texts_of q rows ++ row.text.items
+  texts_push rows row =
+      let f : Row → List ℕ = λ r. r.text.items in
+      ap (λ v. first ++ v) (flat_map-append f rows (row ∷ []) ∙ ap (λ v. flat_map f rows ++ v) (append-nil row.text.items))
+      ∙ sym (append_assoc first (flat_map f rows) row.text.items)
 
-  count_more : (row : ℕ) (texts : List (List ℕ)) (text : List ℕ) → length texts ≡ row → length (texts ++ text ∷ []) ≡ row + 1
-  count_more row texts text count = length-append texts (text ∷ []) ∙ ap (λ k. k + 1) count
+  count_more : (place : ℕ) (rows : List Row) (row : Row) → length rows ≡ place → length (rows ++ row ∷ []) ≡ place + 1
+  count_more place rows row count = length-append rows (row ∷ []) ∙ ap (λ k. k + 1) count
 
-  each_more : (row : ℕ) (texts : List (List ℕ)) (text : List ℕ) → length texts ≡ row → AreInTurn (IsRow n c q) 0 texts
-      → IsRow n c q row text → AreInTurn (IsRow n c q) 0 (texts ++ text ∷ [])
-  each_more row texts text count each is =
-      let here : row ≡ 0 + length texts = omega (arith, count) in
-      turn_more (IsRow n c q) 0 texts text each (subst (λ k. IsRow n c q k text) here is)
+  each_more : (place : ℕ) (rows : List Row) (row : Row) → length rows ≡ place → AreInTurn (IsRow n c q) 0 rows
+      → IsRow n c q place row → AreInTurn (IsRow n c q) 0 (rows ++ row ∷ [])
+  each_more place rows row count each is =
+      let here : place ≡ 0 + length rows = omega (arith, count) in
+      turn_more (IsRow n c q) 0 rows row each (subst (λ k. IsRow n c q k row) here is)
 
-  pub progress_more : (row : ℕ) (a b d : Option (List ℕ)) (text : List ℕ) → Progress n c q row a b → IsRow n c q row text
-      → Appends b d text → Progress n c q (row + 1) a d
-  progress_more row a b d text p is wrote = record {
-    texts = p.texts ++ text ∷ [];
-    count = count_more row p.texts text p.count;
-    each = each_more row p.texts text p.count p.each is;
-    appends = rw (texts_push p.texts text) (Appends-trans a b d (texts_of q p.texts) text p.appends wrote);
+  pub progress_more : (place all more : ℕ) (a b d : Option (List ℕ)) (row : Row) → Progress n c q place all a b → IsRow n c q place row
+      → more ≡ all + cond (all_hold row.outcome) 1 0 → Appends b d row.text.items → Progress n c q (place + 1) more a d
+  progress_more place all more a b d row p is counted wrote = record {
+    rows = p.rows ++ row ∷ [];
+    count = count_more place p.rows row p.count;
+    holding_is = counted ∙ ap (λ k. k + cond (all_hold row.outcome) 1 0) p.holding_is ∙ sym (holding_more p.rows row);
+    each = each_more place p.rows row p.count p.each is;
+    appends = rw (texts_push p.rows row) (Appends-trans a b d (texts_of q p.rows) row.text.items p.appends wrote);
   }
+
+  -- a part of what stands before the rows' summary
+  began : (rows : List Row) (a b : Option (List ℕ)) → WrotePart a b (texts_of q rows) → WrotePart a b (told_of q rows)
+  began rows a b part = WrotePart-longer a b (texts_of q rows) (last_of q rows) part
 
   -- what stands before the first row is written in part
-  pub began_head : (a b : Option (List ℕ)) → WrotePart a b (head q.form (length q.sets.now) q.asks.now) → BeganRows n c q a b
-  began_head a b part =
-      let none : List (List ℕ) = [] in
-      record {
-        texts = [];
-        some = (let e : 0 ≤ rows_of (sets_of q) = omega arith in e);
-        each = none_told;
-        wrote = rw (append-nil (head q.form (length q.sets.now) q.asks.now)) part;
-      }
+  pub began_head : (a b : Option (List ℕ)) → WrotePart a b first → BeganRows n c q a b
+  began_head a b part = record {
+    rows = [];
+    some = (let e : 0 ≤ rows_of (sets_of q) = omega arith in e);
+    each = none_told;
+    wrote = began [] a b (rw (append-nil first) part);
+  }
 
   -- so many rows, and no more
-  pub began_so_far : (row : ℕ) (a b : Option (List ℕ)) → row < rows_of (sets_of q) → Progress n c q row a b → BeganRows n c q a b
-  began_so_far row a b there p = record {
-    texts = p.texts;
-    some = (let e : length p.texts ≤ rows_of (sets_of q) = omega (arith, p.count) in e);
+  pub began_so_far : (place all : ℕ) (a b : Option (List ℕ)) → place ≤ rows_of (sets_of q) → Progress n c q place all a b
+      → BeganRows n c q a b
+  began_so_far place all a b there p = record {
+    rows = p.rows;
+    some = (let e : length p.rows ≤ rows_of (sets_of q) = omega (arith, p.count, there) in e);
     each = p.each;
-    wrote = record { out = texts_of q p.texts; begins = ([], sym (append-nil (texts_of q p.texts))); appends = p.appends };
+    wrote =
+        began p.rows a b
+        (record { out = texts_of q p.rows; begins = ([], sym (append-nil (texts_of q p.rows))); appends = p.appends });
   }
 
   -- a row that is written in part
-  pub began_torn : (row : ℕ) (a b d : Option (List ℕ)) (text : List ℕ) → row < rows_of (sets_of q) → Progress n c q row a b
-      → IsRow n c q row text → WrotePart b d text → BeganRows n c q a d
-  began_torn row a b d text there p is part = record {
-    texts = p.texts ++ text ∷ [];
-    some = (let e : length (p.texts ++ text ∷ []) ≤ rows_of (sets_of q) = omega (arith, count_more row p.texts text p.count) in e);
-    each = each_more row p.texts text p.count p.each is;
-    wrote = rw (texts_push p.texts text) (WrotePart-after a b d (texts_of q p.texts) text p.appends part);
+  pub began_torn : (place all : ℕ) (a b d : Option (List ℕ)) (row : Row) → place < rows_of (sets_of q) → Progress n c q place all a b
+      → IsRow n c q place row → WrotePart b d row.text.items → BeganRows n c q a d
+  began_torn place all a b d row there p is part = record {
+    rows = p.rows ++ row ∷ [];
+    some =
+        (let e : length (p.rows ++ row ∷ []) ≤ rows_of (sets_of q) = omega (arith, count_more place p.rows row p.count, there) in e);
+    each = each_more place p.rows row p.count p.each is;
+    wrote =
+        began (p.rows ++ row ∷ []) a d
+        (rw (texts_push p.rows row) (WrotePart-after a b d (texts_of q p.rows) row.text.items p.appends part));
+  }
+
+  -- behind all rows stands their summary
+  last_is : (place all : ℕ) (rows : List Row) → place ≡ rows_of (sets_of q) → length rows ≡ place → all ≡ holding rows
+      → last_of q rows ≡ summary q.form q.wheres.now place all
+  last_is place all rows whole count holding_is =
+      cond-true (length rows == rows_of (sets_of q)) (summary q.form q.wheres.now (length rows) (holding rows)) []
+      (ap (λ k. k == rows_of (sets_of q)) (count ∙ whole) ∙ own (rows_of (sets_of q)))
+      ∙ ap (λ k. summary q.form q.wheres.now k (holding rows)) count
+      ∙ ap (λ k. summary q.form q.wheres.now place k) (sym holding_is)
+
+  -- the summary is written in part
+  pub began_last : (place count all : ℕ) (a b d : Option (List ℕ)) → place ≡ count → count ≡ rows_of (sets_of q)
+      → Progress n c q place all a b → WrotePart b d (summary q.form q.wheres.now count all) → BeganRows n c q a d
+  began_last place count all a b d end whole p part = record {
+    rows = p.rows;
+    some = (let e : length p.rows ≤ rows_of (sets_of q) = omega (arith, p.count, end, whole) in e);
+    each = p.each;
+    wrote =
+        WrotePart-after a b d (texts_of q p.rows) (last_of q p.rows) p.appends
+        (subst (λ t. WrotePart b d t) (sym (last_is count all p.rows whole (p.count ∙ end) p.holding_is)) part);
   }
 
   -- all
-  pub wrote_rows : (row : ℕ) (a b : Option (List ℕ)) → row ≡ rows_of (sets_of q) → Progress n c q row a b → WroteRows n c q a b
-  wrote_rows row a b all p = record { texts = p.texts; all = p.count ∙ all; each = p.each; appends = p.appends }
+  pub wrote_rows : (place all : ℕ) (a b d : Option (List ℕ)) → place ≡ rows_of (sets_of q) → Progress n c q place all a b
+      → Appends b d (summary q.form q.wheres.now place all) → WroteRows n c q a d
+  wrote_rows place all a b d whole p wrote = record {
+    rows = p.rows;
+    all = p.count ∙ whole;
+    each = p.each;
+    appends =
+        Appends-trans a b d (texts_of q p.rows) (last_of q p.rows) p.appends
+        (subst (λ t. Appends b d t) (sym (last_is place all p.rows whole p.count p.holding_is)) wrote);
+  }

@@ -1,4 +1,4 @@
--- What is measured of a run, beside the run without the edits: docs/FORMATS.md, "Vary". A number may be missing, as the voltage where no
+-- What is measured of a run, beside the run without the edits: docs/LAB.md, "Vary". A number may be missing, as the voltage where no
 -- contract stands.
 use Rattle.std.specs.Prelude.{ℕ, ◌-◌, ◌^◌, ◌*◌, ◌==◌, min, max, List, fold, if◌then◌else◌, Option, None, Some, option_and_then, option_map}
 use Rattle.std.specs.Prelude.{slice_get}

@@ -1,4 +1,5 @@
 pub mod Asks
+pub mod Conditions
 pub mod Laws
 pub mod Names
 pub mod Rows

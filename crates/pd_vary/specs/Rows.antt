@@ -1,5 +1,6 @@
--- What comes of a row: its edits in turn, and what is measured of the run of the scenario that they leave.
-use Rattle.std.specs.Prelude.{◌≡◌, ℕ, ◌+◌, List, [], ◌∷◌, map, Option, Result, Ok, Err}
+-- What comes of a row: its edits in turn, and what is measured and expected of the run of the scenario that they leave.
+use Rattle.std.specs.Prelude.{◌≡◌, ℕ, ◌+◌, Bool, false, List, [], ◌∷◌, map, Option, Result, Ok, Err}
+use Rattle.std.specs.List.{list_all}
 use Rattle.pd_port.specs.declared.entry.Entry.{Entry}
 use Rattle.pd_run.specs.Shown.{Shows}
 use Rattle.pd_scenario.specs.Plans.{plan_of}
@@ -14,8 +15,10 @@ use Rattle.pd_sweep.specs.Measures.{measures_of}
 use Rattle.pd_sweep.specs.Summaries.{AreFindings}
 use Rattle.pd_sweep.specs.declared.effect.Effect.{Effect}
 use Rattle.pd_vary.specs.Asks.{number_of}
+use Rattle.pd_vary.specs.Conditions.{AreHeld, holds}
 use Rattle.pd_vary.specs.Sets.{SetData, line_with}
 use Rattle.pd_vary.specs.declared.ask.Ask.{Ask}
+use Rattle.pd_vary.specs.declared.condition.Condition.{Condition}
 use Rattle.pd_vary.specs.declared.outcome.Outcome.{Outcome}
 use Rattle.pd_vary.specs.declared.outcome.Outcome.TheVariants.{Ran, Refused}
 use Rattle.pd_vary.specs.declared.outcome.Refusal.{Refusal}
@@ -45,10 +48,12 @@ unfoldable pub lines_with : List SetData → List (List ℕ) → List (List ℕ)
 lines_with (s ∷ sets) (value ∷ values) = line_with s value ∷ lines_with sets values
 lines_with _ _ = []
 
--- ---- what is measured
+-- ---- what is found
 
--- What is asked of the run of a scenario, beside the run of another, the base; both are safe.
-pub record AreNumbers (base v : ScenarioData) (asks : List Ask) (numbers : List (Option ℕ)) : Type 0 where
+-- What is asked of the run of a scenario, beside the run of another, the base; and the verdicts on what is expected of it. Both runs are
+-- safe.
+pub record AreFound (base v : ScenarioData) (asks : List Ask) (wheres : List Condition) (numbers : List (Option ℕ))
+    (verdicts : List (Option Bool)) : Type 0 where
   pub before : List (ℕ × Entry)
   pub before_shows : Shows (plan_of base) before
   pub moves : List (ℕ × Entry)
@@ -57,9 +62,15 @@ pub record AreNumbers (base v : ScenarioData) (asks : List Ask) (numbers : List 
   pub found : AreFindings (plan_of v) moves effect.findings
   pub measures : effect.measures ≡ measures_of (plan_of base).end before moves
   pub numbers_are : numbers ≡ map (number_of moves effect) asks
+  pub held : AreHeld (plan_of v) moves wheres verdicts
 
 -- what comes of a row, by the scenario that its edits leave, or the edit that is refused: then nothing is run
-abbrev pub IsOutcome : ScenarioData → List Ask → Result ScenarioData Refusal → Outcome → Type 0
-IsOutcome base asks (Ok v) (Ran numbers) = AreNumbers base v asks numbers.items
-IsOutcome base asks (Err refusal) (Refused other) = other ≡ refusal
-IsOutcome base asks _ _ = ⊥
+abbrev pub IsOutcome : ScenarioData → List Ask → List Condition → Result ScenarioData Refusal → Outcome → Type 0
+IsOutcome base asks wheres (Ok v) (Ran numbers verdicts) = AreFound base v asks wheres numbers.items verdicts.items
+IsOutcome base asks wheres (Err refusal) (Refused other) = other ≡ refusal
+IsOutcome base asks wheres _ _ = ⊥
+
+-- all that is expected holds
+abbrev pub all_hold : Outcome → Bool
+all_hold (Refused refusal) = false
+all_hold (Ran numbers verdicts) = list_all holds verdicts.items

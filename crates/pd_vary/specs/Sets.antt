@@ -1,4 +1,4 @@
--- An edit line with a place in it, and the values that stand there in turn: docs/FORMATS.md, "Vary".
+-- An edit line with a place in it, and the values that stand there in turn: docs/LAB.md, "Vary".
 --     floor 1 {}=45W..65W/5W
 --     caps 1 5000 3000 20000 {}=3000,3250,5000
 -- A range has FROM, FROM + STEP and so on, up to TO. Where the place has a unit, its numbers may have one too; the line has them in digits.

@@ -1,5 +1,6 @@
--- What is told of a row: this product's own words and keys, docs/FORMATS.md, "Vary".
-use Rattle.std.specs.Prelude.{ℕ, ◌+◌, ◌==◌, List, [], ◌∷◌, ◌++◌, map, codes, decimal, if◌then◌else◌, Option, None, Some}
+-- What is told of a row: this product's own words and keys, docs/LAB.md, "Vary".
+use Rattle.std.specs.Prelude.{ℕ, ◌+◌, ◌==◌, Bool, true, false, List, [], ◌∷◌, ◌++◌, map, codes, decimal, if◌then◌else◌}
+use Rattle.std.specs.Prelude.{Option, None, Some}
 use Rattle.std.specs.Prelude.{unwrap_or}
 use Rattle.std.specs.List.{flat_map, range_with_len}
 use Rattle.pd_edit_lines.specs.Numbers.{number_of}
@@ -10,11 +11,12 @@ use Rattle.pd_text.specs.declared.piece.Form.{Form as PieceForm}
 use Rattle.pd_text.specs.declared.piece.Form.TheVariants as piece
 use Rattle.pd_text.specs.declared.piece.Unit.{Unit}
 use Rattle.pd_text.specs.declared.piece.Unit.TheVariants as unit
-use Rattle.pd_text.specs.Pieces.{PieceData, kind, line_words, member_null, member_string, number, string}
-use Rattle.pd_text.specs.Texts.{line_begin, line_end, text_of_all}
+use Rattle.pd_text.specs.Pieces.{PieceData, flag, kind, line_number, line_words, member_null, member_string, number, string}
+use Rattle.pd_text.specs.Texts.{line_begin, line_end, line_of, text_of_all}
 use Rattle.pd_vary.specs.declared.ask.Ask.{Ask}
 use Rattle.pd_vary.specs.declared.ask.What.{What}
 use Rattle.pd_vary.specs.declared.ask.What.TheVariants as what
+use Rattle.pd_vary.specs.declared.condition.Condition.{Condition}
 use Rattle.pd_vary.specs.declared.outcome.Outcome.{Outcome}
 use Rattle.pd_vary.specs.declared.outcome.Outcome.TheVariants.{Ran, Refused}
 use Rattle.pd_vary.specs.declared.outcome.Refusal.{Refusal}
@@ -96,9 +98,26 @@ refusal_pieces refusal =
     ∷ number (codes " refused ") (codes "refusal") unit.Plain (number_of refusal.fault)
     ∷ string (codes ": ") (codes "reason") (reason refusal) ∷ []
 
+-- `where_1`: the conditions are numbered from 1
+abbrev pub where_key : ℕ → List ℕ
+where_key position = codes "where_" ++ decimal position
+
+-- whether a condition holds, or that it isn't known
+abbrev pub verdict_pieces : ℕ → List ℕ → Option Bool → List PieceData
+verdict_pieces position key (Some holds) =
+    line_number (codes "  where ") unit.Plain position ∷ flag (codes " holds") (codes " fails") key holds ∷ []
+verdict_pieces position key None =
+    line_number (codes "  where ") unit.Plain position ∷ line_words (codes " none") ∷ member_null key ∷ []
+
+-- of each in turn; the first has this position
+unfoldable pub verdicts_text : PieceForm → ℕ → List (Option Bool) → List ℕ
+verdicts_text form position [] = []
+verdicts_text form position (verdict ∷ verdicts) =
+    text_of_all form (verdict_pieces position (where_key position) verdict) ++ verdicts_text form (position + 1) verdicts
+
 abbrev pub outcome_text : PieceForm → List Ask → Outcome → List ℕ
 outcome_text form asks (Refused refusal) = text_of_all form (refusal_pieces refusal)
-outcome_text form asks (Ran numbers) = numbers_text form asks numbers.items
+outcome_text form asks (Ran numbers verdicts) = numbers_text form asks numbers.items ++ verdicts_text form 1 verdicts.items
 
 abbrev pub value_key : ℕ → List ℕ
 value_key position = codes "value_" ++ decimal position
@@ -133,16 +152,26 @@ number_value (Some n) = 44 ∷ decimal n
 abbrev pub no_value : Ask → List ℕ
 no_value ask = 44 ∷ []
 
-abbrev pub outcome_values : List Ask → Outcome → List ℕ
-outcome_values asks (Refused refusal) =
-    44 ∷ (decimal refusal.edit ++ (44 ∷ (decimal (number_of refusal.fault) ++ flat_map no_value asks)))
-outcome_values asks (Ran numbers) = codes ",," ++ flat_map number_value numbers.items
+abbrev pub verdict_value : Option Bool → List ℕ
+verdict_value None = codes ","
+verdict_value (Some true) = codes ",true"
+verdict_value (Some false) = codes ",false"
+
+abbrev pub no_verdict : Condition → List ℕ
+no_verdict condition = 44 ∷ []
+
+abbrev pub outcome_values : List Ask → List Condition → Outcome → List ℕ
+outcome_values asks wheres (Refused refusal) =
+    44 ∷ (decimal refusal.edit ++ (44 ∷ (decimal (number_of refusal.fault) ++ (flat_map no_value asks ++ flat_map no_verdict wheres))))
+outcome_values asks wheres (Ran numbers verdicts) =
+    codes ",," ++ (flat_map number_value numbers.items ++ flat_map verdict_value verdicts.items)
 
 abbrev pub placed_value : List ℕ → List ℕ
 placed_value value = 44 ∷ value
 
-unfoldable pub row_values : ℕ → List (List ℕ) → List Ask → Outcome → List ℕ
-row_values row values asks outcome = decimal row ++ (flat_map placed_value values ++ (outcome_values asks outcome ++ codes "\n"))
+unfoldable pub row_values : ℕ → List (List ℕ) → List Ask → List Condition → Outcome → List ℕ
+row_values row values asks wheres outcome =
+    decimal row ++ (flat_map placed_value values ++ (outcome_values asks wheres outcome ++ codes "\n"))
 
 -- the head: the columns' names
 abbrev pub value_name : ℕ → List ℕ
@@ -151,19 +180,38 @@ value_name position = 44 ∷ value_key position
 abbrev pub ask_name : Ask → List ℕ
 ask_name ask = 44 ∷ ask_key ask
 
+abbrev pub where_name : ℕ → List ℕ
+where_name position = 44 ∷ where_key position
+
 -- ---- in the three forms
 
-abbrev pub row_text : Form → ℕ → List (List ℕ) → List (List ℕ) → List Ask → Outcome → List ℕ
-row_text Words row lines values asks outcome = row_line piece.Words row lines values asks outcome
-row_text Json row lines values asks outcome = row_line piece.Json row lines values asks outcome
-row_text Csv row lines values asks outcome = row_values row values asks outcome
+abbrev pub row_text : Form → ℕ → List (List ℕ) → List (List ℕ) → List Ask → List Condition → Outcome → List ℕ
+row_text Words row lines values asks wheres outcome = row_line piece.Words row lines values asks outcome
+row_text Json row lines values asks wheres outcome = row_line piece.Json row lines values asks outcome
+row_text Csv row lines values asks wheres outcome = row_values row values asks wheres outcome
 
 -- what stands before the first row: the names of the columns
-unfoldable pub columns : ℕ → List Ask → List ℕ
-columns sets asks = codes "row" ++ (flat_map value_name (range_with_len 1 sets) ++ (codes ",refused_edit,refusal"
-    ++ (flat_map ask_name asks ++ codes "\n")))
+unfoldable pub columns : ℕ → List Ask → ℕ → List ℕ
+columns sets asks wheres = codes "row" ++ (flat_map value_name (range_with_len 1 sets) ++ (codes ",refused_edit,refusal"
+    ++ (flat_map ask_name asks ++ (flat_map where_name (range_with_len 1 wheres) ++ codes "\n"))))
 
-abbrev pub head : Form → ℕ → List Ask → List ℕ
-head Words sets asks = []
-head Json sets asks = []
-head Csv sets asks = columns sets asks
+abbrev pub head : Form → ℕ → List Ask → ℕ → List ℕ
+head Words sets asks wheres = []
+head Json sets asks wheres = []
+head Csv sets asks wheres = columns sets asks wheres
+
+-- ---- what stands behind the last row, where something is expected: how many rows there are, and in how many all of it holds
+
+abbrev pub summary_pieces : ℕ → ℕ → List PieceData
+summary_pieces rows holding =
+    kind (codes "summary") ∷ number (codes "rows ") (codes "rows") unit.Plain rows
+    ∷ number (codes ", all hold in ") (codes "all_hold") unit.Plain holding ∷ []
+
+abbrev pub summary_of : Form → ℕ → ℕ → List ℕ
+summary_of Words rows holding = line_of piece.Words (summary_pieces rows holding)
+summary_of Json rows holding = line_of piece.Json (summary_pieces rows holding)
+summary_of Csv rows holding = []
+
+abbrev pub summary : Form → List Condition → ℕ → ℕ → List ℕ
+summary form [] rows holding = []
+summary form (condition ∷ wheres) rows holding = summary_of form rows holding

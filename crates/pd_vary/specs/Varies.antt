@@ -1,16 +1,17 @@
 -- What is written of all rows.
-use Rattle.std.specs.Prelude.{◌≡◌, ◌≤◌, ℕ, ◌+◌, List, [], ◌∷◌, ◌++◌, ◌⊎◌, length, map, Option, None, Some, Result, Ok, Err}
-use Rattle.std.specs.List.{flat_map}
+use Rattle.std.specs.Prelude.{◌≡◌, ◌≤◌, ℕ, ◌+◌, ◌==◌, List, [], ◌∷◌, ◌++◌, ◌⊎◌, length, map, if◌then◌else◌}
+use Rattle.std.specs.Prelude.{Option, None, Some, Result, Ok, Err}
+use Rattle.std.specs.List.{count_by, flat_map}
 use Rattle.std.specs.Io.KnownBytes.{Appends}
 use Rattle.pd_device.specs.Device.{WrotePart}
 use Rattle.pd_device.specs.declared.fault.BenchFault.{BenchFault}
 use Rattle.pd_scenario.specs.Scenarios.{ScenarioData}
 use Rattle.pd_sweep.specs.Sweeps.{CountsSweep}
-use Rattle.pd_vary.specs.Rows.{IsOutcome, lines_with, made}
+use Rattle.pd_vary.specs.Rows.{IsOutcome, all_hold, lines_with, made}
 use Rattle.pd_vary.specs.Sets.{SetData, few_rows, rows_of, set_data, values_at}
-use Rattle.pd_vary.specs.Tellings.{head, row_text}
-use Rattle.pd_vary.specs.declared.outcome.Outcome.{Outcome}
+use Rattle.pd_vary.specs.Tellings.{head, row_text, summary}
 use Rattle.pd_vary.specs.declared.walk.Question.{Question}
+use Rattle.pd_vary.specs.declared.walk.Row.{Row}
 
 abbrev pub sets_of : Question → List SetData
 sets_of q = map set_data q.sets.now
@@ -22,34 +23,45 @@ values_in q row = values_at (sets_of q) row
 abbrev pub lines_in : Question → ℕ → List (List ℕ)
 lines_in q row = lines_with (sets_of q) (values_in q row)
 
--- The text tells of a row of a scenario of n ports: of its edit lines, and of what comes of them.
-pub record IsRow (n : ℕ) (c : ScenarioData) (q : Question) (row : ℕ) (text : List ℕ) : Type 0 where
-  pub outcome : Outcome
-  pub is_outcome : IsOutcome c q.asks.now (made n 1 (lines_in q row) c) outcome
-  pub text_is : text ≡ row_text q.form (row + 1) (lines_in q row) (values_in q row) q.asks.now outcome
+-- What is told of a row of a scenario of n ports: of its edit lines, and of what comes of them.
+pub record IsRow (n : ℕ) (c : ScenarioData) (q : Question) (place : ℕ) (row : Row) : Type 0 where
+  pub is_outcome : IsOutcome c q.asks.now q.wheres.now (made n 1 (lines_in q place) c) row.outcome
+  pub text_is : row.text.items ≡ row_text q.form (place + 1) (lines_in q place) (values_in q place) q.asks.now q.wheres.now row.outcome
 
--- each text is P of its place; the first has this place
-unfoldable pub AreInTurn : (ℕ → List ℕ → Type 0) → ℕ → List (List ℕ) → Type 0
+-- each row is P of its place; the first has this place
+unfoldable pub AreInTurn : (ℕ → Row → Type 0) → ℕ → List Row → Type 0
 AreInTurn P place [] = Unit {0}
-AreInTurn P place (text ∷ texts) = P place text × AreInTurn P (place + 1) texts
+AreInTurn P place (row ∷ rows) = P place row × AreInTurn P (place + 1) rows
 
--- what stands first, and these texts
-abbrev pub texts_of : Question → List (List ℕ) → List ℕ
-texts_of q texts = head q.form (length q.sets.now) q.asks.now ++ flat_map (λ (text : List ℕ). text) texts
+-- what stands first, and what is told of these rows
+abbrev pub texts_of : Question → List Row → List ℕ
+texts_of q rows = head q.form (length q.sets.now) q.asks.now (length q.wheres.now) ++ flat_map (λ (row : Row). row.text.items) rows
+
+-- in how many of them all that is expected holds
+abbrev pub holding : List Row → ℕ
+holding rows = count_by (λ (row : Row). all_hold row.outcome) rows
+
+-- behind all rows stands their summary
+abbrev pub last_of : Question → List Row → List ℕ
+last_of q rows =
+    if length rows == rows_of (sets_of q) then summary q.form q.wheres.now (length rows) (holding rows) else []
+
+abbrev pub told_of : Question → List Row → List ℕ
+told_of q rows = texts_of q rows ++ last_of q rows
 
 -- all rows in their order were written
 pub record WroteRows (n : ℕ) (c : ScenarioData) (q : Question) (old new : Option (List ℕ)) : Type 0 where
-  pub texts : List (List ℕ)
-  pub all : length texts ≡ rows_of (sets_of q)
-  pub each : AreInTurn (IsRow n c q) 0 texts
-  pub appends : Appends old new (texts_of q texts)
+  pub rows : List Row
+  pub all : length rows ≡ rows_of (sets_of q)
+  pub each : AreInTurn (IsRow n c q) 0 rows
+  pub appends : Appends old new (told_of q rows)
 
--- some first bytes of the text of the first of them were
+-- some first bytes of what is told of the first of them were
 pub record BeganRows (n : ℕ) (c : ScenarioData) (q : Question) (old new : Option (List ℕ)) : Type 0 where
-  pub texts : List (List ℕ)
-  pub some : length texts ≤ rows_of (sets_of q)
-  pub each : AreInTurn (IsRow n c q) 0 texts
-  pub wrote : WrotePart old new (texts_of q texts)
+  pub rows : List Row
+  pub some : length rows ≤ rows_of (sets_of q)
+  pub each : AreInTurn (IsRow n c q) 0 rows
+  pub wrote : WrotePart old new (told_of q rows)
 
 -- so many rows were told; there are more than a million, and none was; or a fault, before the first byte or later
 abbrev pub Varies : ℕ → ScenarioData → Question → Result (Option ℕ) BenchFault → Option (List ℕ) → Option (List ℕ) → Type 0

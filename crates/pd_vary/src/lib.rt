@@ -2,6 +2,7 @@
 #![tactic(auto)]
 
 mod ask;
+mod condition;
 mod extremes;
 pub mod laws;
 mod names;
@@ -14,6 +15,7 @@ mod texts;
 mod walk;
 
 pub use ask::{Ask, What};
+pub use condition::{Condition, push_no_condition, read_condition};
 pub use extremes::Extremes;
 pub use names::read_asks;
 pub use outcome::{Outcome, Refusal};

@@ -1,13 +1,14 @@
 //! What is asked of a run, measured.
 
-ghost use Rattle.std.specs.Prelude.{◌≡◌, IfErr, IfOk, OnOk, map};
+ghost use Rattle.std.specs.Prelude.{◌≡◌, IfErr, IfOk, Ok, OnOk, map};
 ghost use Rattle.pd_device.specs.declared.fault.BenchFault.TheVariants.{Memory as no_memory};
 ghost use Rattle.pd_sweep.specs.Trials.{IsBaseOf};
 ghost use Rattle.pd_vary.specs.Asks.{capped, contract_at_end, measure_of, measured, number_of, power_of};
-ghost use Rattle.pd_vary.specs.Rows.{AreNumbers};
+ghost use Rattle.pd_vary.specs.Rows.{IsOutcome};
 
+use crate::condition::verdicts_of;
 use crate::extremes::extremes_of;
-use crate::{Ask, What};
+use crate::{Ask, Outcome, Question, What};
 use pd_device::BenchFault;
 use pd_objects::Contract;
 use pd_port::Meter;
@@ -93,8 +94,8 @@ fn numbers_of<const N: usize, T: Runner<N>>(
     Ok(numbers)
 }
 
-/// Runs an edited scenario, and measures all that is asked of its run beside that of the scenario without the edits, of which the base is
-/// kept.
+/// Runs an edited scenario, measures all that is asked of its run beside that of the scenario without the edits, of which the base is
+/// kept, and holds it against the conditions.
 ///
 /// # Errors
 /// `Memory`: there is none.
@@ -104,11 +105,11 @@ pub(crate) fn measure_run<const N: usize, T: Runner<N>>(
     scenario: &Scenario<N>,
     base: &Base,
     edited: &Scenario<N>,
-    asks: &[Ask],
+    question: &Question<'_>,
     meter: &mut Meter,
-) -> Result<Vec<Option<u64>>, BenchFault>
+) -> Result<Outcome, BenchFault>
     requires { IsBaseOf scenario.now base.now }
-    ensures value { IfOk result (λ numbers. AreNumbers scenario.now edited.now asks.now numbers.items) }
+    ensures value { IfOk result (λ outcome. IsOutcome scenario.now question.now.asks.now question.now.wheres.now (Ok edited.now) outcome) }
     ensures memory { IfErr result (λ fault. fault ≡ no_memory) }
 {
     let Ok(()) = run.replace(alloc, edited, meter) else {
@@ -117,8 +118,11 @@ pub(crate) fn measure_run<const N: usize, T: Runner<N>>(
     let Ok(effect) = Effect::of(alloc, run, edited, base, scenario.end_time()) else {
         return Err(BenchFault::Memory);
     };
-    match numbers_of(alloc, run, &effect, asks) {
-        Ok(numbers) => Ok(numbers),
+    let Ok(numbers) = numbers_of(alloc, run, &effect, question.asks) else {
+        return Err(BenchFault::Memory);
+    };
+    match verdicts_of(alloc, run, edited, question.wheres) {
+        Ok(verdicts) => Ok(Outcome::Ran { numbers, verdicts }),
         Err(_) => Err(BenchFault::Memory),
     }
 }

@@ -4,11 +4,12 @@ ghost use Rattle.std.specs.Prelude.{◌≡◌, ◌+◌, ◌<◌, ◌^◌, ◌++�
 ghost use Rattle.pd_device.specs.declared.fault.BenchFault.TheVariants.{Memory as no_memory};
 ghost use Rattle.pd_edit.specs.Refusals.{Applies};
 ghost use Rattle.pd_sweep.specs.Trials.{IsBaseOf};
-ghost use Rattle.pd_vary.specs.Rows.{IsOutcome, edited_line, lines_with, made};
+ghost use Rattle.pd_vary.specs.Rows.{IsOutcome, all_hold, edited_line, lines_with, made};
 ghost use Rattle.pd_vary.specs.Sets.{line_with, set_data};
 
+use crate::condition::all_hold;
 use crate::numbers::measure_run;
-use crate::{Ask, EditSet};
+use crate::{EditSet, Question};
 use pd_device::BenchFault;
 use pd_edit::apply;
 use pd_edit_lines::{EditFault, Line};
@@ -30,8 +31,23 @@ pub struct Refusal {
 pub enum Outcome {
     /// One of its edits is refused, and nothing is run.
     Refused(Refusal),
-    /// What was asked of its run, each where there is such a number.
-    Ran(Vec<Option<u64>>),
+    /// What was asked of its run, each where there is such a number; and whether each condition holds of it, where that is known.
+    Ran {
+        numbers: Vec<Option<u64>>,
+        verdicts: Vec<Option<bool>>,
+    },
+}
+
+impl Outcome {
+    /// Whether all conditions hold of the row's run.
+    pub(crate) fn all_hold(&self) -> bool
+        ensures { result ≡ all_hold self.now }
+    {
+        match self {
+            Outcome::Refused(_) => false,
+            Outcome::Ran { verdicts, .. } => all_hold(verdicts.as_slice()),
+        }
+    }
 }
 
 /// The scenario after the edit of a line.
@@ -85,7 +101,8 @@ fn refused(edit: u64, fault: EditFault) -> Outcome
     Outcome::Refused(Refusal { edit, fault })
 }
 
-/// Makes the edits of lines in turn, the first of which has this number, and measures the run of the scenario that they leave.
+/// Makes the edits of lines in turn, the first of which has this number, and measures the run of the scenario that they leave, which it
+/// holds against the conditions.
 #[tactic(auto, unfolding(crate::specs::Rows::made))]
 pub(crate) fn outcome_of<const N: usize, T: Runner<N>>(
     alloc: Global,
@@ -95,18 +112,17 @@ pub(crate) fn outcome_of<const N: usize, T: Runner<N>>(
     edited_so_far: &Scenario<N>,
     number: u64,
     lines: &[Vec<u8>],
-    asks: &[Ask],
+    question: &Question<'_>,
     meter: &mut Meter,
 ) -> Result<Outcome, BenchFault>
     requires base { IsBaseOf scenario.now base.now }
     requires room { number + length lines.now < 2 ^ 64 }
-    ensures value { IfOk result (λ outcome. IsOutcome scenario.now asks.now
+    ensures value { IfOk result (λ outcome. IsOutcome scenario.now question.now.asks.now question.now.wheres.now
         (made N number (map (λ line. line.items) lines.now) edited_so_far.now) outcome) }
     ensures memory { IfErr result (λ fault. fault ≡ no_memory) }
 {
     let [line, more @ ..] = lines else {
-        let numbers = measure_run(alloc, run, scenario, base, edited_so_far, asks, meter)?;
-        return Ok(Outcome::Ran(numbers));
+        return measure_run(alloc, run, scenario, base, edited_so_far, question, meter);
     };
     match edited(alloc, edited_so_far, line.as_slice()) {
         Ok(after) => {
@@ -118,7 +134,7 @@ pub(crate) fn outcome_of<const N: usize, T: Runner<N>>(
                 &after,
                 number + 1,
                 more,
-                asks,
+                question,
                 meter,
             )
         }

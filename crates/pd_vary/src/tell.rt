@@ -3,16 +3,17 @@
 ghost use Rattle.std.specs.Prelude.{◌≡◌, ◌+◌, ◌<◌, ◌^◌, ◌++◌, IfOk, OnOk, length, map};
 ghost use Rattle.std.specs.List.{flat_map, range_with_len};
 ghost use Rattle.pd_text.specs.Pieces.{piece_of};
-ghost use Rattle.pd_text.specs.Texts.{text_of_all};
+ghost use Rattle.pd_text.specs.Texts.{line_of, text_of_all};
 ghost use Rattle.pd_vary.specs.Tellings.{ask_key, ask_name, ask_words, columns, key_byte, line_pieces, name_of, no_value};
 ghost use Rattle.pd_vary.specs.Tellings.{number_pieces, number_value, numbers_text, outcome_text, outcome_values, pieces_of};
-ghost use Rattle.pd_vary.specs.Tellings.{placed_value, port_text, reason, refusal_pieces, row_line, row_pieces, row_text};
-ghost use Rattle.pd_vary.specs.Tellings.{row_values, unit_key, unit_of, value_key, value_name, value_pieces, values_text};
+ghost use Rattle.pd_vary.specs.Tellings.{no_verdict, placed_value, port_text, reason, refusal_pieces, row_line, row_pieces, row_text};
+ghost use Rattle.pd_vary.specs.Tellings.{row_values, summary, summary_of, summary_pieces, unit_key, unit_of, value_key, value_name};
+ghost use Rattle.pd_vary.specs.Tellings.{value_pieces, values_text, verdict_pieces, verdict_value, verdicts_text, where_key, where_name};
 
-use crate::{Ask, Form, Outcome, Refusal, What};
+use crate::{Ask, Condition, Form, Outcome, Refusal, What};
 use pd_hints::reason_of;
 use pd_sweep::push_wide;
-use pd_text::Piece::{Kind, LineWords, MemberNull, MemberText, Number, Text};
+use pd_text::Piece::{Flag, Kind, LineNumber, LineWords, MemberNull, MemberText, Number, Text};
 use pd_text::{Form as PieceForm, Piece, Unit, begin_line, end_line, push_pieces};
 use std::alloc::{AllocError, Global};
 
@@ -215,6 +216,97 @@ fn push_refusal(text: &mut Vec<u8>, form: PieceForm, refusal: Refusal) -> Result
     )
 }
 
+/// Writes the key of whether a condition holds.
+fn push_where_key(text: &mut Vec<u8>, position: u64) -> Result<(), AllocError>
+    ensures { OnOk result (text.new.items ≡ text.old.items ++ where_key position) }
+{
+    text.extend_from_slice(b"where_")?;
+    push_wide(text, u128::from(position))
+}
+
+/// Writes whether a condition holds, or that it isn't known.
+fn push_verdict_of<'a>(
+    text: &mut Vec<u8>,
+    form: PieceForm,
+    position: u64,
+    key: &'a [u8],
+    verdict: Option<bool>,
+) -> Result<(), AllocError>
+    ensures { OnOk result (text.new.items ≡ text.old.items ++ text_of_all form (verdict_pieces position key.now verdict)) }
+{
+    match verdict {
+        Some(holds) => push_pieces(
+            text,
+            form,
+            &[
+                LineNumber(b"  where ", Unit::Plain, position),
+                Flag(b" holds", b" fails", key, holds),
+            ],
+        ),
+        None => push_pieces(
+            text,
+            form,
+            &[
+                LineNumber(b"  where ", Unit::Plain, position),
+                LineWords(b" none"),
+                MemberNull(key),
+            ],
+        ),
+    }
+}
+
+/// Writes whether the condition at a position holds.
+fn push_verdict(
+    alloc: Global,
+    text: &mut Vec<u8>,
+    form: PieceForm,
+    position: u64,
+    verdict: Option<bool>,
+) -> Result<(), AllocError>
+    ensures { OnOk result (text.new.items
+        ≡ text.old.items ++ text_of_all form (verdict_pieces position (where_key position) verdict)) }
+{
+    let mut key = Vec::new(alloc);
+    push_where_key(&mut key, position)?;
+    push_verdict_of(text, form, position, key.as_slice(), verdict)
+}
+
+/// Writes whether each condition holds; the first has this position.
+#[tactic(auto, unfolding(crate::specs::Tellings::verdicts_text))]
+fn push_verdicts(
+    alloc: Global,
+    text: &mut Vec<u8>,
+    form: PieceForm,
+    position: u64,
+    verdicts: &[Option<bool>],
+) -> Result<(), AllocError>
+    requires { position + length verdicts.now < 2 ^ 64 }
+    ensures { OnOk result (text.new.items ≡ text.old.items ++ verdicts_text form position verdicts.now) }
+{
+    let [verdict, verdicts @ ..] = verdicts else {
+        return Ok(());
+    };
+    push_verdict(alloc, text, form, position, *verdict)?;
+    push_verdicts(alloc, text, form, position + 1, verdicts)
+}
+
+/// Writes what is found of the run of a row.
+fn push_found(
+    alloc: Global,
+    text: &mut Vec<u8>,
+    form: PieceForm,
+    asks: &[Ask],
+    numbers: &[Option<u64>],
+    verdicts: &[Option<bool>],
+) -> Result<(), AllocError>
+    requires { 1 + length verdicts.now < 2 ^ 64 }
+    ensures { OnOk result (text.new.items
+        ≡ text.old.items ++ (numbers_text form asks.now numbers.now ++ verdicts_text form 1 verdicts.now)) }
+{
+    push_numbers(alloc, text, form, asks, numbers)?;
+    push_verdicts(alloc, text, form, 1, verdicts)
+}
+
 /// Writes what comes of a row.
 fn push_outcome(
     alloc: Global,
@@ -227,7 +319,14 @@ fn push_outcome(
 {
     match outcome {
         Outcome::Refused(refusal) => push_refusal(text, form, *refusal),
-        Outcome::Ran(numbers) => push_numbers(alloc, text, form, asks, numbers.as_slice()),
+        Outcome::Ran { numbers, verdicts } => push_found(
+            alloc,
+            text,
+            form,
+            asks,
+            numbers.as_slice(),
+            verdicts.as_slice(),
+        ),
     }
 }
 
@@ -361,13 +460,46 @@ fn push_no_values(text: &mut Vec<u8>, asks: &[Ask]) -> Result<(), AllocError>
     push_no_values(text, more)
 }
 
+/// Writes whether a condition holds, behind a comma, where that is known.
+fn push_verdict_value(text: &mut Vec<u8>, verdict: Option<bool>) -> Result<(), AllocError>
+    ensures { OnOk result (text.new.items ≡ text.old.items ++ verdict_value verdict) }
+{
+    match verdict {
+        None => text.extend_from_slice(b","),
+        Some(true) => text.extend_from_slice(b",true"),
+        Some(false) => text.extend_from_slice(b",false"),
+    }
+}
+
+/// Writes whether each condition holds, each behind a comma.
+fn push_verdict_values(text: &mut Vec<u8>, verdicts: &[Option<bool>]) -> Result<(), AllocError>
+    ensures { OnOk result (text.new.items ≡ text.old.items ++ flat_map verdict_value verdicts.now) }
+{
+    for verdict in verdicts {
+        push_verdict_value(text, *verdict)?;
+    }
+    Ok(())
+}
+
+/// Writes a comma for each condition.
+fn push_no_verdicts(text: &mut Vec<u8>, wheres: &[Condition<'_>]) -> Result<(), AllocError>
+    ensures { OnOk result (text.new.items ≡ text.old.items ++ flat_map no_verdict wheres.now) }
+{
+    let [_, more @ ..] = wheres else {
+        return Ok(());
+    };
+    text.extend_from_slice(b",")?;
+    push_no_verdicts(text, more)
+}
+
 /// Writes what comes of a row as values.
 fn push_outcome_values(
     text: &mut Vec<u8>,
     asks: &[Ask],
+    wheres: &[Condition<'_>],
     outcome: &Outcome,
 ) -> Result<(), AllocError>
-    ensures { OnOk result (text.new.items ≡ text.old.items ++ outcome_values asks.now outcome.now) }
+    ensures { OnOk result (text.new.items ≡ text.old.items ++ outcome_values asks.now wheres.now outcome.now) }
 {
     match outcome {
         Outcome::Refused(refusal) => {
@@ -375,11 +507,13 @@ fn push_outcome_values(
             push_wide(text, u128::from(refusal.edit))?;
             text.push(b',')?;
             push_wide(text, u128::from(refusal.fault.number()))?;
-            push_no_values(text, asks)
+            push_no_values(text, asks)?;
+            push_no_verdicts(text, wheres)
         }
-        Outcome::Ran(numbers) => {
+        Outcome::Ran { numbers, verdicts } => {
             text.extend_from_slice(b",,")?;
-            push_number_values(text, numbers.as_slice())
+            push_number_values(text, numbers.as_slice())?;
+            push_verdict_values(text, verdicts.as_slice())
         }
     }
 }
@@ -402,14 +536,15 @@ fn push_row_values(
     row: u64,
     values: &[Vec<u8>],
     asks: &[Ask],
+    wheres: &[Condition<'_>],
     outcome: &Outcome,
 ) -> Result<(), AllocError>
     ensures { OnOk result (text.new.items
-        ≡ text.old.items ++ row_values row (map (λ value. value.items) values.now) asks.now outcome.now) }
+        ≡ text.old.items ++ row_values row (map (λ value. value.items) values.now) asks.now wheres.now outcome.now) }
 {
     push_wide(text, u128::from(row))?;
     push_placed_values(text, values)?;
-    push_outcome_values(text, asks, outcome)?;
+    push_outcome_values(text, asks, wheres, outcome)?;
     text.extend_from_slice(b"\n")
 }
 
@@ -422,11 +557,12 @@ pub(crate) fn push_row(
     lines: &[Vec<u8>],
     values: &[Vec<u8>],
     asks: &[Ask],
+    wheres: &[Condition<'_>],
     outcome: &Outcome,
 ) -> Result<(), AllocError>
     requires { 1 + length lines.now < 2 ^ 64 }
     ensures { OnOk result (text.new.items ≡ text.old.items ++ row_text form row (map (λ line. line.items) lines.now)
-        (map (λ value. value.items) values.now) asks.now outcome.now) }
+        (map (λ value. value.items) values.now) asks.now wheres.now outcome.now) }
 {
     match form {
         Form::Words => push_line(
@@ -449,7 +585,7 @@ pub(crate) fn push_row(
             asks,
             outcome,
         ),
-        Form::Csv => push_row_values(text, row, values, asks, outcome),
+        Form::Csv => push_row_values(text, row, values, asks, wheres, outcome),
     }
 }
 
@@ -482,14 +618,89 @@ fn push_ask_names(text: &mut Vec<u8>, asks: &[Ask]) -> Result<(), AllocError>
     Ok(())
 }
 
+/// Writes the name of what is told of a condition, behind a comma.
+fn push_where_name(text: &mut Vec<u8>, position: u64) -> Result<(), AllocError>
+    ensures { OnOk result (text.new.items ≡ text.old.items ++ where_name position) }
+{
+    text.push(b',')?;
+    push_where_key(text, position)
+}
+
+/// Writes the names of what is told of so many conditions, each behind a comma.
+fn push_where_names(text: &mut Vec<u8>, wheres: usize) -> Result<(), AllocError>
+    ensures { OnOk result (text.new.items ≡ text.old.items ++ flat_map where_name (range_with_len 1 wheres)) }
+{
+    for i in 0..wheres {
+        push_where_name(text, i as u64 + 1)?;
+    }
+    Ok(())
+}
+
 /// Writes the names of the columns.
 #[tactic(auto, unfolding(crate::specs::Tellings::columns))]
-pub(crate) fn push_columns(text: &mut Vec<u8>, sets: usize, asks: &[Ask]) -> Result<(), AllocError>
-    ensures { OnOk result (text.new.items ≡ text.old.items ++ columns sets asks.now) }
+pub(crate) fn push_columns(
+    text: &mut Vec<u8>,
+    sets: usize,
+    asks: &[Ask],
+    wheres: usize,
+) -> Result<(), AllocError>
+    ensures { OnOk result (text.new.items ≡ text.old.items ++ columns sets asks.now wheres) }
 {
     text.extend_from_slice(b"row")?;
     push_value_names(text, sets)?;
     text.extend_from_slice(b",refused_edit,refusal")?;
     push_ask_names(text, asks)?;
+    push_where_names(text, wheres)?;
     text.extend_from_slice(b"\n")
+}
+
+/// Writes a line of words, or an object, of these pieces.
+#[tactic(auto, unfolding(pd_text::specs::Texts::line_of))]
+fn push_pieces_line(
+    text: &mut Vec<u8>,
+    form: PieceForm,
+    pieces: &[Piece<'_>],
+) -> Result<(), AllocError>
+    ensures { OnOk result (text.new.items ≡ text.old.items ++ line_of form (map piece_of pieces.now)) }
+{
+    begin_line(text, form)?;
+    push_pieces(text, form, pieces)?;
+    end_line(text, form)
+}
+
+/// Writes how many rows there are, and in how many all conditions hold.
+fn push_summary_line(
+    text: &mut Vec<u8>,
+    form: PieceForm,
+    rows: u64,
+    holding: u64,
+) -> Result<(), AllocError>
+    ensures { OnOk result (text.new.items ≡ text.old.items ++ line_of form (summary_pieces rows holding)) }
+{
+    push_pieces_line(
+        text,
+        form,
+        &[
+            Kind(b"summary"),
+            Number(b"rows ", b"rows", Unit::Plain, rows),
+            Number(b", all hold in ", b"all_hold", Unit::Plain, holding),
+        ],
+    )
+}
+
+/// Writes what stands behind the last row, where there are conditions.
+pub(crate) fn push_summary(
+    text: &mut Vec<u8>,
+    form: Form,
+    wheres: &[Condition<'_>],
+    rows: u64,
+    holding: u64,
+) -> Result<(), AllocError>
+    ensures { OnOk result (text.new.items ≡ text.old.items ++ summary form wheres.now rows holding) }
+{
+    match (form, wheres) {
+        (_, []) | (Form::Csv, _) => Ok(()),
+        (Form::Words, _) => push_summary_line(text, PieceForm::Words, rows, holding),
+        (Form::Json, _) => push_summary_line(text, PieceForm::Json, rows, holding),
+    }
 }

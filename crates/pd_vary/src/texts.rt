@@ -2,10 +2,9 @@
 
 ghost use Rattle.pd_scene.specs.Outlet.{SameEnds};
 ghost use Rattle.pd_scene.specs.Scene.{EditedScene};
-ghost use Rattle.pd_vary.specs.Asks.{greatest_port};
+ghost use Rattle.pd_vary.specs.Conditions.{asked_port};
 ghost use Rattle.pd_vary.specs.Varies.{VariesScene};
 
-use crate::ask::greatest_port;
 use crate::{Question, vary};
 use pd_device::{BenchFault, TextOut};
 use pd_port::Meter;
@@ -23,14 +22,14 @@ struct Varying<'a> {
 impl<'w, W: TextOut> Job<Outlet<'w, W, Meter>> for Varying<'_> {
     type Answer = Option<u64>;
 
-    ghost needs = { λ j. greatest_port j.question.now.asks.now };
+    ghost needs = { λ j. asked_port j.question.now.asks.now j.question.now.wheres.now };
 
     ghost does = { λ j n s r old new. SameEnds old new
         × VariesScene j.question.now n s r (W.taken old.writer.now) (W.taken new.writer.now)
         (W.failures old.writer.now) (W.failures new.writer.now) };
 
     fn port(&self) -> Option<usize> {
-        greatest_port(self.question.asks)
+        self.question.port()
     }
 }
 
@@ -58,11 +57,11 @@ impl<'w, const N: usize, W: TextOut> JobOn<N, Outlet<'w, W, Meter>> for Varying<
 }
 
 /// Makes each combination of values of edit lines on the scenario of a text, which has 1 to 8 ports, as an edit script leaves it, and
-/// tells what is asked of its run, as of `vary`. A line of the script that is refused ends it, or changes nothing.
+/// tells what is asked and expected of its run, as of `vary`. A line of the script that is refused ends it, or changes nothing.
 ///
 /// # Errors
-/// `Scenario` where the text is refused, `NoSuchPort` where it hasn't a port that is asked of, `Lines` where a line is refused that ends
-/// it, and nothing is written; `Job` where a run or a write fails, and some first bytes of the text may be written.
+/// `Scenario` where the text is refused, `NoSuchPort` where it hasn't a port of which something is asked or expected, `Lines` where a line
+/// is refused that ends it, and nothing is written; `Job` where a run or a write fails, and some first bytes of the text may be written.
 pub fn vary_text<W: TextOut>(
     alloc: Global,
     text: &[u8],
@@ -72,8 +71,9 @@ pub fn vary_text<W: TextOut>(
     writer: &mut W,
     meter: &mut Meter,
 ) -> Result<Option<u64>, SceneFault>
-    ensures { EditedScene refused (greatest_port question.now.asks.now) (λ n s r old new. VariesScene question.now n s r
-        (W.taken old) (W.taken new) (W.failures old) (W.failures new)) script.now result text.now writer.old writer.new }
+    ensures { EditedScene refused (asked_port question.now.asks.now question.now.wheres.now) (λ n s r old new.
+        VariesScene question.now n s r (W.taken old) (W.taken new) (W.failures old) (W.failures new))
+        script.now result text.now writer.old writer.new }
 {
     let varying = Varying { question };
     let mut outlet = Outlet { writer, meter };

@@ -6,8 +6,8 @@ use Rattle.pd_sweep.specs.declared.measure.Step.{Step}
 use Rattle.pd_sweep.proofs.ChangeLemmas.{measured_by_steps}
 use Rattle.pd_vary.proofs.numbers.measure_run.Goals as goal
 
-pub returns-in-Ok-numbers_of-clause-value : goal.returns-in-Ok-numbers_of-clause-value
-returns-in-Ok-numbers_of-clause-value g c =
+pub returns-in-Ok-verdicts_of-clause-value : goal.returns-in-Ok-verdicts_of-clause-value
+returns-in-Ok-verdicts_of-clause-value g c =
     let moves = g.T.Runner.entries c.replace.new.self in
     let steps = c.args.base.now.steps.items in
     let end = (plan_of c.args.scenario.now).end in
@@ -23,4 +23,5 @@ returns-in-Ok-numbers_of-clause-value g c =
           ∙ ap (λ (l : List Step). measures_by end l (steps_of end moves)) c.requires.is.steps_are
           ∙ measured_by_steps end c.requires.moves moves;
       numbers_are = c.in-Ok-numbers_of.ensures;
+      held = c.in-Ok-verdicts_of.ensures;
     }
