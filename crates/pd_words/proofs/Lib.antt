@@ -3,6 +3,8 @@ pub mod FoundTask
 pub mod LabLines
 pub mod LabNumbers
 pub mod Leaves
+pub mod Limits
 pub mod OneWord
 pub mod Stages
+pub mod Tables
 pub mod TaskLemmas

@@ -3,8 +3,6 @@ use Rattle.std.specs.Prelude.{ℕ, true, false, List, [], ◌∷◌, codes, Some
 use Rattle.clap.specs.Words.{App, Rule, Shape, Text, new_rule, with_subcommand}
 use Rattle.clap.specs.Simple.{new_shape}
 use Rattle.clap.specs.declared.builder.action.ArgAction.TheVariants.{Set, SetTrue, Append}
-use Rattle.pd_words.specs.declared.lab.Slot.{Slot}
-use Rattle.pd_words.specs.declared.lab.Slot.TheVariants as slot
 
 -- ---- what stands behind a command's name
 
@@ -27,6 +25,10 @@ value name = record (new_rule name) { long = Some name; action = Some Set }
 abbrev pub values : Text → Rule
 values name = record (new_rule name) { long = Some name; required = true; action = Some Append }
 
+-- the same, which may be left out or stand several times
+abbrev pub any : Text → Rule
+any name = record (new_rule name) { long = Some name; action = Some Append }
+
 abbrev pub letter : ℕ → Text → Rule
 letter code name = record (new_rule name) { short = Some code; action = Some Set }
 
@@ -35,16 +37,6 @@ flag name = record (new_rule name) { long = Some name; action = Some SetTrue }
 
 abbrev pub switch : ℕ → Text → Rule
 switch code name = record (new_rule name) { short = Some code; long = Some name; action = Some SetTrue }
-
-abbrev pub rule : Slot → Rule
-rule (slot.Must name) = must name.now
-rule (slot.May name) = may name.now
-rule (slot.Several name) = several name.now
-rule (slot.Value name) = value name.now
-rule (slot.Values name) = values name.now
-rule (slot.Letter code name) = letter code name.now
-rule (slot.Flag name) = flag name.now
-rule (slot.Switch code name) = switch code name.now
 
 -- ---- the commands
 
@@ -63,36 +55,37 @@ abbrev pub out : Rule
 out = letter 111 (codes "FILE")
 
 abbrev pub show : Shape
-show = command (codes "show") (must (codes "SCENARIO") ∷ may (codes "EDITS") ∷ keep_going ∷ out
-    ∷ value (codes "port") ∷ value (codes "from") ∷ value (codes "to") ∷ flag (codes "no-goodcrc") ∷ flag (codes "codes")
-    ∷ flag (codes "json") ∷ flag (codes "csv") ∷ [])
+show = command (codes "show") (must (codes "SCENARIO") ∷ may (codes "EDITS") ∷ value (codes "port") ∷ value (codes "from")
+    ∷ value (codes "to") ∷ flag (codes "no-goodcrc") ∷ flag (codes "codes") ∷ flag (codes "json") ∷ flag (codes "csv") ∷ out
+    ∷ keep_going ∷ [])
 
 -- behind the scenario stand EDITS, PORT and AT, of which the first and the last may be left out
 abbrev pub why : Shape
 why = command (codes "why") (must (codes "SCENARIO") ∷ must (codes "PORT") ∷ may (codes "SECOND") ∷ may (codes "THIRD")
-    ∷ keep_going ∷ flag (codes "json") ∷ [])
+    ∷ flag (codes "json") ∷ keep_going ∷ [])
 
 abbrev pub guarantee : Shape
-guarantee = command (codes "guarantee") (must (codes "SCENARIO") ∷ may (codes "EDITS") ∷ keep_going ∷ flag (codes "json") ∷ [])
+guarantee = command (codes "guarantee") (must (codes "SCENARIO") ∷ may (codes "EDITS") ∷ flag (codes "json") ∷ keep_going ∷ [])
 
 abbrev pub sweep : Shape
-sweep = command (codes "sweep") (must (codes "SCENARIO") ∷ may (codes "EDITS") ∷ keep_going
-    ∷ value (codes "port") ∷ value (codes "from") ∷ value (codes "to") ∷ value (codes "kind") ∷ flag (codes "damage")
-    ∷ value (codes "in-a-row") ∷ value (codes "reserve") ∷ flag (codes "json") ∷ flag (codes "csv") ∷ [])
+sweep = command (codes "sweep") (must (codes "SCENARIO") ∷ may (codes "EDITS") ∷ value (codes "port") ∷ value (codes "from")
+    ∷ value (codes "to") ∷ value (codes "kind") ∷ flag (codes "damage") ∷ value (codes "in-a-row") ∷ flag (codes "changed")
+    ∷ value (codes "by") ∷ value (codes "part") ∷ value (codes "reserve") ∷ value (codes "fail-on") ∷ flag (codes "json")
+    ∷ flag (codes "csv") ∷ keep_going ∷ [])
 
 abbrev pub vary : Shape
-vary = command (codes "vary") (must (codes "SCENARIO") ∷ may (codes "EDITS") ∷ keep_going ∷ values (codes "set") ∷ value (codes "tell")
-    ∷ flag (codes "json") ∷ flag (codes "csv") ∷ [])
+vary = command (codes "vary") (must (codes "SCENARIO") ∷ may (codes "EDITS") ∷ values (codes "set") ∷ any (codes "where")
+    ∷ value (codes "tell") ∷ flag (codes "json") ∷ flag (codes "csv") ∷ keep_going ∷ [])
 
 abbrev pub test : Shape
 test = command (codes "test") (several (codes "SCRIPT") ∷ flag (codes "json") ∷ switch 118 (codes "verbose") ∷ value (codes "junit") ∷ [])
 
 abbrev pub draw : Shape
-draw = command (codes "draw") (must (codes "SCENARIO") ∷ may (codes "EDITS") ∷ keep_going ∷ out
-    ∷ value (codes "port") ∷ value (codes "from") ∷ value (codes "to") ∷ value (codes "width") ∷ flag (codes "holds") ∷ [])
+draw = command (codes "draw") (must (codes "SCENARIO") ∷ may (codes "EDITS") ∷ value (codes "port") ∷ value (codes "from")
+    ∷ value (codes "to") ∷ value (codes "width") ∷ flag (codes "holds") ∷ out ∷ keep_going ∷ [])
 
 abbrev pub page : Shape
-page = command (codes "page") (must (codes "SCENARIO") ∷ may (codes "EDITS") ∷ keep_going ∷ out ∷ value (codes "page") ∷ [])
+page = command (codes "page") (must (codes "SCENARIO") ∷ may (codes "EDITS") ∷ value (codes "page") ∷ out ∷ keep_going ∷ [])
 
 abbrev pub explain : Shape
 explain = command (codes "explain") (must (codes "SCENARIO") ∷ may (codes "EDITS") ∷ flag (codes "json") ∷ flag (codes "strict") ∷ [])
@@ -117,5 +110,7 @@ lab = record {
 abbrev pub with_version : App → App
 with_version app = record app { top = record app.top { has_version = true } }
 
-abbrev pub with_command : App → Text → List Rule → App
-with_command app name rules = with_subcommand app (command name rules)
+-- commands more, in this order
+unfoldable pub with_commands : App → List Shape → App
+with_commands app [] = app
+with_commands app (s ∷ more) = with_commands (with_subcommand app s) more

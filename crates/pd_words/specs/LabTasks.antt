@@ -1,12 +1,14 @@
 -- What a command line of `pdlab` asks for, by the words and options that clap finds in it (`Lab`).
-use Rattle.std.specs.Prelude.{ℕ, ◌-◌, ◌^◌, ◌&&◌, Bool, false, not, List, [], ◌∷◌, codes, bytes_eq, length, map}
-use Rattle.std.specs.Prelude.{Option, None, Some, option_and_then, option_map, unwrap_or, count_by, nat_lt, if◌then◌else◌}
+use Rattle.std.specs.Prelude.{ℕ, ◌+◌, ◌-◌, ◌^◌, ◌&&◌, ◌==◌, Bool, true, false, not, List, [], ◌∷◌, codes, bytes_eq, drop, length, map, take}
+use Rattle.std.specs.Prelude.{Option, None, Some, option_and_then, option_map, is_some, unwrap_or, count_by, nat_le, nat_lt}
+use Rattle.std.specs.Prelude.{if◌then◌else◌}
 use Rattle.std.specs.Char.{digit_value}
-use Rattle.std.specs.List.{list_all}
+use Rattle.std.specs.List.{list_all, position_from, slice_split}
 use Rattle.std.specs.Option.{option_map_or, option_or}
 use Rattle.std.specs.Str.Parse.{digits_value, without_leading_plus}
 use Rattle.clap.specs.Words.{Row, Text, all_of, first_of, fault_of, subcommand_of}
 use Rattle.clap.specs.Kinds.{Kinds}
+use Rattle.pd_header.specs.declared.kind.Kind.{Kind}
 use Rattle.pd_units.specs.Quantities.{number_in}
 use Rattle.pd_units.specs.declared.unit.Unit.{Unit}
 use Rattle.pd_units.specs.declared.unit.Unit.TheVariants.{Microseconds, Milliwatts}
@@ -19,7 +21,9 @@ use Rattle.pd_words.specs.declared.lab_task.Form.{Form}
 use Rattle.pd_words.specs.declared.lab_task.Form.TheVariants.{Words, Json, Csv}
 use Rattle.pd_words.specs.declared.lab_task.LabTask.{LabTask}
 use Rattle.pd_words.specs.declared.lab_task.LabTask.TheVariants as task
+use Rattle.pd_words.specs.declared.lab_task.Limits.{Limits}
 use Rattle.pd_words.specs.declared.lab_task.Scene.{Scene}
+use Rattle.pd_words.specs.declared.lab_task.Share.{Share}
 use Rattle.pd_words.specs.declared.lab_task.ShowOptions.{ShowOptions}
 use Rattle.pd_words.specs.declared.lab_task.SweepOptions.{SweepOptions}
 use Rattle.pd_words.specs.declared.lab_task.WhyOptions.{WhyOptions}
@@ -47,7 +51,7 @@ pub data Asked : Type 0 where
   why : Files → WhyOptions → Asked
   guarantee : Files → (json : Bool) → Asked
   sweep : Files → SweepOptions → Asked
-  vary : Files → (sets : List Text) → (tell : Option Text) → Form → Asked
+  vary : Files → (sets : List Text) → (wheres : List Text) → (tell : Option Text) → Form → Asked
   test : (scripts : List Text) → Look → Asked
   draw : Files → DrawOptions → Asked
   page : Files → (page : Option Text) → Asked
@@ -165,21 +169,126 @@ why_by rows = option_and_then (λ first. why_with rows (why_words first (first_o
 abbrev pub guarantee_by : List Row → Option Asked
 guarantee_by rows = option_map (λ files. guarantee files (is_on (codes "json") rows)) (scene_by rows)
 
-abbrev pub sweep_by : List Row → Option Asked
-sweep_by rows = option_and_then (λ files. option_and_then (λ window. option_and_then (λ reserve. option_and_then (λ kind.
-    option_and_then (λ behind. option_map (λ form. sweep files (record {
-      window = window;
-      kind = kind;
-      damage = is_on (codes "damage") rows;
-      behind = behind;
-      reserve = reserve;
-      form = form;
-    })) (form_by rows)) (behind_by rows)) (given_by named (first_of (codes "kind") rows))) (quantity_of Milliwatts (codes "reserve") rows))
-    (window_by rows)) (scene_by rows)
+-- `message` is the one word that may stand behind `--by`
+abbrev pub is_by_message : Text → Option Bool
+is_by_message word = if bytes_eq word (codes "message") then Some true else None
 
+abbrev pub by_message_by : List Row → Option Bool
+by_message_by rows = option_map (λ by. unwrap_or by false) (given_by is_by_message (first_of (codes "by") rows))
+
+-- the I-th of N shares, as `2/3`: 1 ≤ I ≤ N ≤ 1000
+abbrev pub share_of : Option ℕ → Option ℕ → Option Share
+share_of (Some part) (Some parts) = if nat_lt 0 part && nat_le part parts && nat_le parts 1000
+    then Some (record { part = part; parts = parts }) else None
+share_of (Some part) None = None
+share_of None parts = None
+
+abbrev pub is_slash : ℕ → Bool
+is_slash byte = byte == 47
+
+abbrev pub share_at : Text → Option ℕ → Option Share
+share_at word None = None
+share_at word (Some place) = share_of (number (take place word)) (number (drop (place + 1) word))
+
+abbrev pub share_in : Text → Option Share
+share_in word = share_at word (position_from is_slash 0 word)
+
+-- What makes a run fail, as `other-contracts,less-power=50ms,margin=5W`: names with commas between them, each once. `margin` is what
+-- `--reserve` is.
+abbrev pub no_limits : Limits
+no_limits = record { fail_on = record { other_contracts = false; hard_resets = false; less_power = None }; margin = None }
+
+-- one name more, which isn't among those so far
+abbrev pub with_name : Limits → Text → Option Limits
+with_name so_far name = if bytes_eq name (codes "other-contracts") && not so_far.fail_on.other_contracts
+    then Some (record so_far { fail_on = record so_far.fail_on { other_contracts = true } })
+    else (if bytes_eq name (codes "hard-resets") && not so_far.fail_on.hard_resets
+    then Some (record so_far { fail_on = record so_far.fail_on { hard_resets = true } })
+    else None)
+
+abbrev pub with_value : Limits → Text → Text → Option Limits
+with_value so_far name word = if bytes_eq name (codes "less-power") && not (is_some so_far.fail_on.less_power)
+    then option_map (λ time. record so_far { fail_on = record so_far.fail_on { less_power = Some time } }) (quantity Microseconds word)
+    else (if bytes_eq name (codes "margin") && not (is_some so_far.margin)
+    then option_map (λ power. record so_far { margin = Some power }) (quantity Milliwatts word)
+    else None)
+
+abbrev pub is_equals : ℕ → Bool
+is_equals byte = byte == 61
+
+abbrev pub with_limit_at : Limits → Text → Option ℕ → Option Limits
+with_limit_at so_far limit None = with_name so_far limit
+with_limit_at so_far limit (Some place) = with_value so_far (take place limit) (drop (place + 1) limit)
+
+abbrev pub with_limit : Limits → Text → Option Limits
+with_limit so_far limit = with_limit_at so_far limit (position_from is_equals 0 limit)
+
+unfoldable pub limits_from : List Text → Limits → Option Limits
+limits_from [] so_far = Some so_far
+limits_from (limit ∷ limits) so_far = option_and_then (limits_from limits) (with_limit so_far limit)
+
+abbrev pub is_comma : ℕ → Bool
+is_comma byte = byte == 44
+
+abbrev pub limits_in : Text → Option Limits
+limits_in word = limits_from (slice_split is_comma word) no_limits
+
+abbrev pub limits_by : List Row → Option Limits
+limits_by rows = option_map (λ limits. unwrap_or limits no_limits) (given_by limits_in (first_of (codes "fail-on") rows))
+
+-- what is to be left is said once
+abbrev pub reserve_with : Option ℕ → Option ℕ → Option (Option ℕ)
+reserve_with None margin = Some margin
+reserve_with (Some reserve) None = Some (Some reserve)
+reserve_with (Some reserve) (Some margin) = None
+
+abbrev pub reserve_by : Limits → List Row → Option (Option ℕ)
+reserve_by limits rows = option_and_then (λ reserve. reserve_with reserve limits.margin) (quantity_of Milliwatts (codes "reserve") rows)
+
+-- which packets, by their message, as many in a row, and a share of them
+pub record Chosen : Type 0 where
+  pub kind : Option Kind
+  pub behind : ℕ
+  pub share : Option Share
+
+abbrev pub chosen_by : List Row → Option Chosen
+chosen_by rows = option_and_then (λ kind. option_and_then (λ behind. option_map (λ share. record {
+  kind = kind;
+  behind = behind;
+  share = share;
+}) (given_by share_in (first_of (codes "part") rows))) (behind_by rows)) (given_by named (first_of (codes "kind") rows))
+
+-- what is asked of each run
+pub record Required : Type 0 where
+  pub reserve : Option ℕ
+  pub limits : Limits
+
+abbrev pub required_by : List Row → Option Required
+required_by rows = option_and_then (λ limits. option_map (λ reserve. record {
+  reserve = reserve;
+  limits = limits;
+}) (reserve_by limits rows)) (limits_by rows)
+
+abbrev pub sweep_by : List Row → Option Asked
+sweep_by rows = option_and_then (λ files. option_and_then (λ window. option_and_then (λ chosen. option_and_then (λ required.
+    option_and_then (λ by_message. option_map (λ form. sweep files (record {
+      window = window;
+      kind = chosen.kind;
+      damage = is_on (codes "damage") rows;
+      behind = chosen.behind;
+      changed = is_on (codes "changed") rows;
+      by_message = by_message;
+      share = chosen.share;
+      reserve = required.reserve;
+      fail_on = required.limits.fail_on;
+      form = form;
+    })) (form_by rows)) (by_message_by rows)) (required_by rows)) (chosen_by rows)) (window_by rows)) (scene_by rows)
+
+-- `--where` may be left out
 abbrev pub vary_by : List Row → Option Asked
 vary_by rows = option_and_then (λ files. option_and_then (λ form. option_map (λ sets.
-    vary files sets (first_of (codes "tell") rows) form) (all_of (codes "set") rows)) (form_by rows)) (scene_by rows)
+    vary files sets (unwrap_or (all_of (codes "where") rows) []) (first_of (codes "tell") rows) form) (all_of (codes "set") rows))
+    (form_by rows)) (scene_by rows)
 
 abbrev pub test_by : List Row → Option Asked
 test_by rows = option_and_then (λ scripts. if is_twice scripts then None else Some (test scripts (record {
@@ -268,7 +377,8 @@ asked (task.Why scene options) = why (files scene) options
 asked (task.Guarantee scene json) = guarantee (files scene) json
 asked (task.Sweep scene options) = sweep (files scene) options
 asked (task.Vary scene options) =
-    vary (files scene) (map (λ x. x.now) options.sets.items) (option_map (λ x. x.now) options.tell) options.form
+    vary (files scene) (map (λ x. x.now) options.sets.items) (map (λ x. x.now) options.wheres.items)
+    (option_map (λ x. x.now) options.tell) options.form
 asked (task.Test scripts options) = test (map (λ x. x.now) scripts.items)
     (record { json = options.json; verbose = options.verbose; junit = option_map (λ x. x.now) options.junit })
 asked (task.Draw scene options) = draw (files scene) options

@@ -1,4 +1,5 @@
 pub mod Found
+pub mod Help
 pub mod Lab
 pub mod LabTasks
 pub mod Meant

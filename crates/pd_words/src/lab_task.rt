@@ -47,22 +47,55 @@ pub struct WhyOptions {
     pub json: bool,
 }
 
-/// Which packets are lost in turn, or damaged: those of a part of a run, or those of them that are of one kind; each with so many
-/// behind it on its port. What is left of the budget is to be so many milliwatts at the least, where that is asked.
+/// One of several shares of the packets: `part` is 1 to `parts`, and that at most 1,000.
+#[derive(Clone, Copy)]
+pub struct Share {
+    pub part: u64,
+    pub parts: u64,
+}
+
+/// What makes a run of a sweep fail: other contracts at the end, a Hard Reset more, or less power for more than so many microseconds.
+#[derive(Clone, Copy)]
+pub struct FailOn {
+    pub other_contracts: bool,
+    pub hard_resets: bool,
+    pub less_power: Option<u64>,
+}
+
+/// What a list of the words says of each run: what makes it fail, and what it is to leave of the budget, in milliwatts.
+#[derive(Clone, Copy)]
+pub struct Limits {
+    pub fail_on: FailOn,
+    pub margin: Option<u64>,
+}
+
+/// Which packets are lost in turn, or damaged, and how that is told.
 #[derive(Clone, Copy)]
 pub struct SweepOptions {
+    /// The part of the run whose packets these are.
     pub window: Window,
+    /// The message that all of them are of, where one is named.
     pub kind: Option<Kind>,
     pub damage: bool,
+    /// How many packets behind each on its port are lost with it.
     pub behind: u64,
+    /// Whether packets are left out whose loss makes no difference.
+    pub changed: bool,
+    /// Whether there is a line for each kind of message in place of one for each packet.
+    pub by_message: bool,
+    /// The share of the packets, where not all of them are lost in turn.
+    pub share: Option<Share>,
+    /// What each run is to leave of the budget, in milliwatts, where that is asked.
     pub reserve: Option<u64>,
+    pub fail_on: FailOn,
     pub form: Form,
 }
 
-/// Which edit lines are varied, each with its values, and what is measured of each run, where that is said.
+/// Which edit lines are varied, each with its values, what is asked of each run, and what is measured of it, where that is said.
 #[derive(Drop)]
 pub struct VaryOptions<'a> {
     pub sets: Vec<&'a str>,
+    pub wheres: Vec<&'a str>,
     pub tell: Option<&'a str>,
     pub form: Form,
 }
@@ -98,7 +131,7 @@ pub struct DecodeOptions {
     pub with_line: bool,
 }
 
-/// What a command line asks for, by the name of its command. The last value of some tells whether JSON objects are wanted.
+/// What a command line asks for, by the name of its command.
 #[derive(Drop)]
 pub enum LabTask<'a> {
     /// A session at the keyboard, for the scenario of a file.

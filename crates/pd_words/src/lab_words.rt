@@ -1,6 +1,7 @@
 //! The task that the words of a command line of `pdlab` ask for.
 
 ghost use Rattle.std.specs.Prelude.{◌≡◌, ◌⊎◌, IfErr, IfOk, None, Some, codes, map, option_and_then, option_map};
+ghost use Rattle.std.specs.List.{slice_split};
 ghost use Rattle.std.specs.Result.{result_ok};
 ghost use Rattle.std.specs.String.{string_bytes};
 ghost use Rattle.clap.specs.Words.{all_of, first_of, found_of, kind_of, rows_of, subcommand_rows_of};
@@ -8,12 +9,14 @@ ghost use Rattle.pd_words.specs.LabTasks.{asked, asked_by, behind_by, decode_by,
 ghost use Rattle.pd_words.specs.LabTasks.{is_on, is_twice, lab_asked, live_by, number_of, scene_by, show_by, sweep_by, test_by};
 ghost use Rattle.pd_words.specs.LabTasks.{is_number, number, page_by, quantity, quantity_of, scene_with, why_by, why_with};
 ghost use Rattle.pd_words.specs.LabTasks.{guarantee_by, new_by, ports_with, vary_by, why_words, width_by, window_by};
+ghost use Rattle.pd_words.specs.LabTasks.{by_message_by, is_comma, limits_by, limits_from, reserve_by, share_in, share_of};
+ghost use Rattle.pd_words.specs.LabTasks.{with_limit, with_name, with_value};
 ghost use Rattle.pd_words.specs.Names.{named};
 
 use crate::lab::lab;
 use crate::lab_task::{
-    DecodeOptions, DrawOptions, ExplainOptions, Form, LabFault, LabTask, Scene, ShowOptions,
-    SweepOptions, TestOptions, VaryOptions, Wanted, WhyOptions, Window,
+    DecodeOptions, DrawOptions, ExplainOptions, FailOn, Form, LabFault, LabTask, Limits, Scene,
+    Share, ShowOptions, SweepOptions, TestOptions, VaryOptions, Wanted, WhyOptions, Window,
 };
 use crate::meant::{meant_command, meant_option, topic_of};
 use crate::names::named;
@@ -168,6 +171,22 @@ const IN_A_ROW: Wanted = Wanted {
 const RESERVE: Wanted = Wanted {
     name: "--reserve",
     range: "a power, as 5W, 500mW or 5000 (milliwatts)",
+};
+
+/// The options behind which words stand that are more than a number.
+const BY: Wanted = Wanted {
+    name: "--by",
+    range: "`message`, the word that may stand there",
+};
+
+const PART: Wanted = Wanted {
+    name: "--part",
+    range: "a share I/N, as 2/3, with I from 1 to N, and N up to 1000",
+};
+
+const FAIL_ON: Wanted = Wanted {
+    name: "--fail-on",
+    range: "names with commas between them, each once: other-contracts, hard-resets, less-power=TIME, margin=POWER",
 };
 
 /// The words that are numbers.
@@ -387,18 +406,175 @@ fn guarantee_of<'a>(matches: &ArgMatches<'a>) -> Result<LabTask<'a>, LabFault<'a
     Ok(LabTask::Guarantee(scene_of(matches)?, is_on(matches, "json")))
 }
 
+/// Whether there is a line for each kind of message.
+///
+/// # Errors
+/// It is asked for lines by something else.
+fn by_message_of<'a>(matches: &ArgMatches<'a>) -> Result<bool, LabFault<'a>>
+    ensures { result_ok result ≡ by_message_by (rows_of (found_of matches.now)) }
+{
+    match first(matches, "by") {
+        None => Ok(false),
+        Some("message") => Ok(true),
+        Some(word) => Err(LabFault::Number { wanted: BY, word }),
+    }
+}
+
+/// The greatest number of shares.
+const MOST_PARTS: u64 = 1_000;
+
+/// The share of these two numbers.
+fn share_of_two(part: &str, parts: &str) -> Option<Share>
+    ensures { result ≡ share_of (number part.now) (number parts.now) }
+{
+    let part = number(part, PART).ok()?;
+    let parts = number(parts, PART).ok()?;
+    if 0 < part && part <= parts && parts <= MOST_PARTS {
+        Some(Share { part, parts })
+    } else {
+        None
+    }
+}
+
+/// The share that a word names.
+fn share_in(word: &str) -> Option<Share>
+    ensures { result ≡ share_in word.now }
+{
+    match word.split_once('/') {
+        None => None,
+        Some((part, parts)) => share_of_two(part, parts),
+    }
+}
+
+/// The share of the packets, where one is named.
+///
+/// # Errors
+/// The word is none.
+fn share_of<'a>(matches: &ArgMatches<'a>) -> Result<Option<Share>, LabFault<'a>>
+    ensures { result_ok result ≡ given_by share_in (first_of (codes "part") (rows_of (found_of matches.now))) }
+{
+    match first(matches, "part") {
+        None => Ok(None),
+        Some(word) => match share_in(word) {
+            Some(share) => Ok(Some(share)),
+            None => Err(LabFault::Number { wanted: PART, word }),
+        },
+    }
+}
+
+const NO_LIMITS: Limits = Limits {
+    fail_on: FailOn {
+        other_contracts: false,
+        hard_resets: false,
+        less_power: None,
+    },
+    margin: None,
+};
+
+/// One name more that has no value.
+fn with_name(mut limits: Limits, name: &str) -> Option<Limits>
+    ensures { result ≡ with_name limits name.now }
+{
+    match name {
+        "other-contracts" if !limits.fail_on.other_contracts => {
+            limits.fail_on.other_contracts = true;
+        }
+        "hard-resets" if !limits.fail_on.hard_resets => limits.fail_on.hard_resets = true,
+        _ => return None,
+    }
+    Some(limits)
+}
+
+/// One name more, and its value.
+fn with_value(mut limits: Limits, name: &str, word: &str) -> Option<Limits>
+    ensures { result ≡ with_value limits name.now word.now }
+{
+    match name {
+        "less-power" if limits.fail_on.less_power.is_none() => {
+            let time = quantity(Unit::Microseconds, word, FAIL_ON).ok()?;
+            limits.fail_on.less_power = Some(time);
+        }
+        "margin" if limits.margin.is_none() => {
+            let power = quantity(Unit::Milliwatts, word, FAIL_ON).ok()?;
+            limits.margin = Some(power);
+        }
+        _ => return None,
+    }
+    Some(limits)
+}
+
+/// One name of a list more.
+fn with_limit(limits: Limits, name: &str) -> Option<Limits>
+    ensures { result ≡ with_limit limits name.now }
+{
+    match name.split_once('=') {
+        None => with_name(limits, name),
+        Some((name, word)) => with_value(limits, name, word),
+    }
+}
+
+/// The names of a list more.
+fn limits_from(limits: Limits, names: &str) -> Option<Limits>
+    ensures { result ≡ limits_from (slice_split is_comma names.now) limits }
+{
+    match names.split_once(',') {
+        None => with_limit(limits, names),
+        Some((name, others)) => limits_from(with_limit(limits, name)?, others),
+    }
+}
+
+/// What makes a run fail.
+///
+/// # Errors
+/// A name is none or stands twice, or its value is none.
+fn limits_of<'a>(matches: &ArgMatches<'a>) -> Result<Limits, LabFault<'a>>
+    ensures { result_ok result ≡ limits_by (rows_of (found_of matches.now)) }
+{
+    let Some(word) = first(matches, "fail-on") else {
+        return Ok(NO_LIMITS);
+    };
+    match limits_from(NO_LIMITS, word) {
+        Some(limits) => Ok(limits),
+        None => Err(LabFault::Number {
+            wanted: FAIL_ON,
+            word,
+        }),
+    }
+}
+
+/// What is to be left of the budget.
+///
+/// # Errors
+/// It is no power, or is said twice.
+fn reserve_of<'a>(matches: &ArgMatches<'a>, limits: &Limits) -> Result<Option<u64>, LabFault<'a>>
+    ensures { result_ok result ≡ reserve_by limits.now (rows_of (found_of matches.now)) }
+{
+    let reserve = quantity_of(matches, "reserve", Unit::Milliwatts, RESERVE)?;
+    match (reserve, limits.margin) {
+        (Some(_), Some(_)) => Err(LabFault::Both("--reserve", "--fail-on margin=POWER")),
+        (Some(reserve), None) => Ok(Some(reserve)),
+        (None, margin) => Ok(margin),
+    }
+}
+
 /// `sweep SCENARIO [EDITS]`
 fn sweep_of<'a>(matches: &ArgMatches<'a>) -> Result<LabTask<'a>, LabFault<'a>>
     ensures { option_map asked (result_ok result) ≡ sweep_by (rows_of (found_of matches.now)) }
 {
     let (scene, window) = (scene_of(matches)?, window_of(matches)?);
-    let reserve = quantity_of(matches, "reserve", Unit::Milliwatts, RESERVE)?;
+    let (kind, behind) = (kind_of(matches)?, behind_of(matches)?);
+    let share = share_of(matches)?;
+    let limits = limits_of(matches)?;
     let options = SweepOptions {
         window,
-        reserve,
-        kind: kind_of(matches)?,
+        kind,
         damage: is_on(matches, "damage"),
-        behind: behind_of(matches)?,
+        behind,
+        changed: is_on(matches, "changed"),
+        share,
+        reserve: reserve_of(matches, &limits)?,
+        fail_on: limits.fail_on,
+        by_message: by_message_of(matches)?,
         form: form_of(matches)?,
     };
     Ok(LabTask::Sweep(scene, options))
@@ -413,10 +589,19 @@ fn vary_of<'a>(alloc: Global, matches: &ArgMatches<'a>) -> Result<LabTask<'a>, L
     let Some(sets) = all(matches, "set") else {
         return Err(LabFault::Words(None));
     };
+    let wheres = all(matches, "where").unwrap_or(&[]);
     let tell = first(matches, "tell");
-    match sets.to_vec(alloc) {
-        Ok(sets) => Ok(LabTask::Vary(scene, VaryOptions { sets, tell, form })),
-        Err(_) => Err(LabFault::Memory),
+    match (sets.to_vec(alloc), wheres.to_vec(alloc)) {
+        (Ok(sets), Ok(wheres)) => {
+            let options = VaryOptions {
+                sets,
+                wheres,
+                tell,
+                form,
+            };
+            Ok(LabTask::Vary(scene, options))
+        }
+        _ => Err(LabFault::Memory),
     }
 }
 
@@ -616,6 +801,7 @@ fn wanted_behind(option: &str) -> Option<Wanted> {
         "--width" => Some(WIDTH),
         "--in-a-row" => Some(IN_A_ROW),
         "--reserve" => Some(RESERVE),
+        "--part" => Some(PART),
         _ => None,
     }
 }

@@ -1,18 +1,24 @@
 //! What the words of a command line ask for.
 #![tactic(auto)]
 
+mod help;
 mod lab;
 mod lab_task;
 mod lab_words;
 mod meant;
 mod names;
+mod page;
+mod pages;
 mod program;
 mod task;
+#[cfg(test)]
+mod tests;
 
+pub use help::{help_of, usage_of};
 pub use lab::VERSION;
 pub use lab_task::{
-    DecodeOptions, DrawOptions, ExplainOptions, Form, LabFault, LabTask, Scene, ShowOptions,
-    SweepOptions, TestOptions, VaryOptions, Wanted, WhyOptions, Window,
+    DecodeOptions, DrawOptions, ExplainOptions, FailOn, Form, LabFault, LabTask, Scene, Share,
+    ShowOptions, SweepOptions, TestOptions, VaryOptions, Wanted, WhyOptions, Window,
 };
 pub use lab_words::read_lab_task;
 pub use meant::{meant_command, topic_of};

@@ -4,7 +4,8 @@ ghost use Rattle.std.specs.Prelude.{◌≡◌, bytes_eq, find, map, option_map};
 ghost use Rattle.std.specs.String.{string_bytes};
 ghost use Rattle.pd_words.specs.Meant.{behind_name, front, meant, names, topic};
 
-use crate::lab::{Slot, slots_of};
+use crate::help::page_of;
+use crate::page::Choice;
 use pd_hints::{is_slip, nearest};
 
 const COMMANDS: [&str; 13] = [
@@ -86,28 +87,30 @@ pub fn meant_command(word: &str) -> Option<&'static str>
 }
 
 /// The name of an option of several letters.
-fn long_name(slot: Slot<'static>) -> Option<&'static str> {
-    match slot {
-        Slot::Value(name) | Slot::Values(name) | Slot::Flag(name) | Slot::Switch(_, name) => {
-            Some(name)
-        }
-        _ => None,
+fn long_name(choice: Choice<'static>) -> Option<&'static str> {
+    match choice {
+        Choice::Value(name, _, _)
+        | Choice::Values(name, _, _)
+        | Choice::Any(name, _, _)
+        | Choice::Flag(name, _)
+        | Choice::Switch(_, name, _) => Some(name),
+        Choice::Letter(_, _, _) => None,
     }
 }
 
 /// The option of which a word is a slip, where it begins with two dashes.
-fn near_option(slots: &[Slot<'static>], word: &str) -> Option<&'static str> {
+fn near_option(options: &[Choice<'static>], word: &str) -> Option<&'static str> {
     let bare = word.strip_prefix("--")?;
-    slots
+    options
         .iter()
-        .filter_map(|slot| long_name(*slot))
+        .filter_map(|choice| long_name(*choice))
         .find(|name| is_slip(bare.as_bytes(), name.as_bytes()))
 }
 
 /// The first option of a command of which one of the words is a slip.
 pub fn meant_option(command: &str, words: &[String]) -> Option<&'static str> {
-    let slots = slots_of(command);
+    let options = page_of(command)?.options;
     words
         .iter()
-        .find_map(|word| near_option(slots, word.as_str()))
+        .find_map(|word| near_option(options, word.as_str()))
 }

@@ -2,12 +2,11 @@
 
 use crate::Ending;
 use crate::answers::Counted;
-use crate::help::{help_of, usage_of};
 use crate::version::tell_version;
 use pd_desk::tell_reason;
 use pd_device::{BenchFault, Output};
 use pd_scenario_text::{ScenarioFault, port_count};
-use pd_words::{LabFault, meant_command, topic_of};
+use pd_words::{LabFault, help_of, meant_command, topic_of, usage_of};
 use std::alloc::Global;
 use std::io;
 use std::io::Printer;
@@ -66,19 +65,9 @@ pub fn tell_no_port<R: Alloc<A = Global>, E: Print>(
     Ending::Refused
 }
 
-/// Tells why the words of the command line ask for nothing, and how the command is used that they mean; or what they ask of the program:
-/// how it is used, or its version.
-pub fn tell_words<R: Files + Print + Alloc<A = Global>, E: Print>(
-    rt: &R,
-    errors: &E,
-    words: &[String],
-    fault: &LabFault<'_>,
-) -> Ending {
-    let told = match fault {
-        LabFault::Help(topic) => return tell_help(rt, errors, topic),
-        LabFault::Version => return tell_version(rt, errors),
-        LabFault::Memory => return tell(errors, BenchFault::Memory),
-        LabFault::Words(None) => Ok(()),
+/// Tells what is wrong with the words of the command line, where that is known.
+fn tell_wrong<E: Print>(errors: &E, fault: &LabFault<'_>) -> io::Result<()> {
+    match fault {
         LabFault::Words(Some(sentence)) => errors.println(sentence.as_str()),
         LabFault::Both(one, other) => {
             println!(errors; "error: the argument '{one}' cannot be used with '{other}'")
@@ -101,16 +90,36 @@ pub fn tell_words<R: Files + Print + Alloc<A = Global>, E: Print>(
                 "`-` stands for two things: standard input can be read as one alone, so name a file for the other",
             )
         }
-    };
-    let _ = told;
+        LabFault::Words(None) | LabFault::Help(_) | LabFault::Version | LabFault::Memory => Ok(()),
+    }
+}
+
+/// Tells why the words of the command line ask for nothing, and how the command is used that they mean; or what they ask of the program:
+/// how it is used, or its version.
+pub fn tell_words<R: Files + Print + Alloc<A = Global>, E: Print>(
+    rt: &R,
+    errors: &E,
+    words: &[String],
+    fault: &LabFault<'_>,
+) -> Ending {
+    match fault {
+        LabFault::Help(topic) => return tell_help(rt, errors, topic),
+        LabFault::Version => return tell_version(rt, errors),
+        LabFault::Memory => return tell(errors, BenchFault::Memory),
+        _ => {}
+    }
+    let _ = tell_wrong(errors, fault);
     let command = meant_command(topic_of(words)).unwrap_or("");
-    let _ = errors.println(usage_of(command));
+    let _ = println!(errors; "usage: pdlab {}", usage_of(command));
     Ending::Usage
 }
 
 /// Tells how the program is used, or the command of this name.
-fn tell_help<R: Print, E: Print>(rt: &R, errors: &E, topic: &str) -> Ending {
-    match rt.print(help_of(topic)) {
+fn tell_help<R: Print + Alloc<A = Global>, E: Print>(rt: &R, errors: &E, topic: &str) -> Ending {
+    let Ok(help) = help_of(rt.alloc(), topic) else {
+        return tell(errors, BenchFault::Memory);
+    };
+    match rt.print(help.as_str()) {
         Ok(()) => Ending::Done,
         Err(error) if error.kind() == io::ErrorKind::BrokenPipe => Ending::Closed,
         Err(_) => tell(errors, BenchFault::WriteFailed),

@@ -7,7 +7,6 @@ mod at_keyboard;
 mod beside;
 mod explained;
 mod fault;
-mod help;
 mod log;
 mod opened;
 mod page;

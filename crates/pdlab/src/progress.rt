@@ -11,21 +11,21 @@ use std::time::{Duration, Instant};
 /// The least milliseconds between two words of how far it is.
 const PAUSE: u128 = 100;
 
-/// How many lines of packets there will be, and how many lines stand before them.
+/// How many packets will be tried, and how many lines stand before theirs.
 #[derive(Clone, Copy, Debug)]
 pub struct Packets {
     pub total: u64,
     pub heads: u64,
 }
 
-/// Passes the lines of a sweep on, and tells a terminal how many of so many there were, ten times a second at most.
+/// Passes the lines of a sweep on, and tells a terminal how many of so many packets were tried, ten times a second at most.
 #[derive(Drop)]
 pub struct Watched<'a, W, C, E> {
     pub lines: W,
     clock: &'a C,
     terminal: &'a E,
     packets: Packets,
-    lines_told: u64,
+    told_of: u64,
     began: Instant,
     told: Instant,
     is_shown: bool,
@@ -37,9 +37,11 @@ impl<'a, W: TextOut, C: Clock, E: Print> TextOut for Watched<'a, W, C, E> {
     ghost failures = { λ w. W.failures w.lines };
 
     fn write(&mut self, bytes: &[u8]) -> Result<usize, DeviceFault> {
-        self.erase();
+        if !bytes.is_empty() {
+            self.erase();
+        }
         let count = self.lines.write(bytes)?;
-        self.lines_told = self.lines_told.saturating_add(lines_in(bytes, count));
+        self.told_of = self.told_of.saturating_add(packets_in(bytes, count));
         self.tell();
         Ok(count)
     }
@@ -55,7 +57,7 @@ impl<'a, W: TextOut, C: Clock, E: Print> Watched<'a, W, C, E> {
             clock,
             terminal,
             packets,
-            lines_told: 0,
+            told_of: 0,
             began,
             told: began,
             is_shown: false,
@@ -72,18 +74,27 @@ impl<'a, W: TextOut, C: Clock, E: Print> Watched<'a, W, C, E> {
         }
     }
 
-    /// Tells how far the sweep is, where that is some time ago and packets are left.
+    /// Tells how far the sweep is, where that was told some time ago and packets are left.
     fn tell(&mut self)
         ensures { self.new.lines ≡ self.old.lines }
     {
         let Ok(now) = Instant::now(self.clock) else {
             return;
         };
-        let done = self.lines_told.saturating_sub(self.packets.heads);
-        let total = self.packets.total;
-        if done >= total || now.duration_since(self.told).as_millis() < PAUSE {
-            return;
+        let done = self.told_of.saturating_sub(self.packets.heads);
+        if done >= self.packets.total {
+            self.erase();
+        } else if now.duration_since(self.told).as_millis() >= PAUSE {
+            self.show(done, now);
         }
+    }
+
+    /// Shows how many packets were tried by now, in place of what the terminal shows.
+    fn show(&mut self, done: u64, now: Instant)
+        ensures { self.new.lines ≡ self.old.lines }
+    {
+        self.erase();
+        let total = self.packets.total;
         let seconds = seconds_left(now.duration_since(self.began), done, total);
         let _ = print!(self.terminal;
             "{} of {} packets, {seconds} s left",
@@ -92,6 +103,15 @@ impl<'a, W: TextOut, C: Clock, E: Print> Watched<'a, W, C, E> {
         );
         self.told = now;
         self.is_shown = true;
+    }
+}
+
+/// How many packets were tried, by what a sweep writes: each has a line, or is told by no byte where it has none.
+fn packets_in(bytes: &[u8], count: usize) -> u64 {
+    if bytes.is_empty() {
+        1
+    } else {
+        lines_in(bytes, count)
     }
 }
 

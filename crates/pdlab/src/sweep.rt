@@ -1,14 +1,17 @@
 //! `pdlab sweep SCENARIO [EDITS]`.
 
 use crate::Ending;
-use crate::fault::output;
+use crate::fault::{output, tell};
 use crate::opened::{Opened, open, reaches, tell_scene};
 use crate::progress::{Packets, Watched};
-use pd_device::TextOut;
+use pd_device::{BenchFault, TextOut, write_all};
 use pd_port::Meter;
-use pd_sweep::{Campaign, Choice, Form, Loss, SceneFault, Tally, packet_count, sweep_text};
-use pd_words::{Form as Asked, Scene, SweepOptions};
-use std::alloc::Global;
+use pd_sweep::{
+    Campaign, Choice, Form, Limits, Look, Loss, Part, Passed, SceneFault, Tally, packet_count,
+    push_passed, sweep_part_text, sweep_text,
+};
+use pd_words::{Form as Asked, Scene, Share, SweepOptions};
+use std::alloc::{AllocError, Global};
 use std::io::IsTerminal;
 use std::rt::{Clock, Files};
 use std::time::Instant;
@@ -27,18 +30,46 @@ fn campaign_of(options: &SweepOptions) -> Campaign {
         } else {
             Loss::Lost
         },
-        behind: options.behind,
+        behind: u8::try_from(options.behind).unwrap_or(u8::MAX),
         reserve: options.reserve,
     }
 }
 
 /// How it is told.
-fn form_of(form: Asked) -> Form {
-    match form {
-        Asked::Words => Form::Words,
-        Asked::Json => Form::Json,
-        Asked::Csv => Form::Csv,
+fn look_of(options: &SweepOptions) -> Look {
+    Look {
+        form: match options.form {
+            Asked::Words => Form::Words,
+            Asked::Json => Form::Json,
+            Asked::Csv => Form::Csv,
+        },
+        changed: options.changed,
+        by_message: options.by_message,
     }
+}
+
+/// What no run is to do.
+fn limits_of(options: &SweepOptions) -> Limits {
+    Limits {
+        other_contracts: options.fail_on.other_contracts,
+        hard_resets: options.fail_on.hard_resets,
+        less_power: options.fail_on.less_power,
+    }
+}
+
+/// The share of so many packets.
+fn part_of(share: Share, packets: usize) -> Part {
+    let shares = share.parts.max(1);
+    Part::share(share.part.max(1).min(shares), shares, packets)
+}
+
+/// What a sweep is of: which packets are lost and how that is told; and of a share of them how many all are, and which part it is.
+#[derive(Clone, Copy)]
+struct Task {
+    campaign: Campaign,
+    look: Look,
+    packets: Option<usize>,
+    part: Option<Part>,
 }
 
 /// How many lines stand before those of the packets.
@@ -49,43 +80,31 @@ fn heads(form: Form) -> u64 {
     }
 }
 
-/// How a sweep ends that was made: as with a refused input where a run left less than it was to, or where no packet was tried, which
-/// is told.
-fn ending_of<E: Print>(errors: &E, file: &str, tally: &Tally) -> Ending {
-    if tally.tried == 0 {
-        let _ = println!(errors; "{file}: no packet of the run was tried");
-        return Ending::Refused;
-    }
-    if tally.short == 0 {
-        Ending::Done
-    } else {
-        Ending::Refused
-    }
-}
-
-/// Loses the packets of a campaign, and writes what that leads to.
+/// Loses the packets of a task, and writes what that leads to.
 ///
 /// # Errors
 /// As of `sweep_text`.
 fn swept<R: Alloc<A = Global>, W: TextOut>(
     rt: &R,
     opened: &Opened<'_>,
-    campaign: &Campaign,
-    form: Form,
+    task: &Task,
     out: &mut W,
 ) -> Result<Tally, SceneFault> {
-    let (text, script) = (opened.text.as_slice(), opened.script.as_slice());
-    let mut meter = Meter::new();
-    sweep_text(
-        rt.alloc(),
-        text,
-        script,
+    let (text, script, refused) = (
+        opened.text.as_slice(),
+        opened.script.as_slice(),
         opened.refused,
-        campaign,
-        form,
-        out,
-        &mut meter,
-    )
+    );
+    let (alloc, campaign, look) = (rt.alloc(), &task.campaign, task.look);
+    let mut meter = Meter::new();
+    match task.part {
+        None => sweep_text(
+            alloc, text, script, refused, campaign, look, out, &mut meter,
+        ),
+        Some(part) => sweep_part_text(
+            alloc, text, script, refused, campaign, part, look, out, &mut meter,
+        ),
+    }
 }
 
 /// Makes a sweep.
@@ -96,14 +115,13 @@ fn tally_of<R: Print + Alloc<A = Global>, E: Print>(
     rt: &R,
     errors: &E,
     opened: &Opened<'_>,
-    campaign: &Campaign,
-    form: Form,
+    task: &Task,
 ) -> Result<Tally, Ending> {
     let mut out = output(rt);
-    match swept(rt, opened, campaign, form, &mut out) {
+    match swept(rt, opened, task, &mut out) {
         Ok(tally) => Ok(tally),
         Err(_) if out.writer.is_closed => Err(Ending::Closed),
-        Err(fault) => Err(tell_scene(rt, errors, opened, campaign.choice.port, fault)),
+        Err(fault) => Err(tell_scene(rt, errors, opened, task.campaign.choice.port, fault)),
     }
 }
 
@@ -116,12 +134,56 @@ fn packets_of<R: Alloc<A = Global>, E: Print>(
     errors: &E,
     opened: &Opened<'_>,
     choice: &Choice,
-) -> Result<u64, Ending> {
+) -> Result<usize, Ending> {
     let (text, script) = (opened.text.as_slice(), opened.script.as_slice());
     let (refused, mut meter) = (opened.refused, Meter::new());
     match packet_count(rt.alloc(), text, script, refused, choice, &mut meter) {
-        Ok(total) => Ok(total as u64),
+        Ok(packets) => Ok(packets),
         Err(fault) => Err(tell_scene(rt, errors, opened, choice.port, fault)),
+    }
+}
+
+/// What a sweep is of, by the words for it.
+///
+/// # Errors
+/// Something kept the packets from being counted; that is told.
+fn task_of<R: Alloc<A = Global>, E: Print>(
+    rt: &R,
+    errors: &E,
+    opened: &Opened<'_>,
+    options: &SweepOptions,
+) -> Result<Task, Ending> {
+    let (campaign, look) = (campaign_of(options), look_of(options));
+    let Some(share) = options.share else {
+        return Ok(Task {
+            campaign,
+            look,
+            packets: None,
+            part: None,
+        });
+    };
+    let packets = packets_of(rt, errors, opened, &campaign.choice)?;
+    Ok(Task {
+        campaign,
+        look,
+        packets: Some(packets),
+        part: Some(part_of(share, packets)),
+    })
+}
+
+/// How many packets a task tries.
+///
+/// # Errors
+/// Something kept them from being counted; that is told.
+fn tried_of<R: Alloc<A = Global>, E: Print>(
+    rt: &R,
+    errors: &E,
+    opened: &Opened<'_>,
+    task: &Task,
+) -> Result<usize, Ending> {
+    match task.part {
+        None => packets_of(rt, errors, opened, &task.campaign.choice),
+        Some(part) => Ok(part.count),
     }
 }
 
@@ -133,26 +195,90 @@ fn watched_tally<R: Print + Clock + Alloc<A = Global>, E: Print>(
     rt: &R,
     errors: &E,
     opened: &Opened<'_>,
-    campaign: &Campaign,
-    form: Form,
+    task: &Task,
 ) -> Result<Tally, Ending> {
     let packets = Packets {
-        total: packets_of(rt, errors, opened, &campaign.choice)?,
-        heads: heads(form),
+        total: tried_of(rt, errors, opened, task)? as u64,
+        heads: heads(task.look.form),
     };
     let Ok(began) = Instant::now(rt) else {
-        return tally_of(rt, errors, opened, campaign, form);
+        return tally_of(rt, errors, opened, task);
     };
     let mut out = Watched::of(output(rt), rt, errors, packets, began);
-    match swept(rt, opened, campaign, form, &mut out) {
+    match swept(rt, opened, task, &mut out) {
         Ok(tally) => Ok(tally),
         Err(_) if out.lines.writer.is_closed => Err(Ending::Closed),
-        Err(fault) => Err(tell_scene(rt, errors, opened, campaign.choice.port, fault)),
+        Err(fault) => Err(tell_scene(rt, errors, opened, task.campaign.choice.port, fault)),
     }
 }
 
-/// Loses each packet that is chosen of the run of the scenario of a file, as the edits of a script leave it, and tells what that
-/// leads to. Where what is told of faults goes to a terminal, so does how far the sweep is.
+/// Whether no packet of the run was tried: none of all, or where a share is asked for, there is none to share.
+fn is_empty(task: &Task, tally: &Tally) -> bool {
+    match task.packets {
+        None => tally.tried == 0,
+        Some(packets) => packets == 0,
+    }
+}
+
+/// The lines that tell which limits are passed.
+///
+/// # Errors
+/// There is no memory for them.
+fn passed_lines<R: Alloc<A = Global>>(
+    rt: &R,
+    file: &str,
+    loss: Loss,
+    passed: &Passed,
+) -> Result<Vec<u8>, AllocError> {
+    let mut text = Vec::new(rt.alloc());
+    push_passed(&mut text, file.as_bytes(), loss, passed)?;
+    Ok(text)
+}
+
+/// Tells which limits are passed, each with the number that passes it.
+fn tell_passed<R: Alloc<A = Global>, E: Print>(
+    rt: &R,
+    errors: &E,
+    file: &str,
+    loss: Loss,
+    passed: &Passed,
+) -> Ending {
+    match passed_lines(rt, file, loss, passed) {
+        Ok(text) => {
+            let _ = write_all(&mut output(errors), text.as_slice());
+            Ending::Refused
+        }
+        Err(_) => tell(errors, BenchFault::Memory),
+    }
+}
+
+/// How a sweep ends that was made: as with a refused input where no packet was tried, or where a run passed a limit, which is told, or
+/// left less than it was to.
+fn ending_of<R: Alloc<A = Global>, E: Print>(
+    rt: &R,
+    errors: &E,
+    file: &str,
+    task: &Task,
+    limits: &Limits,
+    tally: &Tally,
+) -> Ending {
+    if is_empty(task, tally) {
+        let _ = println!(errors; "{file}: no packet of the run was tried");
+        return Ending::Refused;
+    }
+    let passed = limits.passed(tally);
+    if !passed.is_none() {
+        return tell_passed(rt, errors, file, task.campaign.loss, &passed);
+    }
+    if tally.short == 0 {
+        Ending::Done
+    } else {
+        Ending::Refused
+    }
+}
+
+/// Loses each packet that is chosen of the run of the scenario of a file, as the edits of a script leave it, or each of a share of
+/// them, and tells what that leads to. Where what is told of faults goes to a terminal, so does how far the sweep is.
 ///
 /// # Errors
 /// Something kept it from being told; that is told.
@@ -164,11 +290,12 @@ pub fn sweep<R: Files + Input + Print + Clock + Alloc<A = Global>, E: Print + Is
 ) -> Result<Ending, Ending> {
     let opened = open(rt, errors, scene)?;
     reaches(rt, errors, &opened, options.window.from)?;
-    let (campaign, form) = (campaign_of(options), form_of(options.form));
+    let task = task_of(rt, errors, &opened, options)?;
     let tally = if errors.is_terminal() {
-        watched_tally(rt, errors, &opened, &campaign, form)?
+        watched_tally(rt, errors, &opened, &task)?
     } else {
-        tally_of(rt, errors, &opened, &campaign, form)?
+        tally_of(rt, errors, &opened, &task)?
     };
-    Ok(ending_of(errors, opened.file, &tally).or_worse(opened.ending))
+    let ending = ending_of(rt, errors, opened.file, &task, &limits_of(options), &tally);
+    Ok(ending.or_worse(opened.ending))
 }

@@ -2,12 +2,14 @@
 
 use crate::Ending;
 use crate::fault::{output, tell};
-use crate::help::usage_of;
 use crate::opened::{Opened, open, tell_scene};
-use pd_device::BenchFault;
+use pd_device::{BenchFault, write_all};
 use pd_port::Meter;
-use pd_vary::{Ask, EditSet, Form, Question, SetFault, few_rows, read_asks, read_set, vary_text};
-use pd_words::{Form as Asked, Scene, VaryOptions};
+use pd_vary::{
+    Ask, Condition, EditSet, Form, Question, SetFault, few_rows, push_no_condition, read_asks,
+    read_condition, read_set, vary_text,
+};
+use pd_words::{Form as Asked, Scene, VaryOptions, usage_of};
 use std::alloc::Global;
 use std::rt::Files;
 
@@ -16,7 +18,7 @@ const USUAL: &str = "margin, faults, hard resets";
 
 /// Tells how the command is used.
 fn usage<E: Print>(errors: &E) -> Ending {
-    let _ = errors.println(usage_of("vary"));
+    let _ = println!(errors; "usage: pdlab {}", usage_of("vary"));
     Ending::Usage
 }
 
@@ -74,6 +76,39 @@ fn asks_of<R: Alloc<A = Global>, E: Print>(
     }
 }
 
+/// Tells why a line is no expectation, and how the command is used.
+fn tell_no_condition<R: Alloc<A = Global>, E: Print>(rt: &R, errors: &E, line: &str) -> Ending {
+    let mut text = Vec::new(rt.alloc());
+    match push_no_condition(rt.alloc(), &mut text, line.as_bytes()) {
+        Ok(()) => {
+            let _ = write_all(&mut output(errors), text.as_slice());
+            usage(errors)
+        }
+        Err(_) => tell(errors, BenchFault::Memory),
+    }
+}
+
+/// Reads what is expected of each row.
+///
+/// # Errors
+/// A line says nothing that is expected, or there is no memory; that is told.
+fn conditions_of<'a, R: Alloc<A = Global>, E: Print>(
+    rt: &R,
+    errors: &E,
+    lines: &[&'a str],
+) -> Result<Vec<Condition<'a>>, Ending> {
+    let mut conditions = Vec::new(rt.alloc());
+    for line in lines {
+        let Some(condition) = read_condition(line.as_bytes()) else {
+            return Err(tell_no_condition(rt, errors, line));
+        };
+        let Ok(()) = conditions.push(condition) else {
+            return Err(tell(errors, BenchFault::Memory));
+        };
+    }
+    Ok(conditions)
+}
+
 /// How it is told.
 fn form_of(form: Asked) -> Form {
     match form {
@@ -95,7 +130,7 @@ fn varied<R: Print + Alloc<A = Global>, E: Print>(
 ) -> Result<(), Ending> {
     let (text, script) = (opened.text.as_slice(), opened.script.as_slice());
     let (mut out, mut meter) = (output(rt), Meter::new());
-    let port = question.asks.iter().map(|ask| ask.port).max();
+    let port = question.port();
     match vary_text(
         rt.alloc(),
         text,
@@ -112,7 +147,7 @@ fn varied<R: Print + Alloc<A = Global>, E: Print>(
 }
 
 /// Makes each combination of values of edit lines on the scenario of a file, as the edits of a script leave it, and tells what is measured
-/// of its run.
+/// of its run, and whether what is expected holds.
 ///
 /// # Errors
 /// Something kept it from being told; that is told.
@@ -124,10 +159,12 @@ pub fn vary<R: Files + Input + Print + Alloc<A = Global>, E: Print>(
 ) -> Result<Ending, Ending> {
     let sets = sets_of(rt, errors, options.sets.as_slice())?;
     let asks = asks_of(rt, errors, options.tell)?;
+    let wheres = conditions_of(rt, errors, options.wheres.as_slice())?;
     let opened = open(rt, errors, scene)?;
     let question = Question {
         sets: sets.as_slice(),
         asks: asks.as_slice(),
+        wheres: wheres.as_slice(),
         form: form_of(options.form),
     };
     varied(rt, errors, &opened, &question)?;
