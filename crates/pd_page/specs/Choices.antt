@@ -1,5 +1,5 @@
 -- What a caller chooses, from numbers.
-use Rattle.std.specs.Prelude.{ℕ, ◌==◌, Bool, true, false, if◌then◌else◌, Option, Some, None}
+use Rattle.std.specs.Prelude.{ℕ, ◌-◌, ◌^◌, ◌==◌, Bool, true, false, if◌then◌else◌, Option, Some, None}
 use Rattle.pd_chart.specs.declared.look.Look.{Look}
 use Rattle.pd_show.specs.declared.choice.Choice.{Choice}
 use Rattle.pd_show.specs.declared.choice.Form.TheVariants.{Json}
@@ -40,7 +40,14 @@ loss_of true = Damaged
 loss_of false = Lost
 
 abbrev pub campaign_of : Packets → Bool → ℕ → Campaign
-campaign_of packets damaged behind = record { choice = packets; loss = loss_of damaged; behind = behind; reserve = None }
+campaign_of packets damaged behind = record {
+  choice = packets;
+  loss = loss_of damaged;
+  behind = behind;
+  any = 1;
+  most = 2 ^ 64 - 1;
+  reserve = None;
+}
 
 abbrev pub part_of : ℕ → ℕ → Part
 part_of first count = record { first = first; count = count }

@@ -122,6 +122,8 @@ pub extern "C" fn page_sweep(
         choice: packets_of(port, from, to),
         loss: loss_of(damaged),
         behind,
+        any: 1,
+        most: u64::MAX,
         reserve: None,
     };
     let part = Part {

@@ -8,7 +8,7 @@ use Rattle.pd_scenario.specs.Scenarios.{ScenarioData}
 use Rattle.pd_sweep.specs.Beside.{AreInOrder, measures_by}
 use Rattle.pd_sweep.specs.Measures.{steps_of}
 use Rattle.pd_sweep.specs.Summaries.{AreFindings}
-use Rattle.pd_sweep.specs.Trials.{IsBaseOf, IsEffect, is_hit}
+use Rattle.pd_sweep.specs.Trials.{IsBaseOf, IsEffect, are_hit}
 use Rattle.pd_sweep.specs.declared.base.Base.{Base}
 use Rattle.pd_sweep.specs.declared.effect.Effect.{Effect}
 use Rattle.pd_sweep.specs.declared.measure.Step.{Step}
@@ -19,10 +19,10 @@ module _ (c : ScenarioData) (base : Base) (is : IsBaseOf c base) (end : ℕ) (sa
   pub base_in_order : AreInOrder end base.steps.items
   base_in_order = rw same is.is.in_order
 
-  pub is_effect : (plan : Plan) (target : Target) (effect : Effect) (moves : List (ℕ × Entry)) → Shows plan moves
-      → is_hit c.events target moves ≡ true → AreFindings plan moves effect.findings
-      → effect.measures ≡ measures_by end base.steps.items (steps_of end moves) → IsEffect c plan target effect
-  is_effect plan target effect moves shows hit found measured = record {
+  pub is_effect : (plan : Plan) (ts : List Target) (effect : Effect) (moves : List (ℕ × Entry)) → Shows plan moves
+      → are_hit c.events ts moves ≡ true → AreFindings plan moves effect.findings
+      → effect.measures ≡ measures_by end base.steps.items (steps_of end moves) → IsEffect c plan ts effect
+  is_effect plan ts effect moves shows hit found measured = record {
     base = is.moves;
     base_shows = is.shows;
     moves = moves;

@@ -1,7 +1,7 @@
 -- Looking for a packet that is hit.
-use Rattle.std.proofs.Common.{◌≡◌, ℕ, ◌+◌, ◌-◌, ◌<◌, ◌≤◌, Bool, true, false, cond, List, [], ◌∷◌, ◌++◌, length, drop, map, min}
+use Rattle.std.proofs.Common.{◌≡◌, ℕ, ◌+◌, ◌<◌, ◌≤◌, Bool, true, false, cond, List, [], ◌∷◌, ◌++◌, length, drop, map, min}
 use Rattle.std.proofs.Common.{Option, Some, None, refl, sym, ap, ◌∙◌, subst, inl, inr, arith, fold, slice_get}
-use Rattle.std.specs.Prelude.{◌==◌, ◌&&◌, ◌||◌, Contains, MatchOption, option_map, replicate}
+use Rattle.std.specs.Prelude.{◌==◌, ◌&&◌, ◌||◌, Contains, MatchOption, option_map}
 use Rattle.std.proofs.lemmas.Bool.{cases_Bool}
 use Rattle.std.proofs.lemmas.List.{drop_all}
 use Rattle.std.proofs.lemmas.Option.{get_or_from_slice_get, same_Some, slice_get_within}
@@ -35,11 +35,8 @@ use Rattle.pd_report.proofs.MarginLemmas.{at-due, drop-next}
 use Rattle.pd_watch.specs.Watch.{WatchData}
 use Rattle.pd_sweep.specs.Along.{IsQuietBefore, disturbs, disturbs_happening, disturbs_kind, disturbs_on, earlier_disturbance}
 use Rattle.pd_sweep.specs.Along.{first_disturbance, is_disturbance}
-use Rattle.pd_sweep.specs.Lost.{lost, put_in}
 use Rattle.pd_sweep.specs.Trials.{hit_from, hits, watched_on}
 use Rattle.pd_sweep.specs.declared.packets.Target.{Target}
-use Rattle.pd_sweep.specs.declared.choice.Loss.{Loss}
-use Rattle.pd_sweep.proofs.LostLemmas.{events_are, its_events, only_one, own_script, same_count, scripts_known}
 use Rattle.pd_sweep.proofs.WatchLemmas.{QuietBefore, disturbs_what}
 
 -- ---- the first event that disturbs a packet
@@ -142,32 +139,15 @@ event_in plan past m x goes is =
     ((taken, inside, get_or_from_slice_get (script_of plan m.port) taken x x next.0), next.1)
 
 -- of the events of a scenario
-pub quiet_scenario : (v : ScenarioData) (t : Target) → IsQuietBefore (plan_of v) t.port (first_disturbance v.events t.port t.at)
-quiet_scenario v t p e known port there so =
+pub quiet_scenario : (v : ScenarioData) (port at : ℕ) → IsQuietBefore (plan_of v) port (first_disturbance v.events port at)
+quiet_scenario v port at p e known here there so =
     let of = is_of v p e known there in
-    let test : is_disturbance t.port of.event ≡ true =
-    seen_disturbs v.cables v.sinks t.port of.event.id of.event.happening e.happening
-    (ap (λ q. seen_by v.cables v.sinks q of.event.id of.event.happening) (sym port) ∙ of.is) so in
-    let by = first_by t.port v.events t.at of.event of.there test in
+    let test : is_disturbance port of.event ≡ true =
+    seen_disturbs v.cables v.sinks port of.event.id of.event.happening e.happening
+    (ap (λ q. seen_by v.cables v.sinks q of.event.id of.event.happening) (sym here) ∙ of.is) so in
+    let by = first_by port v.events at of.event of.there test in
     let on_time = of.on_time in
     omega arith
-
--- and of those that were put in
-pub quiet_lost : (c : ScenarioData) (loss : Loss) (behind : ℕ) (t : Target)
-    → IsQuietBefore (lost (plan_of c) loss behind t) t.port (first_disturbance c.events t.port t.at)
-quiet_lost c loss behind t p e known port there so =
-    let own : p < count (plan_of c) = rw (sym (same_count (plan_of c) loss behind t)) known in
-    let place : p ≡ t.port - 1 = omega arith in
-    let its : Contains (its_events (plan_of c) loss behind t) e =
-    subst (λ l. Contains l e) (own_script (plan_of c) loss behind t p (scripts_known c p own) place) there in
-    elim (events_are (replicate (behind + 1) (put_in loss t.at)) t.at (script_of (plan_of c) (t.port - 1)) e its) [
-      | inl new ↦
-          let one : put_in loss t.at ≡ e = only_one (behind + 1) (put_in loss t.at) e new in
-          let on_time : t.at ≡ e.at = ap (λ (x : EventData). x.at) one in
-          let soon = first_soon t.port c.events t.at in
-          omega arith
-      | inr old ↦ quiet_scenario c t p e own port (subst (λ q. Contains (script_of (plan_of c) q) e) (sym place) old) so
-    ]
 
 module _ (plan : Plan) (t : Target) (first : ℕ) (quiet : IsQuietBefore plan t.port first) where
   quiet_move : (past : List Move) (m : Move) → GoesOn plan past m → m.entry.at < first → m.port + 1 ≡ t.port

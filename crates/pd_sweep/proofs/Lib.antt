@@ -11,11 +11,13 @@ mod LostLemmas
 mod PacketLemmas
 mod PlaceLemmas
 mod QuietLemmas
+mod SetLemmas
 mod ShareLemmas
 mod StepLemmas
 mod SumLemmas
 mod SweepLemmas
 pub mod TrialLemmas
+mod TriesLemmas
 mod TruthLemmas
 pub mod WalkLemmas
 mod WatchLemmas

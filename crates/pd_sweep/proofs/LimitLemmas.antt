@@ -12,7 +12,7 @@ use Rattle.pd_sweep.specs.declared.effect.Effect.{Effect}
 use Rattle.pd_sweep.specs.declared.findings.Findings.{Findings}
 use Rattle.pd_sweep.specs.declared.measure.Extent.TheVariants.{Less}
 use Rattle.pd_sweep.specs.declared.measure.Measure.{Measure}
-use Rattle.pd_sweep.specs.declared.packets.Target.{Target}
+use Rattle.pd_sweep.specs.declared.sets.Packets.{Packets}
 use Rattle.pd_sweep.specs.declared.tally.Tally.{Tally}
 use Rattle.pd_sweep.specs.declared.tally.Worst.{Worst}
 use Rattle.pd_sweep.specs.declared.tally.WorstOn.{WorstOn}
@@ -43,18 +43,18 @@ module _ (old : Findings) (reserve : Option ℕ) where
 
   -- a test of the tally that each run may make true, and nothing else
   each_trial : (P : Tally → Bool) (does : Effect → Bool) →
-      ((tally : Tally) (t : Target) (effect : Effect) → P (noted_outcome reserve old tally t (Ran effect)) ≡ (P tally || does effect)) →
-      (tally : Tally) (t : Target) (outcome : Outcome) →
+      ((tally : Tally) (t : Packets) (effect : Effect) → P (noted_outcome reserve old tally t (Ran effect)) ≡ (P tally || does effect)) →
+      (tally : Tally) (t : Packets) (outcome : Outcome) →
       P (noted_outcome reserve old tally t outcome) ≡ (P tally || has_run does outcome)
   each_trial P does step tally t (Ran effect) = step tally t effect
   each_trial P does step tally t _ = sym (or_false (P tally))
 
   of_runs : (P : Tally → Bool) (does : Effect → Bool) →
-      ((tally : Tally) (t : Target) (effect : Effect) → P (noted_outcome reserve old tally t (Ran effect)) ≡ (P tally || does effect)) →
+      ((tally : Tally) (t : Packets) (effect : Effect) → P (noted_outcome reserve old tally t (Ran effect)) ≡ (P tally || does effect)) →
       P no_trial ≡ false → (trials : List Trial) → P (tally_of reserve old trials) ≡ some_run does trials
   of_runs P does step none trials =
       fold_passes note P (λ (trial : Trial). has_run does trial.outcome)
-      (λ tally trial. each_trial P does step tally trial.target trial.outcome) no_trial trials
+      (λ tally trial. each_trial P does step tally trial.packets trial.outcome) no_trial trials
       ∙ ap (λ b. b || some_run does trials) none
 
 -- ---- other contracts
@@ -83,11 +83,11 @@ some_either false v best = sym (or_false (is_some best))
 more_than : (old new : ℕ) → nat_lt 0 (new - old) ≡ nat_lt old new
 more_than old new = grind (arith, nat_tests)
 
-some_worse : (best : Option Worst) (t : Target) (old new : ℕ) → is_some (worse best t (new - old)) ≡ (is_some best || nat_lt old new)
-some_worse None t old new = some_either (nat_lt 0 (new - old)) (record { target = t; by = new - old }) None ∙ more_than old new
+some_worse : (best : Option Worst) (t : Packets) (old new : ℕ) → is_some (worse best t (new - old)) ≡ (is_some best || nat_lt old new)
+some_worse None t old new = some_either (nat_lt 0 (new - old)) (record { packets = t; by = new - old }) None ∙ more_than old new
 some_worse (Some w) t old new = kept (nat_lt w.by (new - old))
   where
-    kept : (b : Bool) → is_some (cond b (Some (record { target = t; by = new - old })) (Some w)) ≡ true
+    kept : (b : Bool) → is_some (cond b (Some (record { packets = t; by = new - old })) (Some w)) ≡ true
     kept true = refl
     kept false = refl
 
@@ -108,12 +108,12 @@ module _ (us : ℕ) where
   so_far_either true w best = refl
   so_far_either false w best = refl
 
-  over_worse : (best : Option WorstOn) (t : Target) (port by : ℕ) → is_over (worse_on best t port by) ≡ (is_over best || nat_lt us by)
+  over_worse : (best : Option WorstOn) (t : Packets) (port by : ℕ) → is_over (worse_on best t port by) ≡ (is_over best || nat_lt us by)
   over_worse best t port by =
-      ap (nat_lt us) (so_far_either (nat_lt (so_far_on best) by) (record { target = t; port = port; by = by }) best)
+      ap (nat_lt us) (so_far_either (nat_lt (so_far_on best) by) (record { packets = t; port = port; by = by }) best)
       ∙ over_either (so_far_on best) by
 
-  over_worst : (best : Option WorstOn) (t : Target) (port : ℕ) (ms : List Measure) →
+  over_worst : (best : Option WorstOn) (t : Packets) (port : ℕ) (ms : List Measure) →
       is_over (worst_of Less best t port ms) ≡ (is_over best || list_any (λ m. nat_lt us m.less) ms)
   over_worst best t port [] = sym (or_false (is_over best))
   over_worst best t port (m ∷ ms) =

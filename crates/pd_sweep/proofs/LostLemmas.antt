@@ -4,7 +4,8 @@ use Rattle.std.proofs.Common.{get_or, set, drop, take, Some, refl, sym, ap, ◌�
 use Rattle.std.specs.Prelude.{◌==◌, ◌&&◌, ◌||◌, Contains, nat_lt, replicate}
 use Rattle.std.proofs.lemmas.Bool.{cases_eq}
 use Rattle.std.proofs.lemmas.Bool.Decides.{nat_tests}
-use Rattle.std.proofs.lemmas.List.{append-nil, drop_all, get_or-set_other, get_or-set_same, length-append, length-replicate, take_more}
+use Rattle.std.proofs.lemmas.List.{append-nil, drop_all, get_or-set_other, get_or-set_same, length-append, length-replicate, length-set}
+use Rattle.std.proofs.lemmas.List.{take_more}
 use Rattle.std.proofs.lemmas.List.FromFn.{length-map-range_with_len}
 use Rattle.pd_port.specs.declared.entry.Entry.{Entry}
 use Rattle.pd_setup.specs.Events.{EventData}
@@ -198,6 +199,12 @@ scripts_known c p known =
     let same = length-map-range_with_len (script c.cables c.sinks c.events) 1 (length c.settings) in
     omega arith
 
+pub scripts_of_ports : (n : ℕ) (c : ScenarioData) → IsValid n c → (p : ℕ) → p < n → p < length (plan_of c).scripts
+unfolding plan_of
+scripts_of_ports n c valid p known =
+    let same = length-map-range_with_len (script c.cables c.sinks c.events) 1 (length c.settings) in
+    omega (arith, valid.settings_count)
+
 module _ (plan : Plan) (loss : Loss) (behind : ℕ) (t : Target) where
   abbrev pub its_events : List EventData
   its_events = with_events (replicate (behind + 1) (put_in loss t.at)) t.at (script_of plan (t.port - 1))
@@ -241,6 +248,24 @@ module _ (plan : Plan) (loss : Loss) (behind : ℕ) (t : Target) where
     margin_is = same_least moves findings.margin are.margin_is;
     makers_are = are.makers_are;
   }
+
+  -- its scripts
+  pub length_own : (p : ℕ) → p < length plan.scripts
+      → length (script_of (lost plan loss behind t) p) ≤ length (script_of plan p) + (behind + 1)
+  length_own p known =
+      let row = length-replicate (behind + 1) (put_in loss t.at) in
+      elim (cases_eq p (t.port - 1)) [
+        | inl same ↦
+            let its = ap (λ (l : List EventData). length l) (own_script p known same) in
+            let count = length_is (replicate (behind + 1) (put_in loss t.at)) t.at (script_of plan (t.port - 1)) in
+            let old = ap (λ q. length (script_of plan q)) same in
+            omega arith
+        | inr other ↦ let its = ap (λ (l : List EventData). length l) (other_script p other) in omega arith
+      ]
+
+  pub same_scripts : length (lost plan loss behind t).scripts ≡ length plan.scripts
+  unfolding lost
+  same_scripts = length-set plan.scripts (t.port - 1) its_events
 
 -- a port of a scenario has few events
 pub few_events : (n : ℕ) (c : ScenarioData) → IsValid n c → (p : ℕ) → p < n → length (script_of (plan_of c) p) ≤ 4096

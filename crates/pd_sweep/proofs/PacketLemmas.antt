@@ -1,5 +1,5 @@
 -- The packets of a run start on its ports, within two minutes.
-use Rattle.std.proofs.Common.{◌≡◌, ℕ, ◌+◌, ◌≤◌, Bool, true, false, cond, List, [], ◌∷◌, ◌++◌}
+use Rattle.std.proofs.Common.{◌≡◌, ℕ, ◌≤◌, Bool, true, false, cond, List, [], ◌∷◌, ◌++◌}
 use Rattle.std.proofs.Common.{Option, Some, None, sym, subst, arith, map}
 use Rattle.std.specs.List.{AllByRecursion}
 use Rattle.pd_line.specs.declared.notes.Start.{Start}

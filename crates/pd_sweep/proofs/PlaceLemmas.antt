@@ -1,7 +1,7 @@
 -- The place of a time in a run.
-use Rattle.std.proofs.Common.{◌≡◌, ◌≢◌, ℕ, zero, suc, ◌+◌, ◌<◌, ◌≤◌, Bool, true, false, [], ◌∷◌, length, take, drop, refl, ap}
+use Rattle.std.proofs.Common.{◌≡◌, ◌≢◌, ℕ, zero, suc, ◌+◌, ◌<◌, ◌≤◌, Bool, true, [], ◌∷◌, length, take, drop, refl, ap}
 use Rattle.std.proofs.Common.{Option, Some, None, subst, ◌∙◌, sym, arith}
-use Rattle.std.specs.Prelude.{◌==◌, ◌&&◌, MatchOption, fold, nat_lt, slice_get, unwrap_or}
+use Rattle.std.specs.Prelude.{◌&&◌, MatchOption, fold, nat_lt, slice_get, unwrap_or}
 use Rattle.std.proofs.lemmas.Bool.{ltb-true, ne_eqb}
 use Rattle.std.proofs.lemmas.Option.{slice_get_within}
 use Rattle.pd_port.specs.declared.entry.Entry.{Entry}

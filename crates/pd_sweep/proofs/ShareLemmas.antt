@@ -17,12 +17,14 @@ use Rattle.pd_sweep.specs.Forms.{head, is_shown, trial_text}
 use Rattle.pd_sweep.specs.Parts.{share_of, share_start}
 use Rattle.pd_sweep.specs.Summaries.{AreFindings}
 use Rattle.pd_sweep.specs.Sweeps.{AreTrials, packet_lines}
+use Rattle.pd_sweep.specs.Trials.{Tries}
 use Rattle.pd_sweep.specs.Whole.{SharesAreTheSweep, SharesCoverOnce, from_on, places_of}
 use Rattle.pd_sweep.specs.declared.choice.Campaign.{Campaign}
 use Rattle.pd_sweep.specs.declared.findings.Findings.{Findings}
 use Rattle.pd_sweep.specs.declared.form.Look.{Look}
 use Rattle.pd_sweep.specs.declared.packets.Target.{Target}
 use Rattle.pd_sweep.specs.declared.part.Part.{Part}
+use Rattle.pd_sweep.specs.declared.sets.Packets.TheVariants.{One}
 use Rattle.pd_sweep.specs.declared.trial.Trial.{Trial}
 use Rattle.pd_sweep.proofs.WholeLemmas.{parts_join, same_entries, same_findings}
 
@@ -109,7 +111,7 @@ module _ (n : ℕ) (c : ScenarioData) (campaign : Campaign) (shares packets : �
         base = one.base;
         shows = one.shows;
         without_is = one.without_is;
-        packets_are = ap (λ i. take i (drop 0 (chosen campaign.choice one.base))) (sym (start_zero shares packets));
+        tried = ap (λ i. map One (take i (drop 0 (chosen campaign.choice one.base)))) (sym (start_zero shares packets));
         each = tt;
       }
 
@@ -178,7 +180,9 @@ module _ (n : ℕ) (c : ScenarioData) (campaign : Campaign) (shares packets : �
         base = all.base;
         shows = all.shows;
         without_is = all.without_is;
-        packets_are = all.packets_are ∙ take_all (start shares packets shares) targets few;
+        tried =
+            subst (λ l. Tries c campaign (map One l) (flat_map trials (range_with_len 1 shares)) [])
+            (take_all (start shares packets shares) targets few) all.tried;
         each = all.each;
       }
 

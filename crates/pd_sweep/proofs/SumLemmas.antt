@@ -1,19 +1,19 @@
 -- What the trials of each kind of message come to, one trial after another.
 use Rattle.std.proofs.Common.{◌≡◌, ℕ, zero, suc, ◌+◌, ◌-◌, ◌<◌, ◌≤◌, ◌^◌, Bool, true, false, cond, List, [], ◌∷◌, ◌++◌, length, map, take}
-use Rattle.std.proofs.Common.{get_or, set, Option, arith, refl, sym, ap, subst, ◌∙◌}
-use Rattle.std.specs.Prelude.{fold}
+use Rattle.std.proofs.Common.{get_or, set, Option, arith, refl, sym, ap, ◌∙◌}
+use Rattle.std.specs.Prelude.{fold, nat_lt}
 use Rattle.std.specs.List.{AllByRecursion, filter}
 use Rattle.std.proofs.lemmas.List.Elements.{filter-append}
 use Rattle.std.proofs.lemmas.List.Sums.{fold-append}
 use Rattle.pd_edit.proofs.Listed.{length-filter-le}
 use Rattle.pd_header.specs.declared.kind.Kind.{Kind}
+use Rattle.pd_sweep.specs.Sets.{count_of}
 use Rattle.pd_sweep.specs.Sums.{HasRoom, HaveRoom, is_of, kind_tally, kinds, no_sums, noted_kinds, noted_of, noted_sums, sums_of}
 use Rattle.pd_sweep.specs.Tallies.{is_short, no_trial, noted_outcome, noted_trial, tally_of}
 use Rattle.pd_sweep.specs.Words.{are_same, makes_difference}
 use Rattle.pd_sweep.specs.declared.findings.Findings.{Findings}
-use Rattle.pd_sweep.specs.declared.sums.Sums.{Sums}
 use Rattle.pd_sweep.specs.declared.tally.Tally.{Tally}
-use Rattle.pd_sweep.specs.declared.packets.Target.{Target}
+use Rattle.pd_sweep.specs.declared.sets.Packets.{Packets}
 use Rattle.pd_sweep.specs.declared.trial.Outcome.{Outcome}
 use Rattle.pd_sweep.specs.declared.trial.Outcome.TheVariants.{Ran}
 use Rattle.pd_sweep.specs.declared.trial.Trial.{Trial}
@@ -83,6 +83,7 @@ module _ (reserve : Option ℕ) (old : Findings) where
     changed : tally.changed ≤ tally.tried
     different : tally.different ≤ tally.tried
     short : tally.short ≤ tally.tried
+    sets : tally.sets ≤ tally.tried
 
   one_more_if : (b : Bool) (m n : ℕ) → m ≤ n → cond b (m + 1) m ≤ n + 1
   one_more_if true m n h = omega arith
@@ -92,7 +93,7 @@ module _ (reserve : Option ℕ) (old : Findings) where
   one_more_unless true m n h = omega arith
   one_more_unless false m n h = omega arith
 
-  counts_outcome : (n : ℕ) (tally : Tally) (t : Target) (outcome : Outcome) → Counts n tally →
+  counts_outcome : (n : ℕ) (tally : Tally) (t : Packets) (outcome : Outcome) → Counts n tally →
       Counts (n + 1) (noted_outcome reserve old tally t outcome)
   counts_outcome n tally t (Ran effect) c = record {
     tried = omega (arith, c.tried);
@@ -101,12 +102,14 @@ module _ (reserve : Option ℕ) (old : Findings) where
         c.changed;
     different = one_more_if (makes_difference old effect) tally.different tally.tried c.different;
     short = one_more_if (is_short reserve effect.findings.margin) tally.short tally.tried c.short;
+    sets = one_more_if (nat_lt 1 (count_of t)) tally.sets tally.tried c.sets;
   }
   counts_outcome n tally t _ c = record {
     tried = omega (arith, c.tried);
     changed = c.changed;
     different = c.different;
     short = c.short;
+    sets = c.sets;
   }
 
   counts_from : (n : ℕ) (tally : Tally) (trials : List Trial) → Counts n tally →
@@ -116,23 +119,31 @@ module _ (reserve : Option ℕ) (old : Findings) where
     changed = c.changed;
     different = c.different;
     short = c.short;
+    sets = c.sets;
   }
   counts_from n tally (x ∷ xs) c =
-      let rest = counts_from (n + 1) (noted_trial reserve old tally x) xs (counts_outcome n tally x.target x.outcome c) in
+      let rest = counts_from (n + 1) (noted_trial reserve old tally x) xs (counts_outcome n tally x.packets x.outcome c) in
       record {
         tried = omega (arith, rest.tried);
         changed = rest.changed;
         different = rest.different;
         short = rest.short;
+        sets = rest.sets;
       }
 
   none_counted : Counts 0 no_trial
-  none_counted = record { tried = omega arith; changed = omega arith; different = omega arith; short = omega arith }
+  none_counted = record { tried = omega arith; changed = omega arith; different = omega arith; short = omega arith; sets = omega arith }
 
   room_of : (trials : List Trial) → length trials < 2 ^ 64 - 1 → HasRoom (tally_of reserve old trials)
   room_of trials few =
       let c = counts_from 0 no_trial trials none_counted in
-      record { room = omega (arith, c.tried, few); few = c.changed; few_different = c.different; few_short = c.short }
+      record {
+        room = omega (arith, c.tried, few);
+        few = c.changed;
+        few_different = c.different;
+        few_short = c.short;
+        few_sets = c.sets;
+      }
 
   room_of_kinds : (trials : List Trial) (ks : List Kind) → length trials < 2 ^ 64 - 1 →
       AllByRecursion HasRoom (map (kind_tally reserve old trials) ks)

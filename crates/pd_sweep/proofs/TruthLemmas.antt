@@ -1,7 +1,7 @@
 -- A packet that is hit has taken the disturbance of an event that was put in for it.
-use Rattle.std.proofs.Common.{◌≡◌, ◌≢◌, ◌⊎◌, ℕ, suc, ◌+◌, ◌-◌, ◌<◌, Bool, true, false, cond, List, [], ◌∷◌, ◌++◌, length, map}
+use Rattle.std.proofs.Common.{◌≡◌, ◌≢◌, ℕ, ◌+◌, ◌-◌, ◌<◌, Bool, true, false, cond, List, [], ◌∷◌, ◌++◌, length, map}
 use Rattle.std.proofs.Common.{get_or, set, drop, fold, Option, Some, None, refl, sym, ap, ◌∙◌, subst, inl, inr, ⊎_elim, arith}
-use Rattle.std.specs.Prelude.{◌==◌, ◌&&◌, ◌||◌, Contains, MatchBool, replicate}
+use Rattle.std.specs.Prelude.{◌==◌, ◌&&◌, ◌||◌, Contains, MatchBool}
 use Rattle.std.specs.List.{AllByRecursion}
 use Rattle.std.proofs.lemmas.Bool.{and_parts, cases_Bool, cases_eq, eq-eqb, eqb-true, ne_eqb, not-true}
 use Rattle.std.proofs.lemmas.List.{get_or-replicate, get_or-set_other, get_or-set_same, length-replicate}
@@ -27,7 +27,7 @@ use Rattle.pd_scenario.specs.declared.event.ScenarioEvent.{ScenarioEvent}
 use Rattle.pd_scenario.specs.declared.event.ScenarioHappening.{ScenarioHappening}
 use Rattle.pd_scenario.specs.declared.event.ScenarioHappening.TheVariants.{OnPort, Budget}
 use Rattle.pd_scenario.specs.Events.{ScenarioEventKind}
-use Rattle.pd_scenario.specs.Plan.{Plan, count, script_of}
+use Rattle.pd_scenario.specs.Plan.{Plan, count}
 use Rattle.pd_scenario.specs.Plans.{plan_of}
 use Rattle.pd_scenario.specs.Scenarios.{ScenarioData, has_id}
 use Rattle.pd_scenario.specs.Script.{resolved, seen_by}
@@ -44,15 +44,17 @@ use Rattle.pd_watch.proofs.Watched.{step_length, takers_are_named}
 use Rattle.pd_sweep.specs.Laws.{HitsAreTrue, IsHit, MeasuresAreTrue, RanHit}
 use Rattle.pd_sweep.specs.Measures.{measures_of}
 use Rattle.pd_sweep.specs.Summaries.{AreFindings}
-use Rattle.pd_sweep.specs.Lost.{harm_of, lost, put_in}
-use Rattle.pd_sweep.specs.Trials.{IsRunOf, hit_from, hits, is_packet, is_put_in, set_place, side_place, watched_on}
+use Rattle.pd_sweep.specs.Sets.{last_of, members}
+use Rattle.pd_sweep.specs.Trials.{IsRunOf, are_hit, hit_from, hits, is_hit, is_packet, is_put_in, plan_with}
+use Rattle.pd_sweep.specs.Trials.{set_place, side_place, watched_on}
 use Rattle.pd_sweep.specs.declared.choice.Campaign.{Campaign}
-use Rattle.pd_sweep.specs.declared.choice.Loss.{Loss}
 use Rattle.pd_sweep.specs.declared.effect.Effect.{Effect}
 use Rattle.pd_sweep.specs.declared.packets.Target.{Target}
+use Rattle.pd_sweep.specs.declared.sets.Packets.{Packets}
 use Rattle.pd_sweep.specs.declared.trial.Outcome.TheVariants.{Ran, Disturbed}
 use Rattle.pd_sweep.proofs.HitLemmas.{event_in, is_of}
-use Rattle.pd_sweep.proofs.LostLemmas.{events_are, new_there, only_one, other_script, own_script, same_count, scripts_known}
+use Rattle.pd_sweep.proofs.LostLemmas.{scripts_known}
+use Rattle.pd_sweep.proofs.SetLemmas.{HasKnown, HasLoss, IsKnown, known_all, losses_all}
 
 -- ---- what waits is of the scenario's events, or was put in
 
@@ -67,10 +69,6 @@ known_id (x ∷ es) e h =
     or_true : (b : Bool) → (b || true) ≡ true
     or_true true = refl
     or_true false = refl
-
--- the id is that of an event of the scenario, or of one that stands in none
-abbrev IsKnown : ScenarioData → ℕ → Type 0
-IsKnown c id = (has_id c.events id ≡ true) ⊎ (id ≡ 0)
 
 abbrev AreKnown : ScenarioData → List Disturber → Type 0
 AreKnown c ds = AllByRecursion (λ (d : Disturber). IsKnown c d.id) ds
@@ -116,40 +114,18 @@ seen_id : (cables : List NamedCable) (sinks : List NamedSink) (port id other : �
 seen_id cables sinks port id other (OnPort p kind) k h = id_if (p == port) cables sinks id other kind k h
 seen_id cables sinks port id other (Budget mw) k h = absurd (cc)
 
--- an event that was put in has no id
-own_id : (loss : Loss) (at : ℕ) (e : EventData) (id : ℕ) (kind : PortEventKind) → put_in loss at ≡ e → e.happening ≡ happens.Port id kind
-    → id ≡ 0
-own_id loss at e id kind is h =
-    let same : happens.Port 0 (harm_of loss) ≡ happens.Port id kind = ap (λ (x : EventData). x.happening) is ∙ h in
-    cc
+-- of the events of a scenario
+old_known : (c : ScenarioData) → HasKnown c (plan_of c)
+old_known c p e id kind known there h =
+    let of = is_of c p e known there in
+    let same = seen_id c.cables c.sinks (p + 1) of.event.id id of.event.happening kind (of.is ∙ ap Some h) in
+    inl (ap (has_id c.events) (sym same) ∙ known_id c.events of.event of.there)
 
-module _ (c : ScenarioData) (loss : Loss) (behind : ℕ) (t : Target) where
-  abbrev changed : Plan
-  changed = lost (plan_of c) loss behind t
-
-  old_known : (p : ℕ) (e : EventData) (id : ℕ) (kind : PortEventKind) → p < count (plan_of c) → Contains (script_of (plan_of c) p) e
-      → e.happening ≡ happens.Port id kind → IsKnown c id
-  old_known p e id kind known there h =
-      let of = is_of c p e known there in
-      let same = seen_id c.cables c.sinks (p + 1) of.event.id id of.event.happening kind (of.is ∙ ap Some h) in
-      inl (ap (has_id c.events) (sym same) ∙ known_id c.events of.event of.there)
-
+module _ (c : ScenarioData) (changed : Plan) (has : HasKnown c changed) (t : Target) where
   -- what falls due is such an event
   due_known : (past : List Move) (m : Move) → GoesOn changed past m → (e : EventData) (id : ℕ) (kind : PortEventKind)
       → m.entry.due.what ≡ what.Event e → e.happening ≡ happens.Port id kind → IsKnown c id
-  due_known past m goes e id kind is h =
-      let known : m.port < count (plan_of c) = rw (sym (same_count (plan_of c) loss behind t)) goes.known in
-      let there = (event_in changed past m e goes is).0 in
-      elim (cases_eq m.port (t.port - 1)) [
-        | inl own ↦
-            let its = subst (λ l. Contains l e) (own_script (plan_of c) loss behind t m.port (scripts_known c m.port known) own) there in
-            elim (events_are (replicate (behind + 1) (put_in loss t.at)) t.at (script_of (plan_of c) (t.port - 1)) e its) [
-              | inl new ↦ inr (own_id loss t.at e id kind (only_one (behind + 1) (put_in loss t.at) e new) h)
-              | inr old ↦ old_known m.port e id kind known (subst (λ q. Contains (script_of (plan_of c) q) e) (sym own) old) h
-            ]
-        | inr other ↦
-            old_known m.port e id kind known (subst (λ l. Contains l e) (other_script (plan_of c) loss behind t m.port other) there) h
-      ]
+  due_known past m goes e id kind is h = has m.port e id kind goes.known (event_in changed past m e goes is).0 h
 
   first_known : (w : WatchData) (past : List Move) (m : Move) → GoesOn changed past m → AreKnown c w.waiting
       → AreKnown c (after_what w m.entry.at (is_ignored m.entry) m.entry.due.what).waiting
@@ -324,15 +300,20 @@ is_taken w e side packet fate d is h = start_disturbed (after_what w e.at (is_ig
 
 -- ---- all of it
 
-module _ (c : ScenarioData) (loss : Loss) (behind : ℕ) (t : Target) (moves : List Move)
-    (run : Run (lost (plan_of c) loss behind t) moves) where
-  hit_is_true : HitAt c.events t at_rest moves → IsHit c (lost (plan_of c) loss behind t) loss t moves
-  hit_is_true h =
-      let plan : Plan = lost (plan_of c) loss behind t in
+module _ (c : ScenarioData) (campaign : Campaign) (ps : Packets) (moves : List Move) (run : Run (plan_with c campaign ps) moves) where
+  abbrev with_them : Plan
+  with_them = plan_with c campaign ps
+
+  all_known : HasKnown c with_them
+  all_known = known_all campaign c (members ps) (plan_of c) (scripts_known c) (old_known c)
+
+  hit_is_true : (t : Target) → HasLoss with_them campaign.loss t → HitAt c.events t at_rest moves
+      → IsHit c with_them campaign.loss t moves
+  hit_is_true t there h =
       let m = h.move in
-      let goes_on = subst (EachAfter (GoesOn plan) []) h.moves_are run.chained in
-      let before = EachAfter-front (GoesOn plan) [] h.past (m ∷ h.later) goes_on in
-      let goes = (EachAfter-back (GoesOn plan) [] h.past (m ∷ h.later) goes_on).0 in
+      let goes_on = subst (EachAfter (GoesOn with_them) []) h.moves_are run.chained in
+      let before = EachAfter-front (GoesOn with_them) [] h.past (m ∷ h.later) goes_on in
+      let goes = (EachAfter-back (GoesOn with_them) [] h.past (m ∷ h.later) goes_on).0 in
       let w : WatchData = fold (watched_on t) at_rest (map shown h.past) in
       let (port, rest) =
       and_parts (m.port + 1 == t.port)
@@ -344,20 +325,21 @@ module _ (c : ScenarioData) (loss : Loss) (behind : ℕ) (t : Target) (moves : L
       let very = very_one t m.entry.start packet in
       let who = named c.events (disturber_of w m.entry) new in
       let known = goes.known in
-      let count_is = length-replicate (count plan) at_rest in
-      let start_at : watch_at (all_at_rest (count plan)) (m.port + 1) ≡ at_rest =
-      watch_number (all_at_rest (count plan)) m.port ∙ get_or-replicate (count plan) m.port at_rest at_rest known in
-      let ws : List WatchData = after_steps (all_at_rest (count plan)) (map shown h.past) in
+      let count_is = length-replicate (count with_them) at_rest in
+      let start_at : watch_at (all_at_rest (count with_them)) (m.port + 1) ≡ at_rest =
+      watch_number (all_at_rest (count with_them)) m.port ∙ get_or-replicate (count with_them) m.port at_rest at_rest known in
+      let ws : List WatchData = after_steps (all_at_rest (count with_them)) (map shown h.past) in
       let watched : watch_at ws (m.port + 1) ≡ w =
-      steps_same t m.port (sym on_port) (all_at_rest (count plan)) at_rest h.past (omega arith) start_at in
+      steps_same t m.port (sym on_port) (all_at_rest (count with_them)) at_rest h.past (omega arith) start_at in
       let takes : disturber_of (watch_at ws (m.port + 1)) m.entry ≡ Some who.taker =
       ap (λ z. disturber_of z m.entry) watched ∙ who.is in
       let named_so =
-      takers_are_named plan h.past m before goes very.side very.packet very.fate very.starts
+      takers_are_named with_them h.past m before goes very.side very.packet very.fate very.starts
       (is_taken w m.entry very.side very.packet very.fate who.taker very.starts who.is) in
       let one : named_so.0 ≡ who.taker = same_Some named_so.0 who.taker (sym named_so.1 ∙ takes) in
       let of =
-      disturber_known c loss behind t w h.past m who.taker goes (along_known c loss behind t at_rest [] h.past before tt) who.is in
+      disturber_known c with_them all_known t w h.past m who.taker goes
+      (along_known c with_them all_known t at_rest [] h.past before tt) who.is in
       record {
         past = h.past;
         move = m;
@@ -377,25 +359,25 @@ module _ (c : ScenarioData) (loss : Loss) (behind : ℕ) (t : Target) (moves : L
         fate_is = ap (λ (d : Disturber). d.fate) (sym one) ∙ named_so.2;
         is_new = who.is_new;
         is_put_in = no_id who.taker.id who.is_new of;
-        there = row_there m.port (rw (sym (same_count (plan_of c) loss behind t)) known) (omega (arith, on_port));
+        there = there m.port known on_port;
       }
     where
       no_id : (id : ℕ) → has_id c.events id ≡ false → IsKnown c id → id ≡ 0
       no_id id new of = elim of [ inl old ↦ absurd (cc) | inr is ↦ is ]
 
-      row_there : (p : ℕ) → p < count (plan_of c) → p ≡ t.port - 1
-          → Contains (script_of (lost (plan_of c) loss behind t) p) (put_in loss t.at)
-      row_there p known place =
-          let more : replicate (behind + 1) (put_in loss t.at) ≡ put_in loss t.at ∷ replicate behind (put_in loss t.at) =
-          (let count : behind + 1 ≡ suc behind = omega arith in ap (λ k. replicate k (put_in loss t.at)) count) in
-          subst (λ l. Contains l (put_in loss t.at)) (sym (own_script (plan_of c) loss behind t p (scripts_known c p known) place))
-          (new_there (replicate (behind + 1) (put_in loss t.at)) t.at (script_of (plan_of c) (t.port - 1)) (put_in loss t.at)
-          (subst (λ l. Contains l (put_in loss t.at)) (sym more) (0, omega arith, refl)))
+  hits_are_true_of : (ts : List Target) → AllByRecursion (HasLoss with_them campaign.loss) ts → are_hit c.events ts (map shown moves) ≡ true
+      → AllByRecursion (λ t. IsHit c with_them campaign.loss t moves) ts
+  hits_are_true_of [] there hit = tt
+  hits_are_true_of (t ∷ ts) there hit =
+      let (first, others) = and_parts (is_hit c.events t (map shown moves)) (are_hit c.events ts (map shown moves)) hit in (
+        hit_is_true t there.0 (hit_at c.events t at_rest moves first),
+        hits_are_true_of ts there.1 others,
+      )
 
-run_is_true : (c : ScenarioData) (campaign : Campaign) (t : Target) (effect : Effect)
-    → IsRunOf c (lost (plan_of c) campaign.loss campaign.behind t) t (Ran effect) → RanHit c campaign t effect
-run_is_true c campaign t effect ran =
-    let plan : Plan = lost (plan_of c) campaign.loss campaign.behind t in
+run_is_true : (c : ScenarioData) (campaign : Campaign) (ps : Packets) (effect : Effect)
+    → IsRunOf c (plan_with c campaign ps) (members ps) (Ran effect) → RanHit c campaign ps effect
+run_is_true c campaign ps effect ran =
+    let plan : Plan = plan_with c campaign ps in
     record {
       moves = ran.shows.moves;
       safe = ran.shows.safe;
@@ -405,27 +387,28 @@ run_is_true c campaign t effect ran =
       measured =
           ran.measured ∙ ap (λ l. measures_of (plan_of c).end l ran.moves) ran.base_shows.entries_are
           ∙ ap (λ l. measures_of (plan_of c).end (map shown ran.base_shows.moves) l) ran.shows.entries_are;
-      hit =
-          hit_is_true c campaign.loss campaign.behind t ran.shows.moves ran.shows.safe.run
-          (hit_at c.events t at_rest ran.shows.moves (ap (hit_from c.events t at_rest) (sym ran.shows.entries_are) ∙ ran.hit));
+      hits =
+          hits_are_true_of c campaign ps ran.shows.moves ran.shows.safe.run (members ps)
+          (losses_all campaign (members ps) (plan_of c) (scripts_known c))
+          (ap (are_hit c.events (members ps)) (sym ran.shows.entries_are) ∙ ran.hit);
     }
 
 pub hits_are_true : HitsAreTrue
-hits_are_true n c campaign trial effect is ran = by_disturbed trial.target.disturbed is
+hits_are_true n c campaign trial effect is ran = by_disturbed (last_of trial.packets).disturbed is
   where
     by_disturbed : (b : Bool)
         → MatchBool b (trial.outcome ≡ Disturbed)
-        (IsRunOf c (lost (plan_of c) campaign.loss campaign.behind trial.target) trial.target trial.outcome)
-        → RanHit c campaign trial.target effect
+        (IsRunOf c (plan_with c campaign trial.packets) (members trial.packets) trial.outcome)
+        → RanHit c campaign trial.packets effect
     by_disturbed true h = let never : Disturbed ≡ Ran effect = sym h ∙ ran in absurd (cc)
     by_disturbed false h =
-        run_is_true c campaign trial.target effect
-        (subst (IsRunOf c (lost (plan_of c) campaign.loss campaign.behind trial.target) trial.target) ran h)
+        run_is_true c campaign trial.packets effect
+        (subst (IsRunOf c (plan_with c campaign trial.packets) (members trial.packets)) ran h)
 
 pub measures_are_true : MeasuresAreTrue
 measures_are_true n c campaign trial effect base moves is ran base_run run =
-    let plan : Plan = lost (plan_of c) campaign.loss campaign.behind trial.target in
-    let hit : RanHit c campaign trial.target effect = hits_are_true n c campaign trial effect is ran in
+    let plan : Plan = plan_with c campaign trial.packets in
+    let hit : RanHit c campaign trial.packets effect = hits_are_true n c campaign trial effect is ran in
     hit.measured
     ∙ ap (λ (l : List Move). measures_of (plan_of c).end (map shown l) (map shown hit.moves))
     (run_unique (plan_of c) hit.base base hit.base_safe.run base_run)

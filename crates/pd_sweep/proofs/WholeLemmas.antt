@@ -1,7 +1,7 @@
 -- The parts of a sweep together are the sweep.
-use Rattle.std.proofs.Common.{◌≡◌, ℕ, ◌+◌, ◌<◌, inl, inr, List, ◌++◌, length, map, take, drop, arith, sym, ap, subst, ◌∙◌}
+use Rattle.std.proofs.Common.{◌≡◌, ℕ, ◌+◌, ◌<◌, inl, inr, List, [], ◌++◌, length, map, take, drop, arith, sym, ap, subst, ◌∙◌}
 use Rattle.std.proofs.lemmas.Bool.{cases_order}
-use Rattle.std.proofs.lemmas.List.{drop-drop, length-map, length-take, map-append, take_all}
+use Rattle.std.proofs.lemmas.List.{append-nil, drop-drop, length-map, length-take, map-append, take_all}
 use Rattle.std.proofs.Math.Seq.{take-add}
 use Rattle.pd_packet.proofs.Places.{all_append}
 use Rattle.pd_port.specs.declared.entry.Entry.{Entry}
@@ -14,14 +14,16 @@ use Rattle.pd_scenario.specs.Plan.{Plan}
 use Rattle.pd_scenario.specs.Plans.{plan_of}
 use Rattle.pd_sweep.specs.Choices.{chosen}
 use Rattle.pd_sweep.specs.Summaries.{AreFindings, makers_at}
-use Rattle.pd_sweep.specs.Sweeps.{packets}
-use Rattle.pd_sweep.specs.Trials.{IsTrial}
-use Rattle.pd_sweep.specs.Whole.{PartsJoin, ShortPartIsWhole}
+use Rattle.pd_sweep.specs.Parts.{part_of}
+use Rattle.pd_sweep.specs.Trials.{IsTrial, Tries}
+use Rattle.pd_sweep.specs.Whole.{PartsJoin, ShortPartIsWhole, SinglesAreThePackets}
 use Rattle.pd_sweep.specs.declared.findings.Findings.{Findings}
 use Rattle.pd_sweep.specs.declared.makers.Makers.{Makers}
 use Rattle.pd_sweep.specs.declared.packets.Target.{Target}
+use Rattle.pd_sweep.specs.declared.sets.Packets.TheVariants.{One}
 use Rattle.pd_sweep.specs.declared.summary.Summary.{Summary}
 use Rattle.pd_sweep.specs.declared.trial.Trial.{Trial}
+use Rattle.pd_sweep.proofs.TriesLemmas.{alone_in_turn, as_many, tries_both}
 
 -- ---- one run has one list of findings
 
@@ -63,17 +65,22 @@ parts_join n c campaign first count more without without' trials trials' one two
     let same : two.base ≡ one.base = same_entries (plan_of c) one.base two.base one.shows two.shows in
     let found : AreFindings (plan_of c) one.base without' = subst (λ b. AreFindings (plan_of c) b without') same two.without_is in
     let all : List Target = chosen campaign.choice one.base in
-    let behind : packets trials' ≡ take more (drop (first + count) all) =
-    two.packets_are ∙ ap (λ b. take more (drop (first + count) (chosen campaign.choice b))) same in (
+    let behind : Tries c campaign (map One (take more (drop (first + count) all))) trials' [] =
+    subst (λ b. Tries c campaign (map One (take more (drop (first + count) (chosen campaign.choice b)))) trials' []) same two.tried in
+    let both : map One (take count (drop first all)) ++ map One (take more (drop (first + count) all))
+    ≡ map One (take (count + more) (drop first all)) =
+    ap (λ l. map One (take count (drop first all)) ++ map One (take more l)) (sym (drop-drop count first all))
+    ∙ sym (map-append One (take count (drop first all)) (take more (drop count (drop first all))))
+    ∙ ap (map One) (sym (take-add count more (drop first all))) in (
       same_findings (plan_of c) one.base without without' one.without_is found,
       record {
         base = one.base;
         shows = one.shows;
         without_is = one.without_is;
-        packets_are =
-            map-append (λ (trial : Trial). trial.target) trials trials' ∙ ap (λ v. v ++ packets trials') one.packets_are
-            ∙ ap (λ v. take count (drop first all) ++ v) (behind ∙ ap (take more) (sym (drop-drop count first all)))
-            ∙ sym (take-add count more (drop first all));
+        tried =
+            subst (λ l. Tries c campaign l (trials ++ trials') []) both
+            (tries_both c campaign trials trials' (map One (take count (drop first all))) (map One (take more (drop (first + count) all)))
+            one.tried behind);
         each = all_append (IsTrial n c campaign) trials trials' one.each two.each;
       },
     )
@@ -81,12 +88,22 @@ parts_join n c campaign first count more without without' trials trials' one two
 pub short_part_is_whole : ShortPartIsWhole
 short_part_is_whole n c campaign count without trials all short =
     let targets : List Target = chosen campaign.choice all.base in
+    let many = as_many c campaign trials (map One (take count targets)) [] all.tried in
     let few : length targets < count =
-    omega (arith, short, length-map trials (λ (trial : Trial). trial.target), ap length all.packets_are, length-take count targets) in
+    omega (arith, short, many, length-map (take count targets) One, length-take count targets) in
     record {
       base = all.base;
       shows = all.shows;
       without_is = all.without_is;
-      packets_are = all.packets_are ∙ take_all count targets (omega arith);
+      tried = subst (λ l. Tries c campaign (map One l) trials []) (take_all count targets (omega arith)) all.tried;
       each = all.each;
     }
+
+pub singles_are_the_packets : SinglesAreThePackets
+singles_are_the_packets n c campaign part without trials few all = record {
+  base = all.base;
+  shows = all.shows;
+  packets_are =
+      sym (append-nil (map (λ (trial : Trial). trial.packets) trials))
+      ∙ alone_in_turn c campaign few trials (map One (part_of part (chosen campaign.choice all.base))) [] all.tried;
+}

@@ -19,6 +19,8 @@ use Rattle.pd_sweep.specs.declared.makers.Makers.{Makers}
 use Rattle.pd_sweep.specs.declared.measure.Step.{Step}
 use Rattle.pd_sweep.specs.declared.summary.Mishaps.{Mishaps}
 use Rattle.pd_sweep.specs.declared.summary.Standing.{Standing}
+use Rattle.pd_sweep.specs.declared.sets.Packets.{Packets}
+use Rattle.pd_sweep.specs.declared.sets.Packets.TheVariants.{One, Two, Three}
 
 -- before the run no port has a contract
 abbrev pub nothing_stands : Standing
@@ -69,6 +71,12 @@ disturbs_kind _ = false
 abbrev pub disturbs_happening : Happening → Bool
 disturbs_happening (happening.Port id kind) = disturbs_kind kind
 disturbs_happening happening.Budget = false
+
+-- the time of the first of some packets
+abbrev pub earliest_of : Packets → ℕ
+earliest_of (One a) = a.at
+earliest_of (Two a b) = min a.at b.at
+earliest_of (Three a b c) = min a.at (min b.at c.at)
 
 -- no event of a port before a time does so, the ports being numbered from 1
 abbrev pub IsQuietBefore : Plan → ℕ → ℕ → Type 0

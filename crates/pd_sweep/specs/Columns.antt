@@ -1,21 +1,26 @@
 -- The summary of a sweep as a JSON object.
-use Rattle.std.specs.Prelude.{ℕ, List, [], ◌++◌, codes, decimal, Option, Some, None}
+use Rattle.std.specs.Prelude.{ℕ, ◌-◌, ◌==◌, if◌then◌else◌, List, [], ◌++◌, codes, decimal, Option, Some, None}
 use Rattle.pd_tell.specs.Members.{number_member}
 use Rattle.pd_sweep.specs.declared.tally.Lowest.{Lowest}
 use Rattle.pd_sweep.specs.declared.tally.Tally.{Tally}
 use Rattle.pd_sweep.specs.declared.tally.Worst.{Worst}
 use Rattle.pd_sweep.specs.declared.tally.WorstOn.{WorstOn}
-use Rattle.pd_sweep.specs.Objects.{instant_members, packet_members}
+use Rattle.pd_sweep.specs.Objects.{instant_members}
+use Rattle.pd_sweep.specs.PacketTexts.{packets_members}
 
--- how many packets were lost, how many of the runs differ, and how many end with other contracts
+-- how many sets of more than one packet were lost, where any was
+abbrev pub sets_member : ℕ → List ℕ
+sets_member sets = if sets == 0 then [] else number_member (codes "sets") sets
+
+-- how many packets were lost alone, how many sets, how many of the runs differ, and how many end with other contracts
 abbrev pub counts_members : Tally → List ℕ
 counts_members tally =
-    number_member (codes "packets") tally.tried ++ (number_member (codes "different") tally.different
-    ++ number_member (codes "other_contracts") tally.changed)
+    number_member (codes "packets") (tally.tried - tally.sets) ++ (sets_member tally.sets
+    ++ (number_member (codes "different") tally.different ++ number_member (codes "other_contracts") tally.changed))
 
 -- a column's worst: how much more there is, and the packet
 abbrev pub worst_object : Worst → List ℕ
-worst_object w = codes "{\"more\":" ++ (decimal w.by ++ (packet_members w.target ++ codes "}"))
+worst_object w = codes "{\"more\":" ++ (decimal w.by ++ (packets_members w.packets ++ codes "}"))
 
 abbrev pub worst_json : Option Worst → List ℕ
 worst_json None = codes "null"
@@ -28,7 +33,7 @@ worst_member key worst = codes ",\"" ++ (key ++ (codes "\":" ++ worst_json worst
 abbrev pub worst_on_object : List ℕ → WorstOn → List ℕ
 worst_on_object by w =
     codes "{\"" ++ (by ++ (codes "\":" ++ (decimal w.by ++ (number_member (codes "of_port") w.port
-    ++ (packet_members w.target ++ codes "}")))))
+    ++ (packets_members w.packets ++ codes "}")))))
 
 abbrev pub worst_on_json : List ℕ → Option WorstOn → List ℕ
 worst_on_json by None = codes "null"
@@ -47,7 +52,7 @@ columns_members tally =
 abbrev pub lowest_object : Lowest → List ℕ
 lowest_object l =
     codes "{\"least_margin_uw\":" ++ (decimal l.margin.left ++ (instant_members l.margin.at l.makers
-    ++ (packet_members l.target ++ codes "}")))
+    ++ (packets_members l.packets ++ codes "}")))
 
 abbrev pub lowest_json : Option Lowest → List ℕ
 lowest_json None = codes "null"

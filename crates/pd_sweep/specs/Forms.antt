@@ -1,5 +1,5 @@
 -- The three forms of a sweep, and which of its packets have lines.
-use Rattle.std.specs.Prelude.{ℕ, Bool, true, false, not, ◌&&◌, ◌||◌, if◌then◌else◌, List, [], ◌++◌, Option}
+use Rattle.std.specs.Prelude.{ℕ, Bool, true, false, not, ◌&&◌, ◌||◌, if◌then◌else◌, List, [], ◌++◌, codes, Option}
 use Rattle.pd_sweep.specs.Tallies.{tally_words}
 use Rattle.pd_sweep.specs.KindLines.{kind_lines, kind_names}
 use Rattle.pd_sweep.specs.Sums.{kinds}
@@ -60,6 +60,13 @@ tally_text Csv reserve tally = []
 abbrev pub kinds_text : Look → Option ℕ → List Tally → List ℕ
 kinds_text look reserve tallies = if look.by_message then kind_lines look reserve kinds tallies else []
 
--- what stands behind the packets: the kinds, and the summary
-abbrev pub closing : Look → Option ℕ → Sums → List ℕ
-closing look reserve sums = kinds_text look reserve sums.kinds ++ tally_text look.form reserve sums.all
+-- whether sets of packets are left that weren't tried; values have no place for it
+abbrev pub left_text : Form → Bool → List ℕ
+left_text Words true = codes "ended at --most; other sets of packets are left\n"
+left_text Json true = codes "{\"kind\":\"left\"}\n"
+left_text form are_left = []
+
+-- what stands behind the packets: the kinds, the summary, and whether that is all
+abbrev pub closing : Look → Option ℕ → Sums → Bool → List ℕ
+closing look reserve sums are_left =
+    kinds_text look reserve sums.kinds ++ (tally_text look.form reserve sums.all ++ left_text look.form are_left)

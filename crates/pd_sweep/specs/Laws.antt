@@ -1,5 +1,6 @@
 -- What holds of a packet that is told to be hit.
 use Rattle.std.specs.Prelude.{◌≡◌, ℕ, ◌+◌, false, List, ◌∷◌, ◌++◌, map, Contains, Some}
+use Rattle.std.specs.List.{AllByRecursion}
 use Rattle.pd_packet.specs.Contents.{Contents}
 use Rattle.pd_packet.specs.declared.fate.Fate.{Fate}
 use Rattle.pd_header.specs.declared.side.Side.{Side}
@@ -11,18 +12,20 @@ use Rattle.pd_scenario.specs.Plans.{plan_of}
 use Rattle.pd_scenario.specs.Scenarios.{ScenarioData, has_id}
 use Rattle.pd_watch.specs.declared.watch.Disturber.{Disturber}
 use Rattle.pd_watch.specs.Watch.{after_steps, all_at_rest, disturber_of, watch_at}
-use Rattle.pd_sweep.specs.Lost.{lost, put_in}
+use Rattle.pd_sweep.specs.Lost.{put_in}
 use Rattle.pd_sweep.specs.Measures.{measures_of}
 use Rattle.pd_sweep.specs.Summaries.{AreFindings}
-use Rattle.pd_sweep.specs.Trials.{IsTrial}
+use Rattle.pd_sweep.specs.Sets.{members}
+use Rattle.pd_sweep.specs.Trials.{IsTrial, plan_with}
 use Rattle.pd_sweep.specs.declared.choice.Campaign.{Campaign}
 use Rattle.pd_sweep.specs.declared.choice.Loss.{Loss}
 use Rattle.pd_sweep.specs.declared.effect.Effect.{Effect}
 use Rattle.pd_sweep.specs.declared.packets.Target.{Target}
+use Rattle.pd_sweep.specs.declared.sets.Packets.{Packets}
 use Rattle.pd_sweep.specs.declared.trial.Outcome.TheVariants.{Ran}
 use Rattle.pd_sweep.specs.declared.trial.Trial.{Trial}
 
--- In these moves of the plan in which a packet of a scenario's run is lost the packet starts, from its side, with its ordered set and its
+-- In these moves of a plan in which packets of a scenario's run are lost one of them starts, from its side, with its ordered set and its
 -- header, at its time on its port. What becomes of it is what the disturbance of an event makes of it that waits there first (pd_watch);
 -- and this event is none of the scenario's, but one of those that the packet's port has more.
 pub record IsHit (c : ScenarioData) (plan : Plan) (loss : Loss) (t : Target) (moves : List Move) : Type 0 where
@@ -48,26 +51,26 @@ pub record IsHit (c : ScenarioData) (plan : Plan) (loss : Loss) (t : Target) (mo
 
 -- it is so in the safe run of that plan, of which these findings are told; and the measures are those of that run beside the safe run of
 -- the scenario
-pub record RanHit (c : ScenarioData) (campaign : Campaign) (t : Target) (effect : Effect) : Type 0 where
+pub record RanHit (c : ScenarioData) (campaign : Campaign) (ps : Packets) (effect : Effect) : Type 0 where
   pub moves : List Move
-  pub safe : SafeRun (lost (plan_of c) campaign.loss campaign.behind t) moves
-  pub found : AreFindings (lost (plan_of c) campaign.loss campaign.behind t) (map shown moves) effect.findings
+  pub safe : SafeRun (plan_with c campaign ps) moves
+  pub found : AreFindings (plan_with c campaign ps) (map shown moves) effect.findings
   pub base : List Move
   pub base_safe : SafeRun (plan_of c) base
   pub measured : effect.measures ≡ measures_of (plan_of c).end (map shown base) (map shown moves)
-  pub hit : IsHit c (lost (plan_of c) campaign.loss campaign.behind t) campaign.loss t moves
+  pub hits : AllByRecursion (λ t. IsHit c (plan_with c campaign ps) campaign.loss t moves) (members ps)
 
--- So is each packet hit of which the line tells a run.
+-- So are the packets hit of whose loss the line tells a run.
 abbrev pub HitsAreTrue : Type 0
 HitsAreTrue =
     (n : ℕ) (c : ScenarioData) (campaign : Campaign) (trial : Trial) (effect : Effect) → IsTrial n c campaign trial
-    → trial.outcome ≡ Ran effect → RanHit c campaign trial.target effect
+    → trial.outcome ≡ Ran effect → RanHit c campaign trial.packets effect
 
--- The measures of a line are those of any run of the plan in which the packet is lost, beside any run of the scenario: there is one of
+-- The measures of a line are those of any run of the plan in which its packets are lost, beside any run of the scenario: there is one of
 -- each.
 abbrev pub MeasuresAreTrue : Type 0
 MeasuresAreTrue =
     (n : ℕ) (c : ScenarioData) (campaign : Campaign) (trial : Trial) (effect : Effect) (base moves : List Move)
     → IsTrial n c campaign trial → trial.outcome ≡ Ran effect
-    → Run (plan_of c) base → Run (lost (plan_of c) campaign.loss campaign.behind trial.target) moves
+    → Run (plan_of c) base → Run (plan_with c campaign trial.packets) moves
     → effect.measures ≡ measures_of (plan_of c).end (map shown base) (map shown moves)

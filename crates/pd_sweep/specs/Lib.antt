@@ -6,8 +6,10 @@ pub mod Limits
 pub mod Sums
 pub mod Names
 pub mod Objects
+pub mod PacketTexts
 pub mod Parts
 pub mod Rows
+pub mod Sets
 pub mod Sweeps
 pub mod Texts
 pub mod Along

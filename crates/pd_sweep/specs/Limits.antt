@@ -2,11 +2,7 @@
 use Rattle.std.specs.Prelude.{◌≡◌, ℕ, ◌==◌, ◌&&◌, nat_lt, not, Bool, true, false, if◌then◌else◌, List, [], ◌++◌, codes, decimal}
 use Rattle.std.specs.Prelude.{Option, Some, None, is_none, is_some}
 use Rattle.std.specs.List.{list_any}
-use Rattle.pd_header.specs.Header.{id_of}
-use Rattle.pd_header.specs.Kinds.{kind_of_header, name_of}
-use Rattle.pd_symbols.specs.declared.channel.Channel.{Channel}
-use Rattle.pd_tell.specs.Words.{side_words}
-use Rattle.pd_sweep.specs.Names.{set_name}
+use Rattle.pd_sweep.specs.PacketTexts.{packets_name}
 use Rattle.pd_sweep.specs.Tallies.{tally_of}
 use Rattle.pd_sweep.specs.Words.{are_same}
 use Rattle.pd_sweep.specs.declared.choice.Loss.{Loss}
@@ -15,7 +11,8 @@ use Rattle.pd_sweep.specs.declared.effect.Effect.{Effect}
 use Rattle.pd_sweep.specs.declared.findings.Findings.{Findings}
 use Rattle.pd_sweep.specs.declared.limits.Limits.{Limits}
 use Rattle.pd_sweep.specs.declared.limits.Passed.{Passed}
-use Rattle.pd_sweep.specs.declared.packets.Target.{Target}
+use Rattle.pd_sweep.specs.declared.sets.Packets.{Packets}
+use Rattle.pd_sweep.specs.declared.sets.Packets.TheVariants.{One}
 use Rattle.pd_sweep.specs.declared.tally.Tally.{Tally}
 use Rattle.pd_sweep.specs.declared.tally.Worst.{Worst}
 use Rattle.pd_sweep.specs.declared.tally.WorstOn.{WorstOn}
@@ -92,23 +89,17 @@ LimitsAreOfRuns =
 
 -- ---- as text: a line for each limit that is passed
 
--- a packet
-abbrev pub message_name : Channel → ℕ → List ℕ
-message_name channel header =
-    set_name channel ++ (codes " " ++ (name_of (kind_of_header header) ++ (codes " " ++ decimal (id_of header))))
+-- the run in which they are harmed
+abbrev pub verb_words : Packets → List ℕ
+verb_words (One a) = codes " is"
+verb_words _ = codes " are"
 
-abbrev pub packet_name : Target → List ℕ
-packet_name t =
-    decimal t.at ++ (codes " port " ++ (decimal t.port ++ (codes " " ++ (side_words t.side ++ (codes " "
-    ++ message_name t.channel t.header)))))
-
--- the run in which it is harmed
 abbrev pub harm_words : Loss → List ℕ
-harm_words Lost = codes " is lost\n"
-harm_words Damaged = codes " is damaged\n"
+harm_words Lost = codes " lost\n"
+harm_words Damaged = codes " damaged\n"
 
-unfoldable pub where_words : Loss → Target → List ℕ
-where_words loss t = codes " where " ++ (packet_name t ++ harm_words loss)
+unfoldable pub where_words : Loss → Packets → List ℕ
+where_words loss ps = codes " where " ++ (packets_name ps ++ (verb_words ps ++ harm_words loss))
 
 -- what begins a line: a name, and the limit
 unfoldable pub limit_lead : List ℕ → List ℕ → List ℕ
@@ -123,7 +114,7 @@ runs_line name None = []
 runs_line name (Some runs) = limit_lead name (codes "other-contracts") ++ runs_words runs
 
 abbrev pub resets_words : Loss → Worst → List ℕ
-resets_words loss w = decimal w.by ++ (codes " more" ++ where_words loss w.target)
+resets_words loss w = decimal w.by ++ (codes " more" ++ where_words loss w.packets)
 
 abbrev pub resets_line : List ℕ → Loss → Option Worst → List ℕ
 resets_line name harm None = []
@@ -131,7 +122,7 @@ resets_line name harm (Some w) = limit_lead name (codes "hard-resets") ++ resets
 
 abbrev pub power_words : Loss → WorstOn → List ℕ
 power_words loss w =
-    codes "port " ++ (decimal w.port ++ (codes " has less power for " ++ (decimal w.by ++ (codes " us" ++ where_words loss w.target))))
+    codes "port " ++ (decimal w.port ++ (codes " has less power for " ++ (decimal w.by ++ (codes " us" ++ where_words loss w.packets))))
 
 abbrev pub power_line : List ℕ → Loss → Option WorstOn → List ℕ
 power_line name harm None = []

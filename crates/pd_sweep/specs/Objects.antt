@@ -1,23 +1,19 @@
 -- A trial as a JSON object, and the summary of all: the keys of a shown run, with a number's unit at the end of its key.
 use Rattle.std.specs.Prelude.{ℕ, ◌+◌, nat_lt, Bool, List, [], ◌∷◌, ◌++◌, codes, decimal, if◌then◌else◌, Option, Some, None, is_some}
-use Rattle.pd_symbols.specs.declared.channel.Channel.{Channel}
-use Rattle.pd_header.specs.Header.{id_of}
-use Rattle.pd_header.specs.Kinds.{kind_of_header, name_of}
 use Rattle.pd_objects.specs.declared.contract.Contract.{Contract}
 use Rattle.pd_tell.specs.Members.{number_member, text_member}
-use Rattle.pd_tell.specs.Words.{side_words}
+use Rattle.pd_sweep.specs.PacketTexts.{packets_members}
 use Rattle.pd_sweep.specs.Words.{are_same, extent_of, is_same, listed, makes_difference}
 use Rattle.pd_sweep.specs.declared.effect.Effect.{Effect}
 use Rattle.pd_sweep.specs.declared.findings.Findings.{Findings}
 use Rattle.pd_sweep.specs.declared.makers.Makers.{Makers}
-use Rattle.pd_sweep.specs.declared.packets.Target.{Target}
 use Rattle.pd_sweep.specs.declared.measure.Extent.TheVariants.{Until}
 use Rattle.pd_sweep.specs.declared.measure.Measure.{Measure}
 use Rattle.pd_sweep.specs.declared.summary.Mishaps.{Mishaps}
 use Rattle.pd_sweep.specs.declared.trial.Outcome.{Outcome}
 use Rattle.pd_sweep.specs.declared.trial.Outcome.TheVariants.{Ran, Missed, Disturbed}
 use Rattle.pd_sweep.specs.declared.trial.Trial.{Trial}
-use Rattle.pd_sweep.specs.Names.{set_name, signed_text, truth}
+use Rattle.pd_sweep.specs.Names.{signed_text, truth}
 
 -- ---- members, each behind a comma
 
@@ -28,20 +24,6 @@ flag_member key b = codes ",\"" ++ (key ++ (codes "\":" ++ truth b))
 -- how much more a number is than it was, behind its key
 unfoldable pub signed_member : List ℕ → ℕ → ℕ → List ℕ
 signed_member key old new = codes ",\"" ++ (key ++ (codes "\":" ++ signed_text old new))
-
--- ---- a packet
-
--- its ordered set, the message's name and its ID
-abbrev pub message_members : Channel → ℕ → List ℕ
-message_members channel header =
-    text_member (codes "set") (set_name channel)
-    ++ (text_member (codes "message") (name_of (kind_of_header header)) ++ number_member (codes "id") (id_of header))
-
--- its time, its port, who sends it, and the message
-abbrev pub packet_members : Target → List ℕ
-packet_members t =
-    number_member (codes "at_us") t.at ++ (number_member (codes "port") t.port ++ (text_member (codes "side") (side_words t.side)
-    ++ message_members t.channel t.header))
 
 -- ---- contracts at the end
 
@@ -137,4 +119,4 @@ outcome_members old Disturbed = text_member (codes "outcome") (codes "disturbed"
 -- an object, and the end of its line
 unfoldable pub trial_object : Findings → Trial → List ℕ
 trial_object old trial =
-    codes "{\"kind\":\"packet\"" ++ (packet_members trial.target ++ (outcome_members old trial.outcome ++ codes "}\n"))
+    codes "{\"kind\":\"packet\"" ++ (packets_members trial.packets ++ (outcome_members old trial.outcome ++ codes "}\n"))

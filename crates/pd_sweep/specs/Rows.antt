@@ -5,6 +5,8 @@ use Rattle.pd_header.specs.Header.{id_of}
 use Rattle.pd_header.specs.Kinds.{kind_of_header, name_of}
 use Rattle.pd_objects.specs.declared.contract.Contract.{Contract}
 use Rattle.pd_tell.specs.Words.{side_words}
+use Rattle.pd_sweep.specs.PacketTexts.{later_value}
+use Rattle.pd_sweep.specs.Sets.{first_of}
 use Rattle.pd_sweep.specs.Words.{are_same, contracts_words, extent_of, listed, makes_difference, ports_words}
 use Rattle.pd_sweep.specs.declared.effect.Effect.{Effect}
 use Rattle.pd_sweep.specs.declared.findings.Findings.{Findings}
@@ -24,7 +26,7 @@ abbrev pub first_names : List ℕ
 first_names = codes "at_us,port,side,set,message,id,outcome,difference,same_contracts,contracts,ports,less_power_us,more_power_us,"
 
 abbrev pub last_names : List ℕ
-last_names = codes "differs_until_us,faults,hard_resets,least_margin_uw,lower_at_us,lower_ports\n"
+last_names = codes "differs_until_us,faults,hard_resets,least_margin_uw,lower_at_us,lower_ports,then\n"
 
 -- a packet: its time, its port, who sends it, the ordered set, the message's name and its ID
 abbrev pub message_values : Channel → ℕ → List ℕ
@@ -91,6 +93,8 @@ outcome_values old (Ran effect) = hit_values old effect
 outcome_values old Missed = codes ",not_hit,,,,,,,,,,,,"
 outcome_values old Disturbed = codes ",disturbed,,,,,,,,,,,,"
 
--- a row
+-- a row: the first packet, what comes of it, and the packets that are lost too
 unfoldable pub trial_row : Findings → Trial → List ℕ
-trial_row old trial = packet_values trial.target ++ (outcome_values old trial.outcome ++ codes "\n")
+trial_row old trial =
+    packet_values (first_of trial.packets)
+    ++ (outcome_values old trial.outcome ++ (later_value trial.packets ++ codes "\n"))

@@ -4,6 +4,7 @@ use Rattle.std.specs.List.{AllByRecursion, filter}
 use Rattle.pd_header.specs.Kinds.{control_messages, data_messages, kind_of_header}
 use Rattle.pd_header.specs.declared.kind.Kind.{Kind}
 use Rattle.pd_sweep.specs.Choices.{is_of_kind}
+use Rattle.pd_sweep.specs.Sets.{first_of}
 use Rattle.pd_sweep.specs.Tallies.{no_trial, noted_trial, tally_of}
 use Rattle.pd_sweep.specs.declared.findings.Findings.{Findings}
 use Rattle.pd_sweep.specs.declared.sums.Sums.{Sums}
@@ -14,9 +15,9 @@ use Rattle.pd_sweep.specs.declared.trial.Trial.{Trial}
 abbrev pub kinds : List Kind
 kinds = control_messages ++ data_messages
 
--- the packet of a trial is of a kind
+-- the first packet of a trial is of a kind
 abbrev pub is_of : Kind → Trial → Bool
-is_of kind trial = is_of_kind (Some kind) (kind_of_header trial.target.header)
+is_of kind trial = is_of_kind (Some kind) (kind_of_header (first_of trial.packets).header)
 
 -- what the trials of the packets of a kind come to
 abbrev pub kind_tally : Option ℕ → Findings → List Trial → Kind → Tally
@@ -51,6 +52,7 @@ pub record HasRoom (tally : Tally) : Type 0 where
   pub few : tally.changed ≤ tally.tried
   pub few_different : tally.different ≤ tally.tried
   pub few_short : tally.short ≤ tally.tried
+  pub few_sets : tally.sets ≤ tally.tried
 
 pub record HaveRoom (sums : Sums) : Type 0 where
   pub all : HasRoom sums.all

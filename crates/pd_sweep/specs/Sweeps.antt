@@ -1,5 +1,5 @@
 -- What a sweep writes.
-use Rattle.std.specs.Prelude.{◌≡◌, ℕ, List, ◌++◌, map, ◌⊎◌, Option, Result, Ok, Err}
+use Rattle.std.specs.Prelude.{◌≡◌, ℕ, List, [], ◌++◌, length, map, ◌⊎◌, Option, Result, Ok, Err}
 use Rattle.std.specs.List.{AllByRecursion, filter, flat_map}
 use Rattle.std.specs.Io.KnownBytes.{Appends}
 use Rattle.pd_device.specs.Device.{WrotePart, one_more}
@@ -10,23 +10,21 @@ use Rattle.pd_run.specs.Shown.{Shows}
 use Rattle.pd_scenario.specs.Plans.{plan_of}
 use Rattle.pd_scenario.specs.Scenarios.{ScenarioData}
 use Rattle.pd_sweep.specs.Choices.{chosen}
+use Rattle.pd_sweep.specs.Sets.{are_any}
 use Rattle.pd_sweep.specs.Summaries.{AreFindings}
 use Rattle.pd_sweep.specs.Sums.{sums_of}
 use Rattle.pd_sweep.specs.Tallies.{tally_of}
-use Rattle.pd_sweep.specs.Trials.{IsTrial}
+use Rattle.pd_sweep.specs.Trials.{IsTrial, Tries}
 use Rattle.pd_sweep.specs.declared.choice.Campaign.{Campaign}
 use Rattle.pd_sweep.specs.declared.findings.Findings.{Findings}
 use Rattle.pd_sweep.specs.declared.tally.Tally.{Tally}
-use Rattle.pd_sweep.specs.declared.packets.Target.{Target}
+use Rattle.pd_sweep.specs.declared.sets.Packets.{Packets}
+use Rattle.pd_sweep.specs.declared.sets.Packets.TheVariants.{One}
 use Rattle.pd_sweep.specs.declared.trial.Trial.{Trial}
 use Rattle.pd_sweep.specs.Forms.{closing, head, is_shown, trial_text}
 use Rattle.pd_sweep.specs.Parts.{part_of}
 use Rattle.pd_sweep.specs.declared.form.Look.{Look}
 use Rattle.pd_sweep.specs.declared.part.Part.{Part}
-
--- the packets of trials
-abbrev pub packets : List Trial → List Target
-packets trials = map (λ (trial : Trial). trial.target) trials
 
 -- a line for each trial that is shown, in their order
 abbrev pub packet_lines : Look → Findings → List Trial → List ℕ
@@ -36,41 +34,43 @@ packet_lines look old trials = flat_map (trial_text look.form old) (filter (is_s
 abbrev pub lines_of : Look → Findings → List Trial → List ℕ
 lines_of look old trials = head look ++ packet_lines look old trials
 
--- and the kinds of messages, where they are told of in place of packets, and the summary
-abbrev pub text_of : Look → Option ℕ → Findings → List Trial → List ℕ
-text_of look reserve old trials = lines_of look old trials ++ closing look reserve (sums_of reserve old trials)
+-- and the kinds of messages, where they are told of in place of packets, and the summary; so many sets are left untried
+abbrev pub text_of : Look → Option ℕ → Findings → List Trial → List Packets → List ℕ
+text_of look reserve old trials left = lines_of look old trials ++ closing look reserve (sums_of reserve old trials) (are_any left)
 
--- Each packet that is chosen of the scenario's run, which is safe, or each of a part of these, has its trial, in the run's order; and
--- these are the findings of that run, in which none is lost.
-pub record AreTrials (n : ℕ) (c : ScenarioData) (campaign : Campaign) (part : Option Part) (without : Findings) (trials : List Trial)
-    : Type 0 where
+-- Each packet that is chosen of the scenario's run, which is safe, or each of a part of these, waits, and these are the trials that are
+-- made in turn, until so many sets are left; and these are the findings of that run, in which none is lost.
+pub record AreSome (n : ℕ) (c : ScenarioData) (campaign : Campaign) (part : Option Part) (without : Findings) (trials : List Trial)
+    (left : List Packets) : Type 0 where
   pub base : List (ℕ × Entry)
   pub shows : Shows (plan_of c) base
   pub without_is : AreFindings (plan_of c) base without
-  pub packets_are : packets trials ≡ part_of part (chosen campaign.choice base)
+  pub tried : Tries c campaign (map One (part_of part (chosen campaign.choice base))) trials left
   pub each : AllByRecursion (IsTrial n c campaign) trials
 
--- the text tells of these trials
+-- none is left
+abbrev pub AreTrials : ℕ → ScenarioData → Campaign → Option Part → Findings → List Trial → Type 0
+AreTrials n c campaign part without trials = AreSome n c campaign part without trials []
+
+-- the text tells of these trials: of all, or of as many as were to be tried at most
 pub record WroteSweep (n : ℕ) (c : ScenarioData) (campaign : Campaign) (part : Option Part) (look : Look) (old new : Option (List ℕ))
     (tally : Tally) : Type 0 where
   pub without : Findings
   pub trials : List Trial
-  pub are_trials : AreTrials n c campaign part without trials
+  pub left : List Packets
+  pub are_trials : AreSome n c campaign part without trials left
+  pub ends : (left ≡ []) ⊎ (length trials ≡ campaign.most)
   pub tally_is : tally ≡ tally_of campaign.reserve without trials
-  pub appends : Appends old new (text_of look campaign.reserve without trials)
+  pub appends : Appends old new (text_of look campaign.reserve without trials left)
 
--- the first bytes of the text of the first of these packets were written
+-- the first bytes of the text of the first of these trials were written
 pub record BeganSweep (n : ℕ) (c : ScenarioData) (campaign : Campaign) (part : Option Part) (look : Look) (old new : Option (List ℕ))
     : Type 0 where
-  pub base : List (ℕ × Entry)
-  pub shows : Shows (plan_of c) base
   pub without : Findings
-  pub without_is : AreFindings (plan_of c) base without
   pub trials : List Trial
-  pub rest : List Target
-  pub packets_are : packets trials ++ rest ≡ part_of part (chosen campaign.choice base)
-  pub each : AllByRecursion (IsTrial n c campaign) trials
-  pub wrote : WrotePart old new (text_of look campaign.reserve without trials)
+  pub left : List Packets
+  pub are_trials : AreSome n c campaign part without trials left
+  pub wrote : WrotePart old new (text_of look campaign.reserve without trials left)
 
 -- where the run of the scenario itself has no memory, nothing is written
 abbrev pub Sweeps : ℕ → ScenarioData → Campaign → Option Part → Look → Result Tally BenchFault → Option (List ℕ) → Option (List ℕ) → Type 0

@@ -1,15 +1,20 @@
 -- The parts of a sweep together are the sweep.
-use Rattle.std.specs.Prelude.{◌≡◌, ℕ, ◌+◌, ◌<◌, ◌≤◌, List, ◌++◌, length, None, Some}
+use Rattle.std.specs.Prelude.{◌≡◌, ℕ, ◌+◌, ◌<◌, ◌≤◌, List, ◌++◌, length, map, None, Some, Option}
 use Rattle.std.specs.List.{flat_map, range_with_len}
+use Rattle.pd_port.specs.declared.entry.Entry.{Entry}
+use Rattle.pd_run.specs.Shown.{Shows}
+use Rattle.pd_scenario.specs.Plans.{plan_of}
 use Rattle.pd_scenario.specs.Scenarios.{ScenarioData}
+use Rattle.pd_sweep.specs.Choices.{chosen}
 use Rattle.pd_sweep.specs.Counts.{HasPackets}
 use Rattle.pd_sweep.specs.Forms.{head}
-use Rattle.pd_sweep.specs.Parts.{share_of}
+use Rattle.pd_sweep.specs.Parts.{part_of, share_of}
 use Rattle.pd_sweep.specs.Sweeps.{AreTrials, lines_of, packet_lines}
 use Rattle.pd_sweep.specs.declared.choice.Campaign.{Campaign}
 use Rattle.pd_sweep.specs.declared.findings.Findings.{Findings}
 use Rattle.pd_sweep.specs.declared.form.Look.{Look}
 use Rattle.pd_sweep.specs.declared.part.Part.{Part}
+use Rattle.pd_sweep.specs.declared.sets.Packets.TheVariants.{One}
 use Rattle.pd_sweep.specs.declared.trial.Trial.{Trial}
 
 -- so many packets at most, from one on
@@ -57,3 +62,14 @@ SharesAreTheSweep =
     → ((number : ℕ) → 1 ≤ number → number ≤ shares
     → AreTrials n c campaign (Some (share_of number shares packets)) (withouts number) (trials number))
     → AreWhole n c campaign shares withouts trials
+
+-- Where packets are lost alone, each that is chosen has its trial, or each of a part, once and in the run's order.
+pub record AreAlone (c : ScenarioData) (campaign : Campaign) (part : Option Part) (trials : List Trial) : Type 0 where
+  pub base : List (ℕ × Entry)
+  pub shows : Shows (plan_of c) base
+  pub packets_are : map (λ (trial : Trial). trial.packets) trials ≡ map One (part_of part (chosen campaign.choice base))
+
+abbrev pub SinglesAreThePackets : Type 0
+SinglesAreThePackets =
+    (n : ℕ) (c : ScenarioData) (campaign : Campaign) (part : Option Part) (without : Findings) (trials : List Trial)
+    → campaign.any ≤ 1 → AreTrials n c campaign part without trials → AreAlone c campaign part trials

@@ -2,14 +2,10 @@
 use Rattle.std.specs.Prelude.{ℕ, ◌+◌, ◌-◌, ◌==◌, ◌&&◌, nat_le, nat_lt, Bool, true, false, if◌then◌else◌, List, [], ◌∷◌, ◌++◌, codes}
 use Rattle.std.specs.Prelude.{decimal, not, Option, Some, None, is_none, is_some}
 use Rattle.std.specs.Option.{option_map_or}
-use Rattle.pd_symbols.specs.declared.channel.Channel.{Channel}
-use Rattle.pd_symbols.specs.declared.channel.Channel.TheVariants.{Sop, SopPrime}
-use Rattle.pd_header.specs.Header.{id_of}
-use Rattle.pd_header.specs.Kinds.{kind_of_header, name_of}
 use Rattle.pd_objects.specs.declared.contract.Contract.{Contract}
-use Rattle.pd_device.specs.Text.{right}
 use Rattle.pd_edit_lines.specs.Numbers.{number_of}
-use Rattle.pd_tell.specs.Words.{contract_words, side_words}
+use Rattle.pd_tell.specs.Words.{contract_words}
+use Rattle.pd_sweep.specs.PacketTexts.{packets_words}
 use Rattle.pd_sweep.specs.declared.effect.Effect.{Effect}
 use Rattle.pd_sweep.specs.declared.findings.Findings.{Findings}
 use Rattle.pd_sweep.specs.declared.makers.Makers.{Makers}
@@ -17,7 +13,6 @@ use Rattle.pd_sweep.specs.declared.measure.Extent.{Extent}
 use Rattle.pd_sweep.specs.declared.measure.Extent.TheVariants.{Less, More, Until}
 use Rattle.pd_sweep.specs.declared.measure.Measure.{Measure}
 use Rattle.pd_sweep.specs.declared.summary.Mishaps.{Mishaps}
-use Rattle.pd_sweep.specs.declared.packets.Target.{Target}
 use Rattle.pd_sweep.specs.declared.trial.Outcome.{Outcome}
 use Rattle.pd_sweep.specs.declared.trial.Outcome.TheVariants.{Ran, Missed, Disturbed}
 use Rattle.pd_sweep.specs.declared.trial.Trial.{Trial}
@@ -86,20 +81,6 @@ abbrev pub more_words : ℕ → ℕ → List ℕ
 more_words old new = if nat_le old new then 43 ∷ decimal (new - old) else 45 ∷ decimal (old - new)
 
 -- ---- lines
-
--- the ordered set
-abbrev pub set_words : Channel → List ℕ
-set_words Sop = codes " SOP "
-set_words SopPrime = codes " SOP' "
-
--- the ordered set of a message, its name and its ID
-abbrev pub message_words : Channel → ℕ → List ℕ
-message_words channel header = set_words channel ++ (name_of (kind_of_header header) ++ (32 ∷ decimal (id_of header)))
-
--- a packet: its time, its port, who sends it, and the message
-unfoldable pub packet_words : Target → List ℕ
-packet_words t =
-    right t.at ++ (codes " port " ++ (decimal t.port ++ (32 ∷ (side_words t.side ++ message_words t.channel t.header))))
 
 -- for how long something is so, where it ever is
 abbrev pub time_words : List ℕ → ℕ → List ℕ
@@ -181,4 +162,4 @@ outcome_words old Disturbed = codes "not tried: disturbed already"
 
 -- a line
 unfoldable pub trial_line : Findings → Trial → List ℕ
-trial_line old trial = packet_words trial.target ++ (codes ": " ++ (outcome_words old trial.outcome ++ codes "\n"))
+trial_line old trial = packets_words trial.packets ++ (codes ": " ++ (outcome_words old trial.outcome ++ codes "\n"))

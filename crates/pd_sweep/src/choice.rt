@@ -15,6 +15,10 @@ pub struct Campaign {
     pub loss: Loss,
     /// How many of the packets that start behind each on its port it harms too.
     pub behind: u8,
+    /// How many of the packets that are chosen are lost in one run at most: 1 to 3.
+    pub any: u8,
+    /// How many of these runs are made at most.
+    pub most: u64,
     /// What each of these runs is to leave of the budget at the end of every instant, in milliwatts, where that is asked.
     pub reserve: Option<u64>,
 }

@@ -2,19 +2,31 @@
 
 ghost use Rattle.std.specs.Prelude.{◌≡◌, ◌++◌, OnOk};
 ghost use Rattle.pd_sweep.specs.Columns.{columns_members, counts_members, less_members, lowest_json, lowest_member};
-ghost use Rattle.pd_sweep.specs.Columns.{lowest_object, short_members, tally_members, tally_object, worst_json, worst_member};
+ghost use Rattle.pd_sweep.specs.Columns.{lowest_object, sets_member, short_members, tally_members, tally_object, worst_json, worst_member};
 ghost use Rattle.pd_sweep.specs.Columns.{worst_object, worst_on_json, worst_on_member, worst_on_object};
 
-use crate::objects::{push_instant_members, push_packet_members};
+use crate::objects::push_instant_members;
+use crate::packet_texts::push_packets_members;
 use crate::{Lowest, Tally, Worst, WorstOn, push_wide};
 use pd_tell::{push_number, push_number_member};
 use std::alloc::AllocError;
 
-/// Writes how many packets were lost, how many of the runs differ, and how many end with other contracts.
+/// Writes how many sets of more than one packet were lost, where any was.
+fn push_sets(text: &mut Vec<u8>, sets: u64) -> Result<(), AllocError>
+    ensures { OnOk result (text.new.items ≡ text.old.items ++ sets_member sets) }
+{
+    if sets == 0 {
+        return Ok(());
+    }
+    push_number_member(text, b"sets", sets)
+}
+
+/// Writes how many packets were lost alone, how many sets, how many of the runs differ, and how many end with other contracts.
 fn push_counts(text: &mut Vec<u8>, tally: &Tally) -> Result<(), AllocError>
     ensures { OnOk result (text.new.items ≡ text.old.items ++ counts_members tally.now) }
 {
-    push_number_member(text, b"packets", tally.tried)?;
+    push_number_member(text, b"packets", tally.tried.saturating_sub(tally.sets))?;
+    push_sets(text, tally.sets)?;
     push_number_member(text, b"different", tally.different)?;
     push_number_member(text, b"other_contracts", tally.changed)
 }
@@ -25,7 +37,7 @@ fn push_worst_object(text: &mut Vec<u8>, worst: &Worst) -> Result<(), AllocError
 {
     text.extend_from_slice(b"{\"more\":")?;
     push_wide(text, worst.by)?;
-    push_packet_members(text, &worst.target)?;
+    push_packets_members(text, &worst.packets)?;
     text.extend_from_slice(b"}")
 }
 
@@ -59,7 +71,7 @@ fn push_worst_on_object(text: &mut Vec<u8>, by: &[u8], worst: &WorstOn) -> Resul
     text.extend_from_slice(b"\":")?;
     push_number(text, worst.by)?;
     push_number_member(text, b"of_port", worst.port)?;
-    push_packet_members(text, &worst.target)?;
+    push_packets_members(text, &worst.packets)?;
     text.extend_from_slice(b"}")
 }
 
@@ -111,7 +123,7 @@ fn push_lowest_object(text: &mut Vec<u8>, lowest: &Lowest) -> Result<(), AllocEr
     text.extend_from_slice(b"{\"least_margin_uw\":")?;
     push_number(text, lowest.margin.left)?;
     push_instant_members(text, lowest.margin.at, &lowest.makers)?;
-    push_packet_members(text, &lowest.target)?;
+    push_packets_members(text, &lowest.packets)?;
     text.extend_from_slice(b"}")?;
     Ok(())
 }

@@ -1,7 +1,7 @@
 //! The three forms of a sweep, and which of its packets have lines.
 
 ghost use Rattle.std.specs.Prelude.{◌≡◌, ◌++◌, OnOk};
-ghost use Rattle.pd_sweep.specs.Forms.{closing, has_difference, head, is_shown, kinds_text, line_of, tally_text, trial_text};
+ghost use Rattle.pd_sweep.specs.Forms.{closing, has_difference, head, is_shown, kinds_text, left_text, line_of, tally_text, trial_text};
 ghost use Rattle.pd_sweep.specs.Forms.{value_names};
 
 use crate::columns::push_tally_object;
@@ -42,7 +42,7 @@ fn value_names(by_message: bool) -> &'static [u8]
     }
     b"at_us,port,side,set,message,id,outcome,difference,same_contracts,contracts,\
       ports,less_power_us,more_power_us,differs_until_us,faults,hard_resets,\
-      least_margin_uw,lower_at_us,lower_ports\n"
+      least_margin_uw,lower_at_us,lower_ports,then\n"
 }
 
 /// What stands before the first line.
@@ -137,6 +137,17 @@ fn push_kinds_text(
     push_kind_lines(alloc, text, look, reserve, &KINDS, tallies)
 }
 
+/// Whether sets of packets are left that weren't tried.
+fn left_text(form: Form, are_left: bool) -> &'static [u8]
+    ensures { result.now ≡ left_text form are_left }
+{
+    match (form, are_left) {
+        (Form::Words, true) => b"ended at --most; other sets of packets are left\n",
+        (Form::Json, true) => b"{\"kind\":\"left\"}\n",
+        _ => b"",
+    }
+}
+
 /// Writes what stands behind the packets.
 pub(crate) fn push_closing(
     alloc: Global,
@@ -144,9 +155,11 @@ pub(crate) fn push_closing(
     look: Look,
     reserve: Option<u64>,
     sums: &Sums,
+    are_left: bool,
 ) -> Result<(), AllocError>
-    ensures { OnOk result (text.new.items ≡ text.old.items ++ closing look reserve sums.now) }
+    ensures { OnOk result (text.new.items ≡ text.old.items ++ closing look reserve sums.now are_left) }
 {
     push_kinds_text(alloc, text, look, reserve, &sums.kinds)?;
-    push_tally_text(text, look.form, reserve, &sums.all)
+    push_tally_text(text, look.form, reserve, &sums.all)?;
+    text.extend_from_slice(left_text(look.form, are_left))
 }

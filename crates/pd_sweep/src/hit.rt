@@ -3,12 +3,12 @@
 ghost use Rattle.std.specs.Prelude.{◌≡◌, ◌<◌, ◌≤◌, IfOk, MatchOption, OnOk, Some, length, slice_get};
 ghost use Rattle.pd_scenario.specs.Plans.{plan_of};
 ghost use Rattle.pd_scenario.specs.Plan.{Plan as PlanData};
-ghost use Rattle.pd_sweep.specs.Along.{IsQuietBefore, disturbs, first_disturbance, is_disturbance};
-ghost use Rattle.pd_sweep.specs.Lost.{lost};
-ghost use Rattle.pd_sweep.specs.Trials.{hits, is_hit, is_packet, is_put_in, set_place, side_place, watched_on};
+ghost use Rattle.pd_sweep.specs.Along.{IsQuietBefore, disturbs, earliest_of, first_disturbance, is_disturbance};
+ghost use Rattle.pd_sweep.specs.Sets.{members};
+ghost use Rattle.pd_sweep.specs.Trials.{are_hit, hits, is_hit, is_packet, is_put_in, plan_with, set_place, side_place, watched_on};
 
 use crate::trial::place_at;
-use crate::{Campaign, Target};
+use crate::{Campaign, Packets, Target};
 use pd_header::Side;
 use pd_line::Start;
 use pd_port::Entry;
@@ -182,20 +182,61 @@ pub fn is_hit<const N: usize, T: Runner<N>>(
     is_hit_from(alloc, scenario, target, run, first)
 }
 
-/// Whether a packet of the run of a scenario is hit in that of the plan in which it is lost, which the runner stands for.
-///
-/// # Errors
-/// There is no memory.
-pub(crate) fn is_hit_where_lost<const N: usize, T: Runner<N>>(
+/// The time of the first of some packets.
+fn earliest_of(packets: &Packets) -> u64
+    ensures { result ≡ earliest_of packets.now }
+{
+    match packets {
+        Packets::One(first) => first.at,
+        Packets::Two(first, second) => first.at.min(second.at),
+        Packets::Three(first, second, third) => first.at.min(second.at.min(third.at)),
+    }
+}
+
+/// Whether one of the packets that are lost is hit in the run in which they are, which the runner stands for.
+fn is_one_hit<const N: usize, T: Runner<N>>(
     alloc: Global,
     scenario: &Scenario<N>,
     campaign: &Campaign,
+    packets: &Packets,
     target: &Target,
     run: &T,
 ) -> Result<bool, AllocError>
-    requires { T.plan run.now ≡ Some (lost (plan_of scenario.now) campaign.now.loss campaign.now.behind target.now) }
+    requires plan { T.plan run.now ≡ Some (plan_with scenario.now campaign.now packets.now) }
+    requires soon { earliest_of packets.now ≤ target.now.at }
     ensures { IfOk result (λ hit. hit ≡ is_hit scenario.now.events target.now (T.entries run.now)) }
 {
-    let first = first_disturbance(scenario.events(), target.port as u64, target.at);
+    let earliest = earliest_of(packets);
+    let first = first_disturbance(scenario.events(), target.port as u64, earliest);
     is_hit_from(alloc, scenario, target, run, first)
+}
+
+/// Whether the packets that are lost are hit in the run in which they are, which the runner stands for.
+///
+/// # Errors
+/// There is no memory.
+pub(crate) fn are_hit<const N: usize, T: Runner<N>>(
+    alloc: Global,
+    scenario: &Scenario<N>,
+    campaign: &Campaign,
+    packets: &Packets,
+    run: &T,
+) -> Result<bool, AllocError>
+    requires { T.plan run.now ≡ Some (plan_with scenario.now campaign.now packets.now) }
+    ensures { IfOk result (λ hit. hit ≡ are_hit scenario.now.events (members packets.now) (T.entries run.now)) }
+{
+    match packets {
+        Packets::One(first) => is_one_hit(alloc, scenario, campaign, packets, first, run),
+        Packets::Two(first, second) => Ok(
+            is_one_hit(alloc, scenario, campaign, packets, first, run)?
+                && is_one_hit(alloc, scenario, campaign, packets, second, run)?,
+        ),
+        Packets::Three(first, second, third) => {
+            Ok(
+                is_one_hit(alloc, scenario, campaign, packets, first, run)?
+                    && is_one_hit(alloc, scenario, campaign, packets, second, run)?
+                    && is_one_hit(alloc, scenario, campaign, packets, third, run)?,
+            )
+        }
+    }
 }

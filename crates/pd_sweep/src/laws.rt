@@ -2,9 +2,9 @@
 
 ghost use Rattle.pd_sweep.specs.Laws.{HitsAreTrue, MeasuresAreTrue};
 ghost use Rattle.pd_sweep.specs.Limits.{LimitsAreOfRuns};
-ghost use Rattle.pd_sweep.specs.Whole.{PartsJoin, SharesAreTheSweep, SharesCoverOnce, ShortPartIsWhole};
+ghost use Rattle.pd_sweep.specs.Whole.{PartsJoin, SharesAreTheSweep, SharesCoverOnce, ShortPartIsWhole, SinglesAreThePackets};
 
-/// A packet that is told to be hit is lost or damaged in the run of the variant: it starts there at its time on its port, and the
+/// Packets that are told to be hit are lost or damaged in the run of the variant: each starts there at its time on its port, and the
 /// disturbance that it takes is that of an event which was put in for it, or for a packet before it in a row.
 pub fn hits_are_true()
     ensures { HitsAreTrue }
@@ -27,6 +27,11 @@ pub fn parts_are_the_sweep()
 pub fn shares_are_the_sweep()
     ensures places { SharesCoverOnce }
     ensures trials { SharesAreTheSweep }
+{}
+
+/// Where packets are lost alone, each that is chosen of the run has its trial, once and in the run's order.
+pub fn singles_are_the_packets()
+    ensures { SinglesAreThePackets }
 {}
 
 /// A limit of a sweep is passed exactly where one of its runs passes it.

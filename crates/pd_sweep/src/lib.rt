@@ -18,9 +18,11 @@ mod makers;
 mod measure;
 mod names;
 mod objects;
+mod packet_texts;
 mod packets;
 mod part;
 mod rows;
+mod sets;
 mod steps;
 mod summary;
 mod sums;
@@ -40,7 +42,8 @@ pub use findings::Findings;
 pub use form::{Form, Look};
 pub use hit::is_hit;
 pub use laws::{
-    hits_are_true, limits_are_of_runs, measures_are_true, parts_are_the_sweep, shares_are_the_sweep,
+    hits_are_true, limits_are_of_runs, measures_are_true, parts_are_the_sweep,
+    shares_are_the_sweep, singles_are_the_packets,
 };
 pub use limits::{Limits, Passed, push_passed};
 pub use lose::lost;
@@ -49,10 +52,11 @@ pub use measure::{Extent, Measure, Step};
 pub use packets::{Target, chosen};
 pub use part::Part;
 pub use pd_scene::{Refused, SceneFault};
+pub use sets::Packets;
 pub use summary::{Mishaps, Standing, Summary, summary_of};
 pub use tally::{Lowest, Tally, Worst, WorstOn, push_tally};
 pub use texts::{sweep_part_text, sweep_text};
-pub use trial::{Outcome, Trial, try_packet};
+pub use trial::{Outcome, Trial};
 pub use variant::{Obstacle, variant_of};
 pub use walk::sweep;
 pub use words::{

@@ -1,16 +1,14 @@
 //! Which limits the runs of a sweep pass.
 
 ghost use Rattle.std.specs.Prelude.{◌≡◌, ◌++◌, OnOk};
-ghost use Rattle.pd_sweep.specs.Limits.{harm_words, is_none_passed, limit_lead, longer_than, message_name};
-ghost use Rattle.pd_sweep.specs.Limits.{packet_name, passed_lines, passed_of};
+ghost use Rattle.pd_sweep.specs.Limits.{harm_words, is_none_passed, limit_lead, longer_than};
+ghost use Rattle.pd_sweep.specs.Limits.{passed_lines, passed_of};
 ghost use Rattle.pd_sweep.specs.Limits.{power_line, power_over, power_words, resets_line, resets_over, resets_words, runs_line};
-ghost use Rattle.pd_sweep.specs.Limits.{runs_over, runs_words, where_words};
+ghost use Rattle.pd_sweep.specs.Limits.{runs_over, runs_words, verb_words, where_words};
 
-use crate::names::set_name;
-use crate::{Loss, Tally, Target, Worst, WorstOn, push_wide};
-use pd_header::{header_id, header_kind};
-use pd_symbols::Channel;
-use pd_tell::{push_number, side_text};
+use crate::packet_texts::push_names;
+use crate::{Loss, Packets, Tally, Worst, WorstOn, push_wide};
+use pd_tell::push_number;
 use std::alloc::AllocError;
 
 /// What no run of a sweep is to do: end with other contracts than without a loss, have more Hard Resets, or leave a port less power for
@@ -78,47 +76,34 @@ impl Limits {
     }
 }
 
-/// Writes the name of a message: its ordered set, its own name and its ID.
-fn push_message(text: &mut Vec<u8>, channel: Channel, header: u16) -> Result<(), AllocError>
-    ensures { OnOk result (text.new.items ≡ text.old.items ++ message_name channel header) }
+/// The verb for packets.
+fn verb_text(packets: &Packets) -> &'static [u8]
+    ensures { result.now ≡ verb_words packets.now }
 {
-    text.extend_from_slice(set_name(channel))?;
-    text.extend_from_slice(b" ")?;
-    text.extend_from_slice(header_kind(header).name().as_str().as_bytes())?;
-    text.extend_from_slice(b" ")?;
-    push_number(text, u64::from(header_id(header)))
+    match packets {
+        Packets::One(_) => b" is",
+        Packets::Two(..) | Packets::Three(..) => b" are",
+    }
 }
 
-/// Writes which packet it is.
-fn push_name(text: &mut Vec<u8>, target: &Target) -> Result<(), AllocError>
-    ensures { OnOk result (text.new.items ≡ text.old.items ++ packet_name target.now) }
-{
-    push_number(text, target.at)?;
-    text.extend_from_slice(b" port ")?;
-    push_number(text, target.port as u64)?;
-    text.extend_from_slice(b" ")?;
-    text.extend_from_slice(side_text(target.side))?;
-    text.extend_from_slice(b" ")?;
-    push_message(text, target.channel, target.header)
-}
-
-/// What is done to a packet, and the end of a line.
+/// What is done to packets, and the end of a line.
 fn harm_text(loss: Loss) -> &'static [u8]
     ensures { result.now ≡ harm_words loss }
 {
     match loss {
-        Loss::Lost => b" is lost\n",
-        Loss::Damaged => b" is damaged\n",
+        Loss::Lost => b" lost\n",
+        Loss::Damaged => b" damaged\n",
     }
 }
 
 /// Writes in which run something is so.
 #[tactic(auto, unfolding(crate::specs::Limits::where_words))]
-fn push_where(text: &mut Vec<u8>, loss: Loss, target: &Target) -> Result<(), AllocError>
-    ensures { OnOk result (text.new.items ≡ text.old.items ++ where_words loss target.now) }
+fn push_where(text: &mut Vec<u8>, loss: Loss, packets: &Packets) -> Result<(), AllocError>
+    ensures { OnOk result (text.new.items ≡ text.old.items ++ where_words loss packets.now) }
 {
     text.extend_from_slice(b" where ")?;
-    push_name(text, target)?;
+    push_names(text, packets)?;
+    text.extend_from_slice(verb_text(packets))?;
     text.extend_from_slice(harm_text(loss))
 }
 
@@ -161,7 +146,7 @@ fn push_resets(text: &mut Vec<u8>, loss: Loss, worst: &Worst) -> Result<(), Allo
 {
     push_wide(text, worst.by)?;
     text.extend_from_slice(b" more")?;
-    push_where(text, loss, &worst.target)
+    push_where(text, loss, &worst.packets)
 }
 
 /// Writes the line of this limit, where it is passed.
@@ -189,7 +174,7 @@ fn push_power(text: &mut Vec<u8>, loss: Loss, worst: &WorstOn) -> Result<(), All
     text.extend_from_slice(b" has less power for ")?;
     push_number(text, worst.by)?;
     text.extend_from_slice(b" us")?;
-    push_where(text, loss, &worst.target)
+    push_where(text, loss, &worst.packets)
 }
 
 /// Writes the line of this limit, where it is passed.

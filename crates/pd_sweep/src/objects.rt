@@ -3,19 +3,18 @@
 ghost use Rattle.std.specs.Prelude.{◌≡◌, ◌+◌, ◌<◌, ◌^◌, ◌++◌, OnOk, length};
 ghost use Rattle.pd_sweep.specs.Objects.{change_object, change_objects, changes_member, contract_json};
 ghost use Rattle.pd_sweep.specs.Objects.{contract_object, contracts_members, findings_members, flag_member, hit_members};
-ghost use Rattle.pd_sweep.specs.Objects.{instant_members, lower_members, margin_members, measures_member, message_members};
-ghost use Rattle.pd_sweep.specs.Objects.{mishaps_members, outcome_members, packet_members, port_object, port_objects};
+ghost use Rattle.pd_sweep.specs.Objects.{instant_members, lower_members, margin_members, measures_member};
+ghost use Rattle.pd_sweep.specs.Objects.{mishaps_members, outcome_members, port_object, port_objects};
 ghost use Rattle.pd_sweep.specs.Objects.{ports_member, run_members, signed_member, trial_object};
 
-use crate::names::{push_signed, set_name, truth};
+use crate::names::{push_signed, truth};
+use crate::packet_texts::push_packets_members;
 use crate::{
-    Effect, Extent, Findings, Makers, Measure, Mishaps, Outcome, Target, Trial, are_same, is_same,
+    Effect, Extent, Findings, Makers, Measure, Mishaps, Outcome, Trial, are_same, is_same,
     push_listed,
 };
-use pd_header::{header_id, header_kind};
 use pd_objects::Contract;
-use pd_symbols::Channel;
-use pd_tell::{push_number, push_number_member, push_text_member, side_text};
+use pd_tell::{push_number, push_number_member, push_text_member};
 use std::alloc::AllocError;
 
 /// Writes whether something holds, behind its key.
@@ -43,29 +42,6 @@ fn push_signed_member(
     text.extend_from_slice(key)?;
     text.extend_from_slice(b"\":")?;
     push_signed(text, old, new)
-}
-
-/// Writes a message.
-fn push_message(text: &mut Vec<u8>, channel: Channel, header: u16) -> Result<(), AllocError>
-    ensures { OnOk result (text.new.items ≡ text.old.items ++ message_members channel header) }
-{
-    push_text_member(text, b"set", set_name(channel))?;
-    push_text_member(
-        text,
-        b"message",
-        header_kind(header).name().as_str().as_bytes(),
-    )?;
-    push_number_member(text, b"id", u64::from(header_id(header)))
-}
-
-/// Writes a packet.
-pub(crate) fn push_packet_members(text: &mut Vec<u8>, target: &Target) -> Result<(), AllocError>
-    ensures { OnOk result (text.new.items ≡ text.old.items ++ packet_members target.now) }
-{
-    push_number_member(text, b"at_us", target.at)?;
-    push_number_member(text, b"port", target.port as u64)?;
-    push_text_member(text, b"side", side_text(target.side))?;
-    push_message(text, target.channel, target.header)
 }
 
 /// Writes a contract.
@@ -303,7 +279,7 @@ pub(crate) fn push_trial_object(
     ensures { OnOk result (text.new.items ≡ text.old.items ++ trial_object old.now trial.now) }
 {
     text.extend_from_slice(b"{\"kind\":\"packet\"")?;
-    push_packet_members(text, &trial.target)?;
+    push_packets_members(text, &trial.packets)?;
     push_outcome(text, old, &trial.outcome)?;
     text.extend_from_slice(b"}\n")?;
     Ok(())

@@ -6,6 +6,7 @@ ghost use Rattle.pd_sweep.specs.Rows.{margin_values, measures_values, message_va
 ghost use Rattle.pd_sweep.specs.Rows.{outcome_values, packet_values, run_values, trial_row, until_value};
 
 use crate::names::{push_signed, set_name, truth};
+use crate::packet_texts::push_later_value;
 use crate::words::push_ports;
 use crate::{
     Effect, Extent, Findings, Makers, Measure, Mishaps, Outcome, Target, Trial, are_same,
@@ -187,7 +188,8 @@ pub(crate) fn push_trial_row(
 ) -> Result<(), AllocError>
     ensures { OnOk result (text.new.items ≡ text.old.items ++ trial_row old.now trial.now) }
 {
-    push_packet(text, &trial.target)?;
+    push_packet(text, &trial.packets.first())?;
     push_outcome(text, old, &trial.outcome)?;
+    push_later_value(text, &trial.packets)?;
     text.extend_from_slice(b"\n")
 }

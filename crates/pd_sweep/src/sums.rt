@@ -33,11 +33,11 @@ pub(crate) struct Sums {
     pub kinds: [Tally; 13],
 }
 
-/// Whether the packet of a trial is of a kind.
+/// Whether the first packet of a trial is of a kind.
 fn is_of(kind: Kind, trial: &Trial) -> bool
     ensures { result ≡ is_of kind trial.now }
 {
-    kind.name().as_str() == header_kind(trial.target.header).name().as_str()
+    kind.name().as_str() == header_kind(trial.packets.first().header).name().as_str()
 }
 
 /// What the trials of a kind come to after one more trial.

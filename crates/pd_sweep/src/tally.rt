@@ -1,50 +1,54 @@
 //! What all trials come to.
 
 ghost use Rattle.std.specs.Prelude.{◌≡◌, ◌+◌, ◌-◌, ◌<◌, ◌≤◌, ◌^◌, ◌++◌, OnOk, if◌then◌else◌, length};
-ghost use Rattle.pd_sweep.specs.Tallies.{column_words, columns_words, counts_words, is_short, least_so_far, less_words, low_words};
+ghost use Rattle.pd_sweep.specs.Tallies.{alone_words, and_sets, column_words, columns_words, counts_words, is_short};
+ghost use Rattle.pd_sweep.specs.Tallies.{least_so_far, less_words, low_words};
 ghost use Rattle.pd_sweep.specs.Tallies.{lower, lowest_line, lowest_words, measure_column, no_trial, noted_trial, on_port_words};
-ghost use Rattle.pd_sweep.specs.Tallies.{short_words, tally_words, tried_words, worse, worse_on, worst_of, worst_on_words};
+ghost use Rattle.pd_sweep.specs.Tallies.{packets_noun, sets_noun, sets_words, short_words, tally_words, tried_words};
+ghost use Rattle.pd_sweep.specs.Tallies.{worse, worse_on, worst_of, worst_on_words};
 ghost use Rattle.pd_sweep.specs.Tallies.{worst_words};
 
 use crate::findings::Findings;
 use crate::makers::Makers;
+use crate::packet_texts::push_packets;
 use crate::trial::{Outcome, Trial};
-use crate::words::{are_same, push_instant, push_packet, push_wide};
-use crate::{Extent, Measure, Target};
+use crate::words::{are_same, push_instant, push_wide};
+use crate::{Extent, Measure, Packets};
 use pd_report::Margin;
 use pd_tell::push_number;
 use std::alloc::AllocError;
 
-/// A packet, and how much more of something its loss makes.
+/// Packets, and how much more of something their loss makes.
 #[derive(Clone, Copy, Debug)]
 pub struct Worst {
-    pub target: Target,
+    pub packets: Packets,
     pub by: u128,
 }
 
-/// A packet, and how much its loss makes of a measure of a port, numbered from 1.
+/// Packets, and how much their loss makes of a measure of a port, numbered from 1.
 #[derive(Clone, Copy, Debug)]
 pub struct WorstOn {
-    pub target: Target,
+    pub packets: Packets,
     pub port: u64,
     pub by: u64,
 }
 
-/// A packet, the least that is left of the budget where it is lost, and the ports whose contracts are made then.
+/// Packets, the least that is left of the budget where they are lost, and the ports whose contracts are made then.
 #[derive(Clone, Copy, Debug)]
 pub struct Lowest {
-    pub target: Target,
+    pub packets: Packets,
     pub margin: Margin,
     pub makers: Makers,
 }
 
-/// How many packets were tried, how many of the runs differ, how many of them end with other contracts, and the worst of each column
-/// and its packet: for how long a port's power is less, until when a port's contract is another, how many faults and how many Hard
-/// Resets there are more, and the least that is left of the budget, where it is less than without a loss; and in how many runs less
-/// is left than was to be.
+/// How many packets or sets of them were tried, and how many sets of more than one; how many of the runs differ, and how many of them
+/// end with other contracts. Of each column the worst and its packets: for how long a port's power is less, until when a port's contract
+/// is another, how many faults and how many Hard Resets there are more, and the least that is left of the budget, where it is less than
+/// without a loss; and in how many runs less is left than was to be.
 #[derive(Clone, Copy, Debug)]
 pub struct Tally {
     pub tried: u64,
+    pub sets: u64,
     pub different: u64,
     pub changed: u64,
     pub less: Option<WorstOn>,
@@ -56,30 +60,30 @@ pub struct Tally {
 }
 
 /// The worse of two.
-fn worse(best: Option<Worst>, target: Target, by: u128) -> Option<Worst>
-    ensures { result ≡ worse best target by }
+fn worse(best: Option<Worst>, packets: Packets, by: u128) -> Option<Worst>
+    ensures { result ≡ worse best packets by }
 {
     let so_far = match best {
         None => 0,
         Some(worst) => worst.by,
     };
     if so_far < by {
-        Some(Worst { target, by })
+        Some(Worst { packets, by })
     } else {
         best
     }
 }
 
 /// The worse of two of a port.
-fn worse_on(best: Option<WorstOn>, target: Target, port: u64, by: u64) -> Option<WorstOn>
-    ensures { result ≡ worse_on best target port by }
+fn worse_on(best: Option<WorstOn>, packets: Packets, port: u64, by: u64) -> Option<WorstOn>
+    ensures { result ≡ worse_on best packets port by }
 {
     let so_far = match best {
         None => 0,
         Some(worst) => worst.by,
     };
     if so_far < by {
-        Some(WorstOn { target, port, by })
+        Some(WorstOn { packets, port, by })
     } else {
         best
     }
@@ -89,18 +93,18 @@ fn worse_on(best: Option<WorstOn>, target: Target, port: u64, by: u64) -> Option
 fn worst_of(
     extent: Extent,
     best: Option<WorstOn>,
-    target: Target,
+    packets: Packets,
     port: u64,
     measures: &[Measure],
 ) -> Option<WorstOn>
     requires { port + length measures.now < 2 ^ 64 }
-    ensures { result ≡ worst_of extent best target port measures.now }
+    ensures { result ≡ worst_of extent best packets port measures.now }
 {
     let [measure, measures @ ..] = measures else {
         return best;
     };
-    let best = worse_on(best, target, port, measure.extent(extent));
-    worst_of(extent, best, target, port + 1, measures)
+    let best = worse_on(best, packets, port, measure.extent(extent));
+    worst_of(extent, best, packets, port + 1, measures)
 }
 
 /// The least that is left so far, without a loss or with one.
@@ -114,12 +118,17 @@ fn least_so_far(without: Margin, lowest: Option<Lowest>) -> u64
 }
 
 /// The lower of two.
-fn lower(without: Margin, lowest: Option<Lowest>, target: Target, new: &Findings) -> Option<Lowest>
-    ensures { result ≡ lower without lowest target new.now }
+fn lower(
+    without: Margin,
+    lowest: Option<Lowest>,
+    packets: Packets,
+    new: &Findings,
+) -> Option<Lowest>
+    ensures { result ≡ lower without lowest packets new.now }
 {
     if new.margin.left < least_so_far(without, lowest) {
         Some(Lowest {
-            target,
+            packets,
             margin: new.margin,
             makers: new.makers,
         })
@@ -154,6 +163,7 @@ impl Tally {
     {
         Tally {
             tried: 0,
+            sets: 0,
             different: 0,
             changed: 0,
             less: None,
@@ -171,16 +181,18 @@ impl Tally {
         requires few { self.now.changed ≤ self.now.tried }
         requires few_different { self.now.different ≤ self.now.tried }
         requires few_short { self.now.short ≤ self.now.tried }
+        requires few_sets { self.now.sets ≤ self.now.tried }
         ensures value { result ≡ noted_trial reserve old.now self.now trial.now }
         ensures one { result.tried ≤ self.now.tried + 1 }
         ensures few { result.changed ≤ result.tried }
         ensures few_different { result.different ≤ result.tried }
         ensures few_short { result.short ≤ result.tried }
+        ensures few_sets { result.sets ≤ result.tried }
     {
         let Outcome::Ran(effect) = trial.outcome else {
             return *self;
         };
-        let target = trial.target;
+        let packets = trial.packets;
         let new = &effect.findings;
         let (few, many) = (&old.summary.mishaps, &new.summary.mishaps);
         let faults = many.faults.saturating_sub(few.faults);
@@ -191,13 +203,14 @@ impl Tally {
         );
         Tally {
             tried: self.tried + 1,
+            sets: more_if(packets.count() > 1, self.sets),
             different: more_if(effect.makes_difference(old), self.different),
             changed: if same { self.changed } else { self.changed + 1 },
-            less: worst_of(Extent::Less, self.less, target, 1, &effect.measures),
-            until: worst_of(Extent::Until, self.until, target, 1, &effect.measures),
-            faults: worse(self.faults, target, faults),
-            hard_resets: worse(self.hard_resets, target, resets),
-            margin: lower(old.margin, self.margin, target, new),
+            less: worst_of(Extent::Less, self.less, packets, 1, &effect.measures),
+            until: worst_of(Extent::Until, self.until, packets, 1, &effect.measures),
+            faults: worse(self.faults, packets, faults),
+            hard_resets: worse(self.hard_resets, packets, resets),
+            margin: lower(old.margin, self.margin, packets, new),
             short: more_if(is_short(reserve, &new.margin), self.short),
         }
     }
@@ -213,7 +226,7 @@ fn push_worst(text: &mut Vec<u8>, worst: &Option<Worst>) -> Result<(), AllocErro
     text.push(b'+')?;
     push_wide(text, worst.by)?;
     text.extend_from_slice(b", ")?;
-    push_packet(text, &worst.target)?;
+    push_packets(text, &worst.packets)?;
     text.extend_from_slice(b"\n")
 }
 
@@ -240,7 +253,7 @@ fn push_on_port(
     text.extend_from_slice(b" on port ")?;
     push_number(text, worst.port)?;
     text.extend_from_slice(b", ")?;
-    push_packet(text, &worst.target)?;
+    push_packets(text, &worst.packets)?;
     text.extend_from_slice(b"\n")?;
     Ok(())
 }
@@ -274,22 +287,67 @@ fn push_measure_column(
     push_worst_on(text, lead, unit, worst)
 }
 
-/// Writes what stands behind the number of packets that were tried, lost or damaged.
-fn push_tried(text: &mut Vec<u8>, count: u64) -> Result<(), AllocError>
-    ensures { OnOk result (text.new.items ≡ text.old.items ++ tried_words count) }
+/// What a count of packets is of.
+fn packets_noun(count: u64) -> &'static [u8]
+    ensures { result.now ≡ packets_noun count }
 {
-    if count == 1 {
-        return text.extend_from_slice(b" packet tried, ");
+    if count == 1 { b" packet" } else { b" packets" }
+}
+
+/// What a count of sets is of.
+#[tactic(auto, unfolding(crate::specs::Tallies::sets_noun))]
+fn sets_noun(sets: u64) -> &'static [u8]
+    ensures { result.now ≡ sets_noun sets }
+{
+    if sets == 1 {
+        b" set of packets"
+    } else {
+        b" sets of packets"
     }
-    text.extend_from_slice(b" packets tried, ")
+}
+
+/// Writes how many packets were tried alone.
+fn push_alone(text: &mut Vec<u8>, count: u64) -> Result<(), AllocError>
+    ensures { OnOk result (text.new.items ≡ text.old.items ++ alone_words count) }
+{
+    push_number(text, count)?;
+    text.extend_from_slice(packets_noun(count))
+}
+
+/// Writes how many sets of more than one packet were tried.
+fn push_and_sets(text: &mut Vec<u8>, sets: u64) -> Result<(), AllocError>
+    ensures { OnOk result (text.new.items ≡ text.old.items ++ and_sets sets) }
+{
+    text.extend_from_slice(b" and ")?;
+    push_number(text, sets)?;
+    text.extend_from_slice(sets_noun(sets))
+}
+
+/// Writes the same, where any was.
+fn push_sets(text: &mut Vec<u8>, sets: u64) -> Result<(), AllocError>
+    ensures { OnOk result (text.new.items ≡ text.old.items ++ sets_words sets) }
+{
+    if sets == 0 {
+        return Ok(());
+    }
+    push_and_sets(text, sets)
+}
+
+/// Writes how many packets were tried, lost or damaged alone, and how many sets.
+fn push_tried(text: &mut Vec<u8>, tally: &Tally) -> Result<(), AllocError>
+    ensures { OnOk result (text.new.items ≡ text.old.items ++ tried_words tally.now) }
+{
+    let alone = tally.tried.saturating_sub(tally.sets);
+    push_alone(text, alone)?;
+    push_sets(text, tally.sets)?;
+    text.extend_from_slice(b" tried, ")
 }
 
 /// Writes how many packets were tried, how many of the runs differ, and how many end with other contracts.
 fn push_counts(text: &mut Vec<u8>, tally: &Tally) -> Result<(), AllocError>
     ensures { OnOk result (text.new.items ≡ text.old.items ++ counts_words tally.now) }
 {
-    push_number(text, tally.tried)?;
-    push_tried(text, tally.tried)?;
+    push_tried(text, tally)?;
     push_number(text, tally.different)?;
     text.extend_from_slice(b" with a difference, ")?;
     push_number(text, tally.changed)?;
@@ -304,7 +362,7 @@ fn push_low(text: &mut Vec<u8>, lowest: &Lowest) -> Result<(), AllocError>
     push_number(text, lowest.margin.left)?;
     push_instant(text, lowest.margin.at, &lowest.makers)?;
     text.extend_from_slice(b", ")?;
-    push_packet(text, &lowest.target)?;
+    push_packets(text, &lowest.packets)?;
     text.extend_from_slice(b"\n")?;
     Ok(())
 }

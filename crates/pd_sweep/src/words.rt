@@ -1,19 +1,17 @@
 //! A trial as a line of text.
 
 ghost use Rattle.std.specs.Prelude.{◌≡◌, ◌+◌, ◌<◌, ◌≤◌, ◌^◌, ◌++◌, OnOk, decimal, length};
-ghost use Rattle.pd_device.specs.Text.{right};
 ghost use Rattle.pd_sweep.specs.Words.{are_same, changes_from, contracts_words, effect_words, instant_words, instead_words, is_same};
-ghost use Rattle.pd_sweep.specs.Words.{listed, lower_words, makers_words, margin_words, measure_words, message_words, mishaps_words};
-ghost use Rattle.pd_sweep.specs.Words.{more_words, obstacle_words, others_counted, others_words, outcome_words, packet_words};
-ghost use Rattle.pd_sweep.specs.Words.{ports_words, quiet_words, resets_lead, run_words, set_words, standing_words, time_words};
+ghost use Rattle.pd_sweep.specs.Words.{listed, lower_words, makers_words, margin_words, measure_words, mishaps_words};
+ghost use Rattle.pd_sweep.specs.Words.{more_words, obstacle_words, others_counted, others_words, outcome_words};
+ghost use Rattle.pd_sweep.specs.Words.{ports_words, quiet_words, resets_lead, run_words, standing_words, time_words};
 ghost use Rattle.pd_sweep.specs.Words.{trial_line};
 
-use crate::{Effect, Extent, Findings, Makers, Measure, Mishaps, Obstacle, Outcome, Target, Trial};
+use crate::packet_texts::push_packets;
+use crate::{Effect, Extent, Findings, Makers, Measure, Mishaps, Obstacle, Outcome, Trial};
 use pd_device::Text;
-use pd_header::{header_id, header_kind};
 use pd_objects::Contract;
-use pd_symbols::Channel;
-use pd_tell::{push_contract, push_number, side_text};
+use pd_tell::{push_contract, push_number};
 use std::alloc::AllocError;
 
 /// Writes a number.
@@ -26,48 +24,6 @@ pub fn push_wide(text: &mut Vec<u8>, number: u128) -> Result<(), AllocError>
     let mut digits = Text::<64>::new();
     digits.push_wide(number);
     text.extend_from_slice(digits.as_slice())
-}
-
-/// Writes a number right in nine places.
-fn push_right(text: &mut Vec<u8>, number: u64) -> Result<(), AllocError>
-    ensures { OnOk result (text.new.items ≡ text.old.items ++ right number) }
-{
-    let mut places = Text::<64>::new();
-    places.push_right(number);
-    text.extend_from_slice(places.as_slice())
-}
-
-/// An ordered set.
-fn set_text(channel: Channel) -> &'static [u8]
-    ensures { result.now ≡ set_words channel }
-{
-    match channel {
-        Channel::Sop => b" SOP ",
-        Channel::SopPrime => b" SOP' ",
-    }
-}
-
-/// Writes a message: its ordered set, its name and its ID.
-fn push_message(text: &mut Vec<u8>, channel: Channel, header: u16) -> Result<(), AllocError>
-    ensures { OnOk result (text.new.items ≡ text.old.items ++ message_words channel header) }
-{
-    text.extend_from_slice(set_text(channel))?;
-    text.extend_from_slice(header_kind(header).name().as_str().as_bytes())?;
-    text.push(b' ')?;
-    push_number(text, u64::from(header_id(header)))
-}
-
-/// Writes a packet.
-#[tactic(auto, unfolding(crate::specs::Words::packet_words))]
-pub(crate) fn push_packet(text: &mut Vec<u8>, target: &Target) -> Result<(), AllocError>
-    ensures { OnOk result (text.new.items ≡ text.old.items ++ packet_words target.now) }
-{
-    push_right(text, target.at)?;
-    text.extend_from_slice(b" port ")?;
-    push_number(text, target.port as u64)?;
-    text.push(b' ')?;
-    text.extend_from_slice(side_text(target.side))?;
-    push_message(text, target.channel, target.header)
 }
 
 /// Writes a contract, or that there is none.
@@ -402,7 +358,7 @@ fn push_outcome(text: &mut Vec<u8>, old: &Findings, outcome: &Outcome) -> Result
 pub fn push_trial(text: &mut Vec<u8>, old: &Findings, trial: &Trial) -> Result<(), AllocError>
     ensures { OnOk result (text.new.items ≡ text.old.items ++ trial_line old.now trial.now) }
 {
-    push_packet(text, &trial.target)?;
+    push_packets(text, &trial.packets)?;
     text.extend_from_slice(b": ")?;
     push_outcome(text, old, &trial.outcome)?;
     text.extend_from_slice(b"\n")

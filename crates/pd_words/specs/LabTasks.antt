@@ -129,6 +129,22 @@ behind_with (Some count) = if nat_lt 0 count && nat_lt count 9 then Some (count 
 abbrev pub behind_by : List Row → Option ℕ
 behind_by rows = option_and_then behind_with (number_of (codes "in-a-row") rows)
 
+-- how many are lost in one run at most: one, or up to three
+abbrev pub any_with : Option ℕ → Option ℕ
+any_with None = Some 1
+any_with (Some count) = if nat_lt 0 count && nat_lt count 4 then Some count else None
+
+abbrev pub any_by : List Row → Option ℕ
+any_by rows = option_and_then any_with (number_of (codes "any") rows)
+
+-- how many runs are made at most: one or more
+abbrev pub most_with : Option ℕ → Option (Option ℕ)
+most_with None = Some None
+most_with (Some count) = if nat_lt 0 count then Some (Some count) else None
+
+abbrev pub most_by : List Row → Option (Option ℕ)
+most_by rows = option_and_then most_with (number_of (codes "most") rows)
+
 -- ---- the commands, by what was found
 
 abbrev pub live_by : List Row → Option Asked
@@ -258,6 +274,14 @@ chosen_by rows = option_and_then (λ kind. option_and_then (λ behind. option_ma
   share = share;
 }) (given_by share_in (first_of (codes "part") rows))) (behind_by rows)) (given_by named (first_of (codes "kind") rows))
 
+-- how many are lost together, and in how many runs
+pub record Together : Type 0 where
+  pub any : ℕ
+  pub most : Option ℕ
+
+abbrev pub together_by : List Row → Option Together
+together_by rows = option_and_then (λ any. option_map (λ most. record { any = any; most = most }) (most_by rows)) (any_by rows)
+
 -- what is asked of each run
 pub record Required : Type 0 where
   pub reserve : Option ℕ
@@ -270,19 +294,22 @@ required_by rows = option_and_then (λ limits. option_map (λ reserve. record {
 }) (reserve_by limits rows)) (limits_by rows)
 
 abbrev pub sweep_by : List Row → Option Asked
-sweep_by rows = option_and_then (λ files. option_and_then (λ window. option_and_then (λ chosen. option_and_then (λ required.
-    option_and_then (λ by_message. option_map (λ form. sweep files (record {
+sweep_by rows = option_and_then (λ files. option_and_then (λ window. option_and_then (λ chosen. option_and_then (λ together.
+    option_and_then (λ required. option_and_then (λ by_message. option_map (λ form. sweep files (record {
       window = window;
       kind = chosen.kind;
       damage = is_on (codes "damage") rows;
       behind = chosen.behind;
+      any = together.any;
+      most = together.most;
       changed = is_on (codes "changed") rows;
       by_message = by_message;
       share = chosen.share;
       reserve = required.reserve;
       fail_on = required.limits.fail_on;
       form = form;
-    })) (form_by rows)) (by_message_by rows)) (required_by rows)) (chosen_by rows)) (window_by rows)) (scene_by rows)
+    })) (form_by rows)) (by_message_by rows)) (required_by rows)) (together_by rows)) (chosen_by rows))
+    (window_by rows)) (scene_by rows)
 
 -- `--where` may be left out
 abbrev pub vary_by : List Row → Option Asked

@@ -79,6 +79,10 @@ pub struct SweepOptions {
     pub damage: bool,
     /// How many packets behind each on its port are lost with it.
     pub behind: u64,
+    /// How many of these packets are lost in one run at most: 1 to 3.
+    pub any: u64,
+    /// How many runs are made at most, where that is said.
+    pub most: Option<u64>,
     /// Whether packets are left out whose loss makes no difference.
     pub changed: bool,
     /// Whether there is a line for each kind of message in place of one for each packet.

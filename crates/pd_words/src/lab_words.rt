@@ -5,8 +5,8 @@ ghost use Rattle.std.specs.List.{slice_split};
 ghost use Rattle.std.specs.Result.{result_ok};
 ghost use Rattle.std.specs.String.{string_bytes};
 ghost use Rattle.clap.specs.Words.{all_of, first_of, found_of, kind_of, rows_of, subcommand_rows_of};
-ghost use Rattle.pd_words.specs.LabTasks.{asked, asked_by, behind_by, decode_by, draw_by, explain_by, files, form_by, given_by};
-ghost use Rattle.pd_words.specs.LabTasks.{is_on, is_twice, lab_asked, live_by, number_of, scene_by, show_by, sweep_by, test_by};
+ghost use Rattle.pd_words.specs.LabTasks.{any_by, asked, asked_by, behind_by, decode_by, draw_by, explain_by, files, form_by, given_by};
+ghost use Rattle.pd_words.specs.LabTasks.{is_on, is_twice, lab_asked, live_by, most_by, number_of, scene_by, show_by, sweep_by, test_by};
 ghost use Rattle.pd_words.specs.LabTasks.{is_number, number, page_by, quantity, quantity_of, scene_with, why_by, why_with};
 ghost use Rattle.pd_words.specs.LabTasks.{guarantee_by, new_by, ports_with, vary_by, why_words, width_by, window_by};
 ghost use Rattle.pd_words.specs.LabTasks.{by_message_by, is_comma, limits_by, limits_from, reserve_by, share_in, share_of};
@@ -166,6 +166,16 @@ const WIDTH: Wanted = Wanted {
 const IN_A_ROW: Wanted = Wanted {
     name: "--in-a-row",
     range: "a count of packets, 1 to 8",
+};
+
+const ANY: Wanted = Wanted {
+    name: "--any",
+    range: "a count of packets, 1 to 3",
+};
+
+const MOST: Wanted = Wanted {
+    name: "--most",
+    range: "a count of runs, 1 or more",
 };
 
 const RESERVE: Wanted = Wanted {
@@ -557,6 +567,40 @@ fn reserve_of<'a>(matches: &ArgMatches<'a>, limits: &Limits) -> Result<Option<u6
     }
 }
 
+/// How many packets are lost in one run at most.
+///
+/// # Errors
+/// That is no number from 1 to 3.
+fn any_of<'a>(matches: &ArgMatches<'a>) -> Result<u64, LabFault<'a>>
+    ensures { result_ok result ≡ any_by (rows_of (found_of matches.now)) }
+{
+    match number_of(matches, "any", ANY)? {
+        None => Ok(1),
+        Some(count) if 0 < count && count < 4 => Ok(count),
+        Some(_) => {
+            let word = first(matches, "any").unwrap_or("");
+            Err(LabFault::Number { wanted: ANY, word })
+        }
+    }
+}
+
+/// How many runs are made at most, where that is said.
+///
+/// # Errors
+/// That is no number from 1 on.
+fn most_of<'a>(matches: &ArgMatches<'a>) -> Result<Option<u64>, LabFault<'a>>
+    ensures { result_ok result ≡ most_by (rows_of (found_of matches.now)) }
+{
+    match number_of(matches, "most", MOST)? {
+        None => Ok(None),
+        Some(count) if 0 < count => Ok(Some(count)),
+        Some(_) => {
+            let word = first(matches, "most").unwrap_or("");
+            Err(LabFault::Number { wanted: MOST, word })
+        }
+    }
+}
+
 /// `sweep SCENARIO [EDITS]`
 fn sweep_of<'a>(matches: &ArgMatches<'a>) -> Result<LabTask<'a>, LabFault<'a>>
     ensures { option_map asked (result_ok result) ≡ sweep_by (rows_of (found_of matches.now)) }
@@ -564,12 +608,15 @@ fn sweep_of<'a>(matches: &ArgMatches<'a>) -> Result<LabTask<'a>, LabFault<'a>>
     let (scene, window) = (scene_of(matches)?, window_of(matches)?);
     let (kind, behind) = (kind_of(matches)?, behind_of(matches)?);
     let share = share_of(matches)?;
+    let (any, most) = (any_of(matches)?, most_of(matches)?);
     let limits = limits_of(matches)?;
     let options = SweepOptions {
         window,
         kind,
         damage: is_on(matches, "damage"),
         behind,
+        any,
+        most,
         changed: is_on(matches, "changed"),
         share,
         reserve: reserve_of(matches, &limits)?,

@@ -263,6 +263,19 @@ standard error. A terminal is shown there how far it is.
                 "all, 1 to 8",
             ],
         ),
+        Value(
+            "any",
+            "K",
+            &[
+                "loses each set of up to K of these packets too, 1 to 3: the second is",
+                "one that starts behind the first in the run in which that is lost",
+            ],
+        ),
+        Value(
+            "most",
+            "N",
+            &["makes N runs at most, and tells where sets of packets are left"],
+        ),
         Flag(
             "changed",
             &["only the lines of packets whose loss makes a difference"],

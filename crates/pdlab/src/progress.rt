@@ -11,20 +11,20 @@ use std::time::{Duration, Instant};
 /// The least milliseconds between two words of how far it is.
 const PAUSE: u128 = 100;
 
-/// How many packets will be tried, and how many lines stand before theirs.
+/// How many runs will be made, where that is known before, and how many lines stand before theirs.
 #[derive(Clone, Copy, Debug)]
-pub struct Packets {
-    pub total: u64,
+pub struct Expected {
+    pub total: Option<u64>,
     pub heads: u64,
 }
 
-/// Passes the lines of a sweep on, and tells a terminal how many of so many packets were tried, ten times a second at most.
+/// Passes the lines of a sweep on, and tells a terminal how many runs were made, ten times a second at most.
 #[derive(Drop)]
 pub struct Watched<'a, W, C, E> {
     pub lines: W,
     clock: &'a C,
     terminal: &'a E,
-    packets: Packets,
+    expected: Expected,
     told_of: u64,
     began: Instant,
     told: Instant,
@@ -48,15 +48,15 @@ impl<'a, W: TextOut, C: Clock, E: Print> TextOut for Watched<'a, W, C, E> {
 }
 
 impl<'a, W: TextOut, C: Clock, E: Print> Watched<'a, W, C, E> {
-    /// What lines of so many packets go through, from a time on.
-    pub fn of(lines: W, clock: &'a C, terminal: &'a E, packets: Packets, began: Instant) -> Self
+    /// What lines of so many runs go through, from a time on.
+    pub fn of(lines: W, clock: &'a C, terminal: &'a E, expected: Expected, began: Instant) -> Self
         ensures { result.lines ≡ lines }
     {
         Watched {
             lines,
             clock,
             terminal,
-            packets,
+            expected,
             told_of: 0,
             began,
             told: began,
@@ -74,39 +74,42 @@ impl<'a, W: TextOut, C: Clock, E: Print> Watched<'a, W, C, E> {
         }
     }
 
-    /// Tells how far the sweep is, where that was told some time ago and packets are left.
+    /// Tells how far the sweep is, where that was told some time ago and runs are left.
     fn tell(&mut self)
         ensures { self.new.lines ≡ self.old.lines }
     {
         let Ok(now) = Instant::now(self.clock) else {
             return;
         };
-        let done = self.told_of.saturating_sub(self.packets.heads);
-        if done >= self.packets.total {
+        let done = self.told_of.saturating_sub(self.expected.heads);
+        if self.expected.total.is_some_and(|total| done >= total) {
             self.erase();
         } else if now.duration_since(self.told).as_millis() >= PAUSE {
             self.show(done, now);
         }
     }
 
-    /// Shows how many packets were tried by now, in place of what the terminal shows.
+    /// Shows how many runs were made by now, in place of what the terminal shows.
     fn show(&mut self, done: u64, now: Instant)
         ensures { self.new.lines ≡ self.old.lines }
     {
         self.erase();
-        let total = self.packets.total;
-        let seconds = seconds_left(now.duration_since(self.began), done, total);
-        let _ = print!(self.terminal;
-            "{} of {} packets, {seconds} s left",
-            Grouped(done),
-            Grouped(total)
-        );
+        let passed = now.duration_since(self.began);
+        let _ = match self.expected.total {
+            Some(total) => print!(self.terminal;
+                "{} of {} packets, {} s left",
+                Grouped(done),
+                Grouped(total),
+                seconds_left(passed, done, total)
+            ),
+            None => print!(self.terminal; "{} runs, {} s", Grouped(done), passed.as_secs()),
+        };
         self.told = now;
         self.is_shown = true;
     }
 }
 
-/// How many packets were tried, by what a sweep writes: each has a line, or is told by no byte where it has none.
+/// How many runs were made, by what a sweep writes: each has a line, or is told by no byte where it has none.
 fn packets_in(bytes: &[u8], count: usize) -> u64 {
     if bytes.is_empty() {
         1

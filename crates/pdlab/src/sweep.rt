@@ -3,7 +3,7 @@
 use crate::Ending;
 use crate::fault::{output, tell};
 use crate::opened::{Opened, open, reaches, tell_scene};
-use crate::progress::{Packets, Watched};
+use crate::progress::{Expected, Watched};
 use pd_device::{BenchFault, TextOut, write_all};
 use pd_port::Meter;
 use pd_sweep::{
@@ -31,6 +31,8 @@ fn campaign_of(options: &SweepOptions) -> Campaign {
             Loss::Lost
         },
         behind: u8::try_from(options.behind).unwrap_or(u8::MAX),
+        any: u8::try_from(options.any).unwrap_or(1),
+        most: options.most.unwrap_or(u64::MAX),
         reserve: options.reserve,
     }
 }
@@ -171,7 +173,7 @@ fn task_of<R: Alloc<A = Global>, E: Print>(
     })
 }
 
-/// How many packets a task tries.
+/// How many packets a task loses alone.
 ///
 /// # Errors
 /// Something kept them from being counted; that is told.
@@ -180,11 +182,68 @@ fn tried_of<R: Alloc<A = Global>, E: Print>(
     errors: &E,
     opened: &Opened<'_>,
     task: &Task,
-) -> Result<usize, Ending> {
+) -> Result<u64, Ending> {
     match task.part {
-        None => packets_of(rt, errors, opened, &task.campaign.choice),
-        Some(part) => Ok(part.count),
+        None => Ok(packets_of(rt, errors, opened, &task.campaign.choice)? as u64),
+        Some(part) => Ok(part.count as u64),
     }
+}
+
+/// How many runs a task makes, where that is known before.
+///
+/// # Errors
+/// Something kept the packets from being counted; that is told.
+fn expected_of<R: Alloc<A = Global>, E: Print>(
+    rt: &R,
+    errors: &E,
+    opened: &Opened<'_>,
+    task: &Task,
+) -> Result<Option<u64>, Ending> {
+    if task.campaign.any > 1 {
+        return Ok(None);
+    }
+    let packets = tried_of(rt, errors, opened, task)?;
+    Ok(Some(packets.min(task.campaign.most)))
+}
+
+/// The most runs that a sweep of sets makes unasked.
+const MANY: u128 = 1_000_000;
+
+/// About how many sets of up to so many packets there are, of so many in all: as if each run had the same packets.
+fn sets_among(packets: u64, any: u8) -> u128 {
+    let all = u128::from(packets);
+    let pairs = all.saturating_mul(all.saturating_sub(1)) / 2;
+    let threes = pairs.saturating_mul(all.saturating_sub(2)) / 3;
+    match any {
+        0 | 1 => all,
+        2 => all.saturating_add(pairs),
+        _ => all.saturating_add(pairs).saturating_add(threes),
+    }
+}
+
+/// Keeps a sweep of sets from taking days: where there are more than a million, the words have to say how many are tried.
+///
+/// # Errors
+/// They don't; that is told.
+fn few_enough<R: Alloc<A = Global>, E: Print>(
+    rt: &R,
+    errors: &E,
+    opened: &Opened<'_>,
+    task: &Task,
+    options: &SweepOptions,
+) -> Result<(), Ending> {
+    if task.campaign.any < 2 || options.most.is_some() {
+        return Ok(());
+    }
+    let runs = sets_among(tried_of(rt, errors, opened, task)?, task.campaign.any);
+    if runs <= MANY {
+        return Ok(());
+    }
+    let _ = println!(errors;
+        "--any {}: that is some {runs} runs; --most N makes N of them, and --port, --from, --to and --kind choose fewer packets",
+        options.any
+    );
+    Err(Ending::Usage)
 }
 
 /// Makes a sweep, and shows on a terminal how far it is.
@@ -197,14 +256,14 @@ fn watched_tally<R: Print + Clock + Alloc<A = Global>, E: Print>(
     opened: &Opened<'_>,
     task: &Task,
 ) -> Result<Tally, Ending> {
-    let packets = Packets {
-        total: tried_of(rt, errors, opened, task)? as u64,
+    let expected = Expected {
+        total: expected_of(rt, errors, opened, task)?,
         heads: heads(task.look.form),
     };
     let Ok(began) = Instant::now(rt) else {
         return tally_of(rt, errors, opened, task);
     };
-    let mut out = Watched::of(output(rt), rt, errors, packets, began);
+    let mut out = Watched::of(output(rt), rt, errors, expected, began);
     match swept(rt, opened, task, &mut out) {
         Ok(tally) => Ok(tally),
         Err(_) if out.lines.writer.is_closed => Err(Ending::Closed),
@@ -291,6 +350,7 @@ pub fn sweep<R: Files + Input + Print + Clock + Alloc<A = Global>, E: Print + Is
     let opened = open(rt, errors, scene)?;
     reaches(rt, errors, &opened, options.window.from)?;
     let task = task_of(rt, errors, &opened, options)?;
+    few_enough(rt, errors, &opened, &task, options)?;
     let tally = if errors.is_terminal() {
         watched_tally(rt, errors, &opened, &task)?
     } else {

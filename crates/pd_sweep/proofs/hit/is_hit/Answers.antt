@@ -11,5 +11,5 @@ is_hit_from-requires g c =
     let t = c.args.target.now in
     let first : c.first_disturbance-first.result ≡ first_disturbance v.events t.port t.at =
     c.first_disturbance-first.ensures ∙ ap (λ (l : List ScenarioEvent). first_disturbance l t.port t.at) c.events.ensures.value in
-    let quiet = subst (IsQuietBefore (plan_of v) t.port) (sym first) (quiet_scenario v t) in
+    let quiet = subst (IsQuietBefore (plan_of v) t.port) (sym first) (quiet_scenario v t.port t.at) in
     (lit< tt, ((plan_of v, c.requires, quiet), rw first (first_soon t.port v.events t.at)))

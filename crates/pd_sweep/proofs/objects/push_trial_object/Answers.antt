@@ -7,4 +7,4 @@ pub returns : goal.returns
 unfolding trial_object
 returns c =
     joined_four _ _ _ _ _ (codes "{\"kind\":\"packet\"") _ _ (codes "}\n") c.in_ok-extend_from_slice.ensures.items
-    c.in_ok-push_packet_members.ensures c.in_ok-push_outcome.ensures c.in_ok-extend_from_slice-2.ensures.items
+    c.in_ok-push_packets_members.ensures c.in_ok-push_outcome.ensures c.in_ok-extend_from_slice-2.ensures.items

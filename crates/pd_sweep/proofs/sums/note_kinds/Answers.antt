@@ -1,4 +1,4 @@
-use Rattle.std.proofs.Common.{◌≡◌, ◌+◌, ap, sym, ◌∙◌, add-one, arith, take, get_or, set, List}
+use Rattle.std.proofs.Common.{◌≡◌, ap, sym, ◌∙◌, add-one, arith, take, get_or, set, List}
 use Rattle.pd_header.specs.declared.kind.Kind.TheVariants.{GoodCrc}
 use Rattle.pd_sweep.specs.Sums.{kinds, noted_kinds, noted_of}
 use Rattle.pd_sweep.specs.Tallies.{no_trial}

@@ -6,5 +6,5 @@ pub returns : goal.returns
 returns c =
     joined_eight _ _ _ _ _ _ _ _ _ _ _ _ (codes " on port ") _ (codes ", ") _ (codes "\n") c.in_ok-extend_from_slice.ensures.items
     c.in_ok-push_number.ensures c.in_ok-extend_from_slice-2.ensures.items c.in_ok-extend_from_slice-3.ensures.items
-    c.in_ok-push_number-2.ensures c.in_ok-extend_from_slice-4.ensures.items c.in_ok-push_packet.ensures
+    c.in_ok-push_number-2.ensures c.in_ok-extend_from_slice-4.ensures.items c.in_ok-push_packets.ensures
     c.in_ok-extend_from_slice-5.ensures.items
