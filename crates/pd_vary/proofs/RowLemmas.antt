@@ -15,16 +15,18 @@ use Rattle.pd_scenario.specs.Scenarios.{ScenarioData}
 use Rattle.pd_vary.specs.Rows.{all_hold}
 use Rattle.pd_vary.specs.Sets.{rows_of}
 use Rattle.pd_vary.specs.Tellings.{head, summary}
-use Rattle.pd_vary.specs.Varies.{AreInTurn, BeganRows, IsRow, WroteRows, holding, last_of, sets_of, texts_of, told_of}
+use Rattle.pd_vary.specs.Varies.{AreInTurn, BeganRows, IsRow, WroteRows, holding, kept_of, kept_of_row, last_of, sets_of, texts_of, told_of}
+use Rattle.pd_vary.specs.declared.outcome.Outcome.{Outcome}
 use Rattle.pd_vary.specs.declared.walk.Question.{Question}
 use Rattle.pd_vary.specs.declared.walk.Row.{Row}
 
--- so many rows were told, and in so many of them all that is expected holds
-pub record Progress (n : ℕ) (c : ScenarioData) (q : Question) (place all : ℕ) (a b : Option (List ℕ)) : Type 0 where
+-- so many rows were told, in so many of them all that is expected holds, and these are kept
+pub record Progress (n : ℕ) (c : ScenarioData) (q : Question) (place all : ℕ) (kept : List Outcome) (a b : Option (List ℕ)) : Type 0 where
   pub rows : List Row
   pub count : length rows ≡ place
   pub holding_is : all ≡ holding rows
   pub each : AreInTurn (IsRow n c q) 0 rows
+  pub kept_are : kept ≡ kept_of q rows
   pub appends : Appends a b (texts_of q rows)
 
 turn_more : (P : ℕ → Row → Type 0) (place : ℕ) (rows : List Row) (row : Row) → AreInTurn P place rows
@@ -51,12 +53,13 @@ module _ (n : ℕ) (c : ScenarioData) (q : Question) where
   none_told = tt
 
   -- what stands before the first row
-  pub progress_none : (a b : Option (List ℕ)) → Appends a b first → Progress n c q 0 0 a b
-  progress_none a b wrote = record {
+  pub progress_none : (a b : Option (List ℕ)) (kept : List Outcome) → kept ≡ [] → Appends a b first → Progress n c q 0 0 kept a b
+  progress_none a b kept none wrote = record {
     rows = [];
     count = refl;
     holding_is = refl;
     each = none_told;
+    kept_are = none;
     appends = rw (append-nil first) wrote;
   }
 
@@ -75,13 +78,21 @@ module _ (n : ℕ) (c : ScenarioData) (q : Question) where
       let here : place ≡ 0 + length rows = omega (arith, count) in
       turn_more (IsRow n c q) 0 rows row each (subst (λ k. IsRow n c q k row) here is)
 
-  pub progress_more : (place all more : ℕ) (a b d : Option (List ℕ)) (row : Row) → Progress n c q place all a b → IsRow n c q place row
-      → more ≡ all + cond (all_hold row.outcome) 1 0 → Appends b d row.text.items → Progress n c q (place + 1) more a d
-  progress_more place all more a b d row p is counted wrote = record {
+  -- what is kept of one more row
+  kept_more : (rows : List Row) (row : Row) → kept_of q (rows ++ row ∷ []) ≡ kept_of q rows ++ kept_of_row q.keeps row
+  kept_more rows row =
+      flat_map-append (kept_of_row q.keeps) rows (row ∷ [])
+      ∙ ap (λ (v : List Outcome). kept_of q rows ++ v) (append-nil (kept_of_row q.keeps row))
+
+  pub progress_more : (place all more : ℕ) (kept after : List Outcome) (a b d : Option (List ℕ)) (row : Row)
+      → Progress n c q place all kept a b → IsRow n c q place row → more ≡ all + cond (all_hold row.outcome) 1 0
+      → after ≡ kept ++ kept_of_row q.keeps row → Appends b d row.text.items → Progress n c q (place + 1) more after a d
+  progress_more place all more kept after a b d row p is counted keeps wrote = record {
     rows = p.rows ++ row ∷ [];
     count = count_more place p.rows row p.count;
     holding_is = counted ∙ ap (λ k. k + cond (all_hold row.outcome) 1 0) p.holding_is ∙ sym (holding_more p.rows row);
     each = each_more place p.rows row p.count p.each is;
+    kept_are = keeps ∙ ap (λ (v : List Outcome). v ++ kept_of_row q.keeps row) p.kept_are ∙ sym (kept_more p.rows row);
     appends = rw (texts_push p.rows row) (Appends-trans a b d (texts_of q p.rows) row.text.items p.appends wrote);
   }
 
@@ -99,9 +110,9 @@ module _ (n : ℕ) (c : ScenarioData) (q : Question) where
   }
 
   -- so many rows, and no more
-  pub began_so_far : (place all : ℕ) (a b : Option (List ℕ)) → place ≤ rows_of (sets_of q) → Progress n c q place all a b
-      → BeganRows n c q a b
-  began_so_far place all a b there p = record {
+  pub began_so_far : (place all : ℕ) (kept : List Outcome) (a b : Option (List ℕ)) → place ≤ rows_of (sets_of q)
+      → Progress n c q place all kept a b → BeganRows n c q a b
+  began_so_far place all kept a b there p = record {
     rows = p.rows;
     some = (let e : length p.rows ≤ rows_of (sets_of q) = omega (arith, p.count, there) in e);
     each = p.each;
@@ -111,9 +122,9 @@ module _ (n : ℕ) (c : ScenarioData) (q : Question) where
   }
 
   -- a row that is written in part
-  pub began_torn : (place all : ℕ) (a b d : Option (List ℕ)) (row : Row) → place < rows_of (sets_of q) → Progress n c q place all a b
-      → IsRow n c q place row → WrotePart b d row.text.items → BeganRows n c q a d
-  began_torn place all a b d row there p is part = record {
+  pub began_torn : (place all : ℕ) (kept : List Outcome) (a b d : Option (List ℕ)) (row : Row) → place < rows_of (sets_of q)
+      → Progress n c q place all kept a b → IsRow n c q place row → WrotePart b d row.text.items → BeganRows n c q a d
+  began_torn place all kept a b d row there p is part = record {
     rows = p.rows ++ row ∷ [];
     some =
         (let e : length (p.rows ++ row ∷ []) ≤ rows_of (sets_of q) = omega (arith, count_more place p.rows row p.count, there) in e);
@@ -133,9 +144,9 @@ module _ (n : ℕ) (c : ScenarioData) (q : Question) where
       ∙ ap (λ k. summary q.form q.wheres.now place k) (sym holding_is)
 
   -- the summary is written in part
-  pub began_last : (place count all : ℕ) (a b d : Option (List ℕ)) → place ≡ count → count ≡ rows_of (sets_of q)
-      → Progress n c q place all a b → WrotePart b d (summary q.form q.wheres.now count all) → BeganRows n c q a d
-  began_last place count all a b d end whole p part = record {
+  pub began_last : (place count all : ℕ) (kept : List Outcome) (a b d : Option (List ℕ)) → place ≡ count → count ≡ rows_of (sets_of q)
+      → Progress n c q place all kept a b → WrotePart b d (summary q.form q.wheres.now count all) → BeganRows n c q a d
+  began_last place count all kept a b d end whole p part = record {
     rows = p.rows;
     some = (let e : length p.rows ≤ rows_of (sets_of q) = omega (arith, p.count, end, whole) in e);
     each = p.each;
@@ -145,12 +156,13 @@ module _ (n : ℕ) (c : ScenarioData) (q : Question) where
   }
 
   -- all
-  pub wrote_rows : (place all : ℕ) (a b d : Option (List ℕ)) → place ≡ rows_of (sets_of q) → Progress n c q place all a b
-      → Appends b d (summary q.form q.wheres.now place all) → WroteRows n c q a d
-  wrote_rows place all a b d whole p wrote = record {
+  pub wrote_rows : (place all : ℕ) (kept : List Outcome) (a b d : Option (List ℕ)) → place ≡ rows_of (sets_of q)
+      → Progress n c q place all kept a b → Appends b d (summary q.form q.wheres.now place all) → WroteRows n c q kept a d
+  wrote_rows place all kept a b d whole p wrote = record {
     rows = p.rows;
     all = p.count ∙ whole;
     each = p.each;
+    kept_are = p.kept_are;
     appends =
         Appends-trans a b d (texts_of q p.rows) (last_of q p.rows) p.appends
         (subst (λ t. Appends b d t) (sym (last_is place all p.rows whole p.count p.holding_is)) wrote);

@@ -1,5 +1,5 @@
 -- What is written of all rows.
-use Rattle.std.specs.Prelude.{◌≡◌, ◌≤◌, ℕ, ◌+◌, ◌==◌, List, [], ◌∷◌, ◌++◌, ◌⊎◌, length, map, if◌then◌else◌}
+use Rattle.std.specs.Prelude.{◌≡◌, ◌≤◌, ℕ, ◌+◌, ◌==◌, Bool, List, [], ◌∷◌, ◌++◌, ◌⊎◌, length, map, if◌then◌else◌}
 use Rattle.std.specs.Prelude.{Option, None, Some, Result, Ok, Err}
 use Rattle.std.specs.List.{count_by, flat_map}
 use Rattle.std.specs.Io.KnownBytes.{Appends}
@@ -10,6 +10,8 @@ use Rattle.pd_sweep.specs.Sweeps.{CountsSweep}
 use Rattle.pd_vary.specs.Rows.{IsOutcome, all_hold, lines_with, made}
 use Rattle.pd_vary.specs.Sets.{SetData, few_rows, rows_of, set_data, values_at}
 use Rattle.pd_vary.specs.Tellings.{head, row_text, summary}
+use Rattle.pd_vary.specs.declared.outcome.Outcome.{Outcome}
+use Rattle.pd_vary.specs.declared.walk.Kept.{Kept}
 use Rattle.pd_vary.specs.declared.walk.Question.{Question}
 use Rattle.pd_vary.specs.declared.walk.Row.{Row}
 
@@ -49,11 +51,19 @@ last_of q rows =
 abbrev pub told_of : Question → List Row → List ℕ
 told_of q rows = texts_of q rows ++ last_of q rows
 
--- all rows in their order were written
-pub record WroteRows (n : ℕ) (c : ScenarioData) (q : Question) (old new : Option (List ℕ)) : Type 0 where
+-- what comes of each is kept, where it is to be
+abbrev pub kept_of_row : Bool → Row → List Outcome
+kept_of_row keeps row = if keeps then row.outcome ∷ [] else []
+
+abbrev pub kept_of : Question → List Row → List Outcome
+kept_of q rows = flat_map (kept_of_row q.keeps) rows
+
+-- all rows in their order were written, and these kept
+pub record WroteRows (n : ℕ) (c : ScenarioData) (q : Question) (kept : List Outcome) (old new : Option (List ℕ)) : Type 0 where
   pub rows : List Row
   pub all : length rows ≡ rows_of (sets_of q)
   pub each : AreInTurn (IsRow n c q) 0 rows
+  pub kept_are : kept ≡ kept_of q rows
   pub appends : Appends old new (told_of q rows)
 
 -- some first bytes of what is told of the first of them were
@@ -63,14 +73,15 @@ pub record BeganRows (n : ℕ) (c : ScenarioData) (q : Question) (old new : Opti
   pub each : AreInTurn (IsRow n c q) 0 rows
   pub wrote : WrotePart old new (told_of q rows)
 
--- so many rows were told; there are more than a million, and none was; or a fault, before the first byte or later
-abbrev pub Varies : ℕ → ScenarioData → Question → Result (Option ℕ) BenchFault → Option (List ℕ) → Option (List ℕ) → Type 0
-Varies n c q (Ok (Some rows)) old new = (few_rows (sets_of q) ≡ Some rows) × WroteRows n c q old new
+-- all rows were told; there are more than a million, and none was; or a fault, before the first byte or later
+abbrev pub Varies : ℕ → ScenarioData → Question → Result (Option Kept) BenchFault → Option (List ℕ) → Option (List ℕ) → Type 0
+Varies n c q (Ok (Some kept)) old new =
+    (few_rows (sets_of q) ≡ Some (rows_of (sets_of q))) × WroteRows n c q kept.outcomes.items old new
 Varies n c q (Ok None) old new = (few_rows (sets_of q) ≡ None) × (new ≡ old)
 Varies n c q (Err fault) old new = (new ≡ old) ⊎ BeganRows n c q old new
 
 -- the same, and the count of failed writes says whether one failed
-pub record VariesScene (q : Question) (n : ℕ) (s : ScenarioData) (result : Result (Option ℕ) BenchFault) (taken taken' : Option (List ℕ))
+pub record VariesScene (q : Question) (n : ℕ) (s : ScenarioData) (result : Result (Option Kept) BenchFault) (taken taken' : Option (List ℕ))
     (writes writes' : ℕ) : Type 0 where
   pub text : Varies n s q result taken taken'
   pub counts : CountsSweep result writes writes'

@@ -23,5 +23,6 @@ pub use pd_scene::{Refused, SceneFault};
 pub use pd_sweep::Form;
 pub use read::read_set;
 pub use set::{EditSet, SetFault, Values, few_rows};
+pub use tell::{ask_words, unit_of};
 pub use texts::vary_text;
-pub use walk::{Question, vary};
+pub use walk::{Kept, Question, vary};

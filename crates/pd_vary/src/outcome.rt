@@ -40,7 +40,7 @@ pub enum Outcome {
 
 impl Outcome {
     /// Whether all conditions hold of the row's run.
-    pub(crate) fn all_hold(&self) -> bool
+    pub fn all_hold(&self) -> bool
         ensures { result ≡ all_hold self.now }
     {
         match self {

@@ -25,7 +25,7 @@ fn first_unit(rows: &[Row]) -> Option<Unit>
 }
 
 /// The unit of what may stand behind these words of a line, where it has one.
-fn unit_behind(before: &[u8]) -> Option<Unit>
+pub(crate) fn unit_behind(before: &[u8]) -> Option<Unit>
     ensures { result ≡ unit_behind before.now }
 {
     first_unit(stop_of(before).rows())

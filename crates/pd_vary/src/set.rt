@@ -1,9 +1,12 @@
 //! Edit lines with a place in them, and the values that stand there in turn.
 
 ghost use Rattle.std.specs.Prelude.{◌≡◌, ◌++◌, ◌∷◌, ◌/◌, ◌<◌, ◌≤◌, [], IfOk, IfSome, OnOk, map};
-ghost use Rattle.pd_vary.specs.Sets.{count_of, few_rows, line_with, rows_of, set_data, value_at, values_at, values_data};
+ghost use Rattle.pd_vary.specs.Sets.{all_values, count_of, few_rows, line_with, rows_of, set_data, unit_behind, value_at, values_at};
+ghost use Rattle.pd_vary.specs.Sets.{values_data};
 
+use crate::read::unit_behind;
 use pd_sweep::push_wide;
+use pd_units::Unit;
 use std::alloc::{AllocError, Global};
 use thiserror::Error;
 
@@ -89,6 +92,35 @@ impl Values {
 }
 
 impl EditSet {
+    /// How many values there are.
+    pub fn count(&self) -> u64
+        ensures { result ≡ count_of (set_data self.now).values }
+    {
+        self.values.count()
+    }
+
+    /// The unit of the values, where they have one.
+    pub fn unit(&self) -> Option<Unit>
+        ensures { result ≡ unit_behind (set_data self.now).before }
+    {
+        unit_behind(self.before.as_slice())
+    }
+
+    /// The values as they stand in the place.
+    ///
+    /// # Errors
+    /// There is no memory for them.
+    pub fn texts(&self, alloc: Global) -> Result<Vec<Vec<u8>>, AllocError>
+        ensures { IfOk result (λ texts. map (λ text. text.items) texts.items ≡ all_values (set_data self.now).values) }
+    {
+        let mut texts = Vec::new(alloc);
+        for place in 0..self.count() {
+            let text = value_at(alloc, self, place)?;
+            texts.push(text)?;
+        }
+        Ok(texts)
+    }
+
     /// Writes the line with a value in its place.
     ///
     /// # Errors

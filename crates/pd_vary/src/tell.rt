@@ -37,7 +37,7 @@ pub(crate) fn name_of(what: What) -> &'static [u8]
     }
 }
 
-fn unit_of(what: What) -> Unit
+pub fn unit_of(what: What) -> Unit
     ensures { result ≡ unit_of what }
 {
     match what {
@@ -92,7 +92,10 @@ fn push_key(text: &mut Vec<u8>, name: &[u8]) -> Result<(), AllocError>
 }
 
 /// What is asked, in words.
-fn ask_words(alloc: Global, ask: Ask) -> Result<Vec<u8>, AllocError>
+///
+/// # Errors
+/// There is no memory for it.
+pub fn ask_words(alloc: Global, ask: Ask) -> Result<Vec<u8>, AllocError>
     ensures { IfOk result (λ words. words.items ≡ ask_words ask) }
 {
     let mut words = Vec::new(alloc);

@@ -5,7 +5,7 @@ ghost use Rattle.pd_scene.specs.Scene.{EditedScene};
 ghost use Rattle.pd_vary.specs.Conditions.{asked_port};
 ghost use Rattle.pd_vary.specs.Varies.{VariesScene};
 
-use crate::{Question, vary};
+use crate::{Kept, Question, vary};
 use pd_device::{BenchFault, TextOut};
 use pd_port::Meter;
 use pd_run::{Plain, Runner};
@@ -20,7 +20,7 @@ struct Varying<'a> {
 }
 
 impl<'w, W: TextOut> Job<Outlet<'w, W, Meter>> for Varying<'_> {
-    type Answer = Option<u64>;
+    type Answer = Option<Kept>;
 
     ghost needs = { λ j. asked_port j.question.now.asks.now j.question.now.wheres.now };
 
@@ -39,7 +39,7 @@ impl<'w, const N: usize, W: TextOut> JobOn<N, Outlet<'w, W, Meter>> for Varying<
         alloc: Global,
         scenario: Scenario<N>,
         to: &mut Outlet<'w, W, Meter>,
-    ) -> Result<Option<u64>, BenchFault>
+    ) -> Result<Option<Kept>, BenchFault>
         ensures { SameEnds to.old to.new
             × VariesScene self.now.question.now N scenario.entry result
             (W.taken to.old.writer.now) (W.taken to.new.writer.now) (W.failures to.old.writer.now) (W.failures to.new.writer.now) }
@@ -70,7 +70,7 @@ pub fn vary_text<W: TextOut>(
     question: &Question<'_>,
     writer: &mut W,
     meter: &mut Meter,
-) -> Result<Option<u64>, SceneFault>
+) -> Result<Option<Kept>, SceneFault>
     ensures { EditedScene refused (asked_port question.now.asks.now question.now.wheres.now) (λ n s r old new.
         VariesScene question.now n s r (W.taken old) (W.taken new) (W.failures old) (W.failures new))
         script.now result text.now writer.old writer.new }

@@ -10,7 +10,7 @@ ghost use Rattle.pd_vary.specs.Conditions.{asked_port};
 ghost use Rattle.pd_vary.specs.Rows.{all_hold, lines_with};
 ghost use Rattle.pd_vary.specs.Sets.{rows_of, set_data, values_at};
 ghost use Rattle.pd_vary.specs.Tellings.{columns, head, row_text, summary};
-ghost use Rattle.pd_vary.specs.Varies.{IsRow, Varies};
+ghost use Rattle.pd_vary.specs.Varies.{IsRow, Varies, kept_of_row};
 
 use crate::condition::asked_port;
 use crate::outcome::{outcome_of, push_lines};
@@ -24,13 +24,15 @@ use pd_scenario::Scenario;
 use pd_sweep::Base;
 use std::alloc::{AllocError, Global};
 
-/// What is varied, what is asked of each run, what is expected of it, and in which form that is told.
+/// What is varied, what is asked of each run, what is expected of it, in which form that is told, and whether what comes of the rows is
+/// kept.
 #[derive(Clone, Copy)]
 pub struct Question<'a> {
     pub sets: &'a [EditSet],
     pub asks: &'a [Ask],
     pub wheres: &'a [Condition<'a>],
     pub form: Form,
+    pub keeps: bool,
 }
 
 impl Question<'_> {
@@ -47,6 +49,12 @@ impl Question<'_> {
 pub(crate) struct Row {
     outcome: Outcome,
     text: Vec<u8>,
+}
+
+/// What comes of the rows in their order, where that is kept.
+#[derive(Drop)]
+pub struct Kept {
+    pub outcomes: Vec<Outcome>,
 }
 
 /// The values of a row.
@@ -194,10 +202,25 @@ fn counted(holding: u64, outcome: &Outcome) -> u64
     }
 }
 
+/// Keeps what comes of a row, where that is wanted.
+fn keep(outcomes: &mut Vec<Outcome>, keeps: bool, row: Row) -> Result<(), BenchFault>
+    ensures kept { OnOk result (outcomes.new.items ≡ outcomes.old.items ++ kept_of_row keeps row) }
+    ensures memory { IfErr result (λ fault. fault ≡ no_memory) }
+{
+    if !keeps {
+        return Ok(());
+    }
+    let Row { outcome, text: _ } = row;
+    match outcomes.push(outcome) {
+        Ok(()) => Ok(()),
+        Err(_) => Err(BenchFault::Memory),
+    }
+}
+
 /// Makes each combination of the values of some sets, in turn, in which the first set's turn slowest: makes the edits of its lines on a
 /// scenario, runs what they leave, and writes what is asked of that run, beside the run of the scenario itself, and whether each
 /// condition holds of it; or which edit is refused, and why, and runs nothing. Where there are conditions, it writes last in how many
-/// rows all hold. Answers how many rows there are; none, and writes nothing, where these are more than a million.
+/// rows all hold. Answers what comes of the rows, where that is kept; none, and writes nothing, where these are more than a million.
 ///
 /// # Errors
 /// `Memory` where there is none, `WriteFailed` where the writer failed or took no byte; the first few bytes of the text have gone out.
@@ -208,7 +231,7 @@ pub fn vary<const N: usize, T: Runner<N>, W: TextOut>(
     question: &Question<'_>,
     writer: &mut W,
     meter: &mut Meter,
-) -> Result<Option<u64>, BenchFault>
+) -> Result<Option<Kept>, BenchFault>
     ensures text { Varies N scenario.now question.now result (W.taken writer.old) (W.taken writer.new) }
     ensures counts { CountsSweep result (W.failures writer.old) (W.failures writer.new) }
 {
@@ -224,15 +247,16 @@ pub fn vary<const N: usize, T: Runner<N>, W: TextOut>(
         return Err(BenchFault::Memory);
     };
     write_all(writer, head.as_slice())?;
-    let mut holding = 0;
+    let (mut holding, mut outcomes) = (0, Vec::new(alloc));
     for row in 0..rows {
         let made = made_row(alloc, run, scenario, &base, question, row, rows, meter)?;
         write_all(writer, made.text.as_slice())?;
         holding = counted(holding, &made.outcome);
+        keep(&mut outcomes, question.keeps, made)?;
     }
     let Ok(last) = summary(alloc, question, rows, holding) else {
         return Err(BenchFault::Memory);
     };
     write_all(writer, last.as_slice())?;
-    Ok(Some(rows))
+    Ok(Some(Kept { outcomes }))
 }
