@@ -1,0 +1,4 @@
+mod ChainLemmas
+mod LossLemmas
+mod RankLemmas
+mod RowLemmas

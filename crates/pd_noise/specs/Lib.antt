@@ -1,0 +1,9 @@
+pub mod Draws
+pub mod EditScripts
+pub mod Laws
+pub mod Losses
+pub mod Noisies
+pub mod Ranks
+pub mod Reports
+pub mod Texts
+pub mod Worsts
