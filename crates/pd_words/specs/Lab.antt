@@ -75,7 +75,7 @@ sweep = command (codes "sweep") (must (codes "SCENARIO") ∷ may (codes "EDITS")
 
 abbrev pub vary : Shape
 vary = command (codes "vary") (must (codes "SCENARIO") ∷ may (codes "EDITS") ∷ values (codes "set") ∷ any (codes "where")
-    ∷ value (codes "tell") ∷ flag (codes "json") ∷ flag (codes "csv") ∷ keep_going ∷ [])
+    ∷ value (codes "tell") ∷ value (codes "draw") ∷ flag (codes "json") ∷ flag (codes "csv") ∷ keep_going ∷ [])
 
 abbrev pub test : Shape
 test = command (codes "test") (several (codes "SCRIPT") ∷ flag (codes "json") ∷ switch 118 (codes "verbose") ∷ value (codes "junit") ∷ [])

@@ -51,7 +51,7 @@ pub data Asked : Type 0 where
   why : Files → WhyOptions → Asked
   guarantee : Files → (json : Bool) → Asked
   sweep : Files → SweepOptions → Asked
-  vary : Files → (sets : List Text) → (wheres : List Text) → (tell : Option Text) → Form → Asked
+  vary : Files → (sets : List Text) → (wheres : List Text) → (tell : Option Text) → (draw : Option Text) → Form → Asked
   test : (scripts : List Text) → Look → Asked
   draw : Files → DrawOptions → Asked
   page : Files → (page : Option Text) → Asked
@@ -314,8 +314,8 @@ sweep_by rows = option_and_then (λ files. option_and_then (λ window. option_an
 -- `--where` may be left out
 abbrev pub vary_by : List Row → Option Asked
 vary_by rows = option_and_then (λ files. option_and_then (λ form. option_map (λ sets.
-    vary files sets (unwrap_or (all_of (codes "where") rows) []) (first_of (codes "tell") rows) form) (all_of (codes "set") rows))
-    (form_by rows)) (scene_by rows)
+    vary files sets (unwrap_or (all_of (codes "where") rows) []) (first_of (codes "tell") rows) (first_of (codes "draw") rows) form)
+    (all_of (codes "set") rows)) (form_by rows)) (scene_by rows)
 
 abbrev pub test_by : List Row → Option Asked
 test_by rows = option_and_then (λ scripts. if is_twice scripts then None else Some (test scripts (record {
@@ -405,7 +405,7 @@ asked (task.Guarantee scene json) = guarantee (files scene) json
 asked (task.Sweep scene options) = sweep (files scene) options
 asked (task.Vary scene options) =
     vary (files scene) (map (λ x. x.now) options.sets.items) (map (λ x. x.now) options.wheres.items)
-    (option_map (λ x. x.now) options.tell) options.form
+    (option_map (λ x. x.now) options.tell) (option_map (λ x. x.now) options.draw) options.form
 asked (task.Test scripts options) = test (map (λ x. x.now) scripts.items)
     (record { json = options.json; verbose = options.verbose; junit = option_map (λ x. x.now) options.junit })
 asked (task.Draw scene options) = draw (files scene) options

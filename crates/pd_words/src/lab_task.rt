@@ -95,12 +95,14 @@ pub struct SweepOptions {
     pub form: Form,
 }
 
-/// Which edit lines are varied, each with its values, what is asked of each run, and what is measured of it, where that is said.
+/// Which edit lines are varied, each with its values, what is asked of each run, what is measured of it, where that is said, and the
+/// file that a picture of that is written to, where one is named.
 #[derive(Drop)]
 pub struct VaryOptions<'a> {
     pub sets: Vec<&'a str>,
     pub wheres: Vec<&'a str>,
     pub tell: Option<&'a str>,
+    pub draw: Option<&'a str>,
     pub form: Form,
 }
 

@@ -637,13 +637,14 @@ fn vary_of<'a>(alloc: Global, matches: &ArgMatches<'a>) -> Result<LabTask<'a>, L
         return Err(LabFault::Words(None));
     };
     let wheres = all(matches, "where").unwrap_or(&[]);
-    let tell = first(matches, "tell");
+    let (tell, draw) = (first(matches, "tell"), first(matches, "draw"));
     match (sets.to_vec(alloc), wheres.to_vec(alloc)) {
         (Ok(sets), Ok(wheres)) => {
             let options = VaryOptions {
                 sets,
                 wheres,
                 tell,
+                draw,
                 form,
             };
             Ok(LabTask::Vary(scene, options))

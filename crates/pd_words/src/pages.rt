@@ -385,6 +385,15 @@ told; those in the first four lines have a port behind them, as power 1
                 "resets where it isn't given",
             ],
         ),
+        Value(
+            "draw",
+            "FILE",
+            &[
+                "writes a picture of what is told (SVG) to the file FILE, too: of",
+                "one --set lines, with 2000 values at most; of two colours, with",
+                "100 values of each at most",
+            ],
+        ),
         Flag(
             "json",
             &["a JSON object for each line, with units in its keys (_us, _mv)"],
