@@ -206,7 +206,7 @@ fn name_of(file: &str) -> &str {
 ///
 /// # Errors
 /// There is no memory.
-fn names_of(alloc: Global, scene: Scene<'_>) -> Result<String, AllocError> {
+pub fn names_of(alloc: Global, scene: Scene<'_>) -> Result<String, AllocError> {
     let scenario = name_of(scene.scenario);
     match scene.edits {
         None => String::from_str(alloc, scenario),

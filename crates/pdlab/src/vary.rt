@@ -3,11 +3,14 @@
 use crate::Ending;
 use crate::fault::{output, tell};
 use crate::opened::{Opened, open, tell_scene};
+use crate::put::put_file;
+use crate::runs::names_of;
 use pd_device::{BenchFault, write_all};
+use pd_plot::{Layout, plot};
 use pd_port::Meter;
 use pd_vary::{
-    Ask, Condition, EditSet, Form, Question, SetFault, few_rows, push_no_condition, read_asks,
-    read_condition, read_set, vary_text,
+    Ask, Condition, EditSet, Form, Kept, Question, SetFault, few_rows, push_no_condition,
+    read_asks, read_condition, read_set, vary_text,
 };
 use pd_words::{Form as Asked, Scene, VaryOptions, usage_of};
 use std::alloc::Global;
@@ -109,6 +112,34 @@ fn conditions_of<'a, R: Alloc<A = Global>, E: Print>(
     Ok(conditions)
 }
 
+/// The file that a picture is written to, and how its rows are laid out.
+#[derive(Clone, Copy)]
+struct Picture<'a> {
+    file: &'a str,
+    layout: Layout<'a>,
+}
+
+/// The picture that is drawn of the rows of sets, where one is asked for.
+///
+/// # Errors
+/// The sets have none; that is told.
+fn picture_of<'a, E: Print>(
+    errors: &E,
+    file: Option<&'a str>,
+    sets: &'a [EditSet],
+) -> Result<Option<Picture<'a>>, Ending> {
+    let Some(file) = file else {
+        return Ok(None);
+    };
+    match Layout::of(sets) {
+        Ok(layout) => Ok(Some(Picture { file, layout })),
+        Err(unfit) => {
+            let _ = println!(errors; "vary: {unfit}");
+            Err(usage(errors))
+        }
+    }
+}
+
 /// How it is told.
 fn form_of(form: Asked) -> Form {
     match form {
@@ -118,7 +149,7 @@ fn form_of(form: Asked) -> Form {
     }
 }
 
-/// Makes the rows, and writes what comes of each.
+/// Makes the rows, and writes what comes of each. Answers it, where it is kept.
 ///
 /// # Errors
 /// Something kept it from being told; that is told.
@@ -127,7 +158,7 @@ fn varied<R: Print + Alloc<A = Global>, E: Print>(
     errors: &E,
     opened: &Opened<'_>,
     question: &Question<'_>,
-) -> Result<(), Ending> {
+) -> Result<Option<Kept>, Ending> {
     let (text, script) = (opened.text.as_slice(), opened.script.as_slice());
     let (mut out, mut meter) = (output(rt), Meter::new());
     let port = question.port();
@@ -140,14 +171,42 @@ fn varied<R: Print + Alloc<A = Global>, E: Print>(
         &mut out,
         &mut meter,
     ) {
-        Ok(_) => Ok(()),
+        Ok(kept) => Ok(kept),
         Err(_) if out.writer.is_closed => Err(Ending::Closed),
         Err(fault) => Err(tell_scene(rt, errors, opened, port, fault)),
     }
 }
 
+/// Draws what comes of the rows.
+///
+/// # Errors
+/// It can't be written, or there is no memory; that is told.
+fn draw<R: Files + Alloc<A = Global>, E: Print>(
+    rt: &R,
+    errors: &E,
+    scene: Scene<'_>,
+    picture: &Picture<'_>,
+    question: &Question<'_>,
+    kept: &Kept,
+) -> Result<(), Ending> {
+    let Ok(names) = names_of(rt.alloc(), scene) else {
+        return Err(tell(errors, BenchFault::Memory));
+    };
+    match plot(
+        rt.alloc(),
+        &picture.layout,
+        question.asks,
+        !question.wheres.is_empty(),
+        kept.outcomes.as_slice(),
+        names.as_bytes(),
+    ) {
+        Ok(drawn) => put_file(rt, errors, picture.file, drawn.as_slice()),
+        Err(_) => Err(tell(errors, BenchFault::Memory)),
+    }
+}
+
 /// Makes each combination of values of edit lines on the scenario of a file, as the edits of a script leave it, and tells what is measured
-/// of its run, and whether what is expected holds.
+/// of its run, and whether what is expected holds; and draws that in a file, where one is named.
 ///
 /// # Errors
 /// Something kept it from being told; that is told.
@@ -158,6 +217,7 @@ pub fn vary<R: Files + Input + Print + Alloc<A = Global>, E: Print>(
     options: &VaryOptions<'_>,
 ) -> Result<Ending, Ending> {
     let sets = sets_of(rt, errors, options.sets.as_slice())?;
+    let picture = picture_of(errors, options.draw, sets.as_slice())?;
     let asks = asks_of(rt, errors, options.tell)?;
     let wheres = conditions_of(rt, errors, options.wheres.as_slice())?;
     let opened = open(rt, errors, scene)?;
@@ -166,7 +226,11 @@ pub fn vary<R: Files + Input + Print + Alloc<A = Global>, E: Print>(
         asks: asks.as_slice(),
         wheres: wheres.as_slice(),
         form: form_of(options.form),
+        keeps: picture.is_some(),
     };
-    varied(rt, errors, &opened, &question)?;
+    let kept = varied(rt, errors, &opened, &question)?;
+    if let (Some(picture), Some(kept)) = (&picture, &kept) {
+        draw(rt, errors, scene, picture, &question, kept)?;
+    }
     Ok(opened.ending)
 }
