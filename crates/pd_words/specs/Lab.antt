@@ -71,7 +71,8 @@ abbrev pub sweep : Shape
 sweep = command (codes "sweep") (must (codes "SCENARIO") ∷ may (codes "EDITS") ∷ value (codes "port") ∷ value (codes "from")
     ∷ value (codes "to") ∷ value (codes "kind") ∷ flag (codes "damage") ∷ value (codes "in-a-row") ∷ value (codes "any")
     ∷ value (codes "most") ∷ flag (codes "changed") ∷ value (codes "by") ∷ value (codes "part") ∷ value (codes "reserve")
-    ∷ value (codes "fail-on") ∷ flag (codes "json") ∷ flag (codes "csv") ∷ keep_going ∷ [])
+    ∷ value (codes "fail-on") ∷ value (codes "noise") ∷ value (codes "runs") ∷ value (codes "run") ∷ value (codes "seed")
+    ∷ flag (codes "as-edits") ∷ flag (codes "json") ∷ flag (codes "csv") ∷ keep_going ∷ [])
 
 abbrev pub vary : Shape
 vary = command (codes "vary") (must (codes "SCENARIO") ∷ may (codes "EDITS") ∷ values (codes "set") ∷ any (codes "where")

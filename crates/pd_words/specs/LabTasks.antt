@@ -1,8 +1,9 @@
 -- What a command line of `pdlab` asks for, by the words and options that clap finds in it (`Lab`).
-use Rattle.std.specs.Prelude.{ℕ, ◌+◌, ◌-◌, ◌^◌, ◌&&◌, ◌==◌, Bool, true, false, not, List, [], ◌∷◌, codes, bytes_eq, drop, length, map, take}
-use Rattle.std.specs.Prelude.{Option, None, Some, option_and_then, option_map, is_some, unwrap_or, count_by, nat_le, nat_lt}
+use Rattle.std.specs.Prelude.{ℕ, ◌+◌, ◌-◌, ◌*◌, ◌^◌, ◌&&◌, ◌||◌, ◌==◌, Bool, true, false, not, List, [], ◌∷◌, codes}
+use Rattle.std.specs.Prelude.{bytes_eq, count_by, drop, length, map, take, nat_le, nat_lt}
+use Rattle.std.specs.Prelude.{Option, None, Some, option_and_then, option_map, is_some, unwrap_or}
 use Rattle.std.specs.Prelude.{if◌then◌else◌}
-use Rattle.std.specs.Char.{digit_value}
+use Rattle.std.specs.Char.{digit_value, is_ascii_digit}
 use Rattle.std.specs.List.{list_all, position_from, slice_split}
 use Rattle.std.specs.Option.{option_map_or, option_or}
 use Rattle.std.specs.Str.Parse.{digits_value, without_leading_plus}
@@ -22,11 +23,13 @@ use Rattle.pd_words.specs.declared.lab_task.Form.TheVariants.{Words, Json, Csv}
 use Rattle.pd_words.specs.declared.lab_task.LabTask.{LabTask}
 use Rattle.pd_words.specs.declared.lab_task.LabTask.TheVariants as task
 use Rattle.pd_words.specs.declared.lab_task.Limits.{Limits}
+use Rattle.pd_words.specs.declared.lab_task.NoiseOptions.{NoiseOptions}
 use Rattle.pd_words.specs.declared.lab_task.Scene.{Scene}
 use Rattle.pd_words.specs.declared.lab_task.Share.{Share}
 use Rattle.pd_words.specs.declared.lab_task.ShowOptions.{ShowOptions}
 use Rattle.pd_words.specs.declared.lab_task.SweepOptions.{SweepOptions}
 use Rattle.pd_words.specs.declared.lab_task.WhyOptions.{WhyOptions}
+use Rattle.pd_words.specs.declared.noise_words.Which.{Which}
 use Rattle.pd_words.specs.declared.lab_task.Window.{Window}
 
 -- a scenario's file; an edit script's, where one is named, and whether a refused line of it is passed over; and the file that is
@@ -51,6 +54,7 @@ pub data Asked : Type 0 where
   why : Files → WhyOptions → Asked
   guarantee : Files → (json : Bool) → Asked
   sweep : Files → SweepOptions → Asked
+  noise : Files → NoiseOptions → Asked
   vary : Files → (sets : List Text) → (wheres : List Text) → (tell : Option Text) → (draw : Option Text) → Form → Asked
   test : (scripts : List Text) → Look → Asked
   draw : Files → DrawOptions → Asked
@@ -311,6 +315,96 @@ sweep_by rows = option_and_then (λ files. option_and_then (λ window. option_an
     })) (form_by rows)) (by_message_by rows)) (required_by rows)) (together_by rows)) (chosen_by rows))
     (window_by rows)) (scene_by rows)
 
+-- ---- sweep --noise
+
+abbrev pub is_given : Text → List Row → Bool
+is_given name rows = is_some (first_of name rows)
+
+-- what stands beside `--noise` alone
+abbrev pub is_of_noise : List Row → Bool
+is_of_noise rows =
+    is_given (codes "runs") rows || is_given (codes "run") rows || is_given (codes "seed") rows || is_on (codes "as-edits") rows
+
+-- what doesn't stand beside it
+abbrev pub is_word_not_of_noise : List Row → Bool
+is_word_not_of_noise rows =
+    is_given (codes "in-a-row") rows || is_given (codes "any") rows || is_given (codes "most") rows || is_given (codes "by") rows
+    || is_given (codes "part") rows || is_given (codes "reserve") rows || is_given (codes "fail-on") rows
+
+abbrev pub is_flag_not_of_noise : List Row → Bool
+is_flag_not_of_noise rows =
+    is_on (codes "damage") rows || is_on (codes "changed") rows || is_on (codes "json") rows || is_on (codes "csv") rows
+
+abbrev pub is_not_of_noise : List Row → Bool
+is_not_of_noise rows = is_word_not_of_noise rows || is_flag_not_of_noise rows
+
+-- one to three digits behind a point, in thousandths
+abbrev pub scale_of : ℕ → Option ℕ
+scale_of count = if count == 1 then Some 100 else (if count == 2 then Some 10 else (if count == 3 then Some 1 else None))
+
+abbrev pub thousandths : Text → Option ℕ
+thousandths digits = if list_all is_ascii_digit digits
+    then option_and_then (λ scale. option_map (λ n. n * scale) (number digits)) (scale_of (length digits)) else None
+
+-- more than 0 %, and 100 % at most, in thousandths of 1 %
+abbrev pub share_with : ℕ → ℕ → Option ℕ
+share_with percent part = let share = percent * 1000 + part in if nat_lt 0 share && nat_le share 100000 then Some share else None
+
+abbrev pub is_point : ℕ → Bool
+is_point byte = byte == 46
+
+abbrev pub whole_percent : Text → Option ℕ
+whole_percent word = option_and_then (λ percent. share_with percent 0) (number word)
+
+abbrev pub percent_of : Option ℕ → Option ℕ → Option ℕ
+percent_of percent part = option_and_then (λ n. option_and_then (λ m. share_with n m) part) percent
+
+abbrev pub percent_at : Text → Option ℕ → Option ℕ
+percent_at word None = whole_percent word
+percent_at word (Some place) = percent_of (number (take place word)) (thousandths (drop (place + 1) word))
+
+abbrev pub percent_in : Text → Option ℕ
+percent_in word = percent_at word (position_from is_point 0 word)
+
+-- a number from one to another, where one is given
+abbrev pub within : ℕ → ℕ → Option ℕ → Option (Option ℕ)
+within least most None = Some None
+within least most (Some n) = if nat_le least n && nat_le n most then Some (Some n) else None
+
+abbrev pub within_by : Text → ℕ → ℕ → List Row → Option (Option ℕ)
+within_by name least most rows = option_and_then (within least most) (number_of name rows)
+
+-- one run alone, or those from 1 on, 100 where nothing is asked
+abbrev pub which : Option ℕ → Option ℕ → Option Which
+which None runs = Some (record { first = 1; runs = unwrap_or runs 100 })
+which (Some run) None = Some (record { first = run; runs = 1 })
+which (Some run) (Some runs) = None
+
+abbrev pub which_by : List Row → Option Which
+which_by rows = option_and_then (λ run. option_and_then (λ runs. which run runs)
+    (within_by (codes "runs") 1 1000000 rows)) (within_by (codes "run") 1 1000000 rows)
+
+abbrev pub noise_with : List Row → Option Asked
+noise_with rows = option_and_then (λ files. option_and_then (λ window. option_and_then (λ kind. option_and_then (λ share.
+    option_and_then (λ runs. option_map (λ seed. noise files (record {
+      window = window;
+      kind = kind;
+      share = share;
+      first = runs.first;
+      runs = runs.runs;
+      seed = unwrap_or seed 1;
+      as_edits = is_on (codes "as-edits") rows;
+    })) (within_by (codes "seed") 0 (2 ^ 32 - 1) rows)) (which_by rows)) (option_and_then percent_in (first_of (codes "noise") rows)))
+    (given_by named (first_of (codes "kind") rows))) (window_by rows)) (scene_by rows)
+
+abbrev pub noise_by : List Row → Option Asked
+noise_by rows = if is_not_of_noise rows then None else noise_with rows
+
+-- each packet in turn, or packets by lot
+abbrev pub swept_by : List Row → Option Asked
+swept_by rows =
+    if is_given (codes "noise") rows then noise_by rows else (if is_of_noise rows then None else sweep_by rows)
+
 -- `--where` may be left out
 abbrev pub vary_by : List Row → Option Asked
 vary_by rows = option_and_then (λ files. option_and_then (λ form. option_map (λ sets.
@@ -368,7 +462,7 @@ asked_by found = if bytes_eq found.0 (codes "live") then live_by found.1
     else (if bytes_eq found.0 (codes "show") then show_by found.1
     else (if bytes_eq found.0 (codes "why") then why_by found.1
     else (if bytes_eq found.0 (codes "guarantee") then guarantee_by found.1
-    else (if bytes_eq found.0 (codes "sweep") then sweep_by found.1
+    else (if bytes_eq found.0 (codes "sweep") then swept_by found.1
     else (if bytes_eq found.0 (codes "vary") then vary_by found.1
     else (if bytes_eq found.0 (codes "test") then test_by found.1
     else (if bytes_eq found.0 (codes "draw") then draw_by found.1
@@ -403,6 +497,7 @@ asked (task.Show scene options) = show (files scene) options
 asked (task.Why scene options) = why (files scene) options
 asked (task.Guarantee scene json) = guarantee (files scene) json
 asked (task.Sweep scene options) = sweep (files scene) options
+asked (task.Noise scene options) = noise (files scene) options
 asked (task.Vary scene options) =
     vary (files scene) (map (λ x. x.now) options.sets.items) (map (λ x. x.now) options.wheres.items)
     (option_map (λ x. x.now) options.tell) (option_map (λ x. x.now) options.draw) options.form

@@ -95,6 +95,24 @@ pub struct SweepOptions {
     pub form: Form,
 }
 
+/// Which packets are lost by lot, in which runs, and how that is told.
+#[derive(Clone, Copy)]
+pub struct NoiseOptions {
+    /// The part of the run whose packets these are.
+    pub window: Window,
+    /// The message that all of them are of, where one is named.
+    pub kind: Option<Kind>,
+    /// How many of 100,000 packets are lost on average, 1 to 100,000.
+    pub share: u32,
+    /// The number of the first run, 1 to 1,000,000, and how many they are.
+    pub first: u32,
+    pub runs: u32,
+    /// What the lots of all runs depend on.
+    pub seed: u32,
+    /// Whether the losses of the worst run are written as an edit script.
+    pub as_edits: bool,
+}
+
 /// Which edit lines are varied, each with its values, what is asked of each run, what is measured of it, where that is said, and the
 /// file that a picture of that is written to, where one is named.
 #[derive(Drop)]
@@ -150,6 +168,8 @@ pub enum LabTask<'a> {
     Guarantee(Scene<'a>, bool),
     /// What a lost packet leads to.
     Sweep(Scene<'a>, SweepOptions),
+    /// What packets lost by lot lead to, in many runs.
+    Noise(Scene<'a>, NoiseOptions),
     /// What comes of each combination of values of edit lines.
     Vary(Scene<'a>, VaryOptions<'a>),
     /// Whether runs are as test scripts expect them.
@@ -188,6 +208,8 @@ pub enum LabFault<'a> {
     Words(Option<String>),
     /// An option that excludes another one was given with it.
     Both(&'static str, &'static str),
+    /// An option was given that stands beside another one alone, which wasn't.
+    Without(&'static str, &'static str),
     /// A part of a run is asked for that ends before it begins.
     Window(Window),
     /// A word isn't the number that is wanted there.

@@ -20,6 +20,7 @@ use crate::lab_task::{
 };
 use crate::meant::{meant_command, meant_option, topic_of};
 use crate::names::named;
+use crate::noise_words::{NOISE, RUN, RUNS, SEED, swept_of};
 use crate::task::first;
 use clap::error::ErrorKind;
 use clap::{ArgMatches, Error};
@@ -35,7 +36,7 @@ fn all<'a, 'b>(matches: &'b ArgMatches<'a>, id: &str) -> Option<&'b [&'a str]>
 }
 
 /// Whether an option is there.
-fn is_on(matches: &ArgMatches<'_>, option: &str) -> bool
+pub(crate) fn is_on(matches: &ArgMatches<'_>, option: &str) -> bool
     ensures { result ≡ is_on option.now (rows_of (found_of matches.now)) }
 {
     match first(matches, option) {
@@ -48,7 +49,7 @@ fn is_on(matches: &ArgMatches<'_>, option: &str) -> bool
 ///
 /// # Errors
 /// The word isn't decimal digits for a number below 2^64.
-fn number<'a>(word: &'a str, wanted: Wanted) -> Result<u64, LabFault<'a>>
+pub(crate) fn number<'a>(word: &'a str, wanted: Wanted) -> Result<u64, LabFault<'a>>
     ensures { result_ok result ≡ number word.now }
 {
     match word.parse::<u64>() {
@@ -113,7 +114,7 @@ fn given_quantity<'a>(
 ///
 /// # Errors
 /// As of `number`.
-fn number_of<'a>(
+pub(crate) fn number_of<'a>(
     matches: &ArgMatches<'a>,
     id: &str,
     wanted: Wanted,
@@ -263,7 +264,7 @@ fn scene_with<'a>(
 ///
 /// # Errors
 /// Both are standard input.
-fn scene_of<'a>(matches: &ArgMatches<'a>) -> Result<Scene<'a>, LabFault<'a>>
+pub(crate) fn scene_of<'a>(matches: &ArgMatches<'a>) -> Result<Scene<'a>, LabFault<'a>>
     ensures { option_map files (result_ok result) ≡ scene_by (rows_of (found_of matches.now)) }
 {
     scene_with(matches, first(matches, "EDITS"))
@@ -273,7 +274,7 @@ fn scene_of<'a>(matches: &ArgMatches<'a>) -> Result<Scene<'a>, LabFault<'a>>
 ///
 /// # Errors
 /// One of the numbers is none, or the part ends before it begins.
-fn window_of<'a>(matches: &ArgMatches<'a>) -> Result<Window, LabFault<'a>>
+pub(crate) fn window_of<'a>(matches: &ArgMatches<'a>) -> Result<Window, LabFault<'a>>
     ensures { result_ok result ≡ window_by (rows_of (found_of matches.now)) }
 {
     let port = port_of(matches)?;
@@ -305,7 +306,7 @@ fn form_of<'a>(matches: &ArgMatches<'a>) -> Result<Form, LabFault<'a>>
 ///
 /// # Errors
 /// No message has the name.
-fn kind_of<'a>(matches: &ArgMatches<'a>) -> Result<Option<Kind>, LabFault<'a>>
+pub(crate) fn kind_of<'a>(matches: &ArgMatches<'a>) -> Result<Option<Kind>, LabFault<'a>>
     ensures { result_ok result ≡ given_by named (first_of (codes "kind") (rows_of (found_of matches.now))) }
 {
     match first(matches, "kind") {
@@ -602,7 +603,7 @@ fn most_of<'a>(matches: &ArgMatches<'a>) -> Result<Option<u64>, LabFault<'a>>
 }
 
 /// `sweep SCENARIO [EDITS]`
-fn sweep_of<'a>(matches: &ArgMatches<'a>) -> Result<LabTask<'a>, LabFault<'a>>
+pub(crate) fn sweep_of<'a>(matches: &ArgMatches<'a>) -> Result<LabTask<'a>, LabFault<'a>>
     ensures { option_map asked (result_ok result) ≡ sweep_by (rows_of (found_of matches.now)) }
 {
     let (scene, window) = (scene_of(matches)?, window_of(matches)?);
@@ -780,7 +781,7 @@ fn task_of<'a>(
         "show" => show_of(matches),
         "why" => why_of(matches),
         "guarantee" => guarantee_of(matches),
-        "sweep" => sweep_of(matches),
+        "sweep" => swept_of(matches),
         "vary" => vary_of(alloc, matches),
         "test" => test_of(alloc, matches),
         "draw" => draw_of(matches),
@@ -850,6 +851,10 @@ fn wanted_behind(option: &str) -> Option<Wanted> {
         "--in-a-row" => Some(IN_A_ROW),
         "--reserve" => Some(RESERVE),
         "--part" => Some(PART),
+        "--noise" => Some(NOISE),
+        "--runs" => Some(RUNS),
+        "--run" => Some(RUN),
+        "--seed" => Some(SEED),
         _ => None,
     }
 }

@@ -7,6 +7,7 @@ mod lab_task;
 mod lab_words;
 mod meant;
 mod names;
+mod noise_words;
 mod page;
 mod pages;
 mod program;
@@ -17,8 +18,8 @@ mod tests;
 pub use help::{help_of, usage_of};
 pub use lab::VERSION;
 pub use lab_task::{
-    DecodeOptions, DrawOptions, ExplainOptions, FailOn, Form, LabFault, LabTask, Scene, Share,
-    ShowOptions, SweepOptions, TestOptions, VaryOptions, Wanted, WhyOptions, Window,
+    DecodeOptions, DrawOptions, ExplainOptions, FailOn, Form, LabFault, LabTask, NoiseOptions,
+    Scene, Share, ShowOptions, SweepOptions, TestOptions, VaryOptions, Wanted, WhyOptions, Window,
 };
 pub use lab_words::read_lab_task;
 pub use meant::{meant_command, topic_of};

@@ -58,6 +58,11 @@ do nothing, standard error says why:
   :show [PORT]       the run, as show tells it: of a port, or of all
   :warn              what the scenario is warned of, as explain warns
   :guarantee         what is sure for each port, whatever is plugged in
+  :sweep [PORT] [FROM [TO]] [all]
+                     what losing each packet leads to, as sweep tells it: each that makes
+                     a difference, or all
+  :vary SET [; SET ..] [tell NAMES]
+                     the run with values of edit lines, as vary tells it
   :test FILE         the lines of a test script that fail, and how many passed
   :save FILE         writes the scenario to a new file, which reads back as the same
   :save-edits FILE   writes the edits that led to it to a new file, a script
@@ -306,6 +311,33 @@ standard error. A terminal is shown there how far it is.
                 "hard-resets where there are more, less-power=TIME where a port has less",
                 "power for longer, and margin=POWER, which is what --reserve is",
             ],
+        ),
+        Value(
+            "noise",
+            "PERCENT",
+            &[
+                "in place of a packet in turn, each is lost by lot with this",
+                "probability, as 5 or 0.125, in many runs; tells what these come to",
+            ],
+        ),
+        Value(
+            "runs",
+            "N",
+            &["with --noise: so many runs, 1 to 1000000; 100 where it is left out"],
+        ),
+        Value(
+            "run",
+            "I",
+            &["with --noise: the run of this number alone, 1 to 1000000"],
+        ),
+        Value(
+            "seed",
+            "S",
+            &["with --noise: other lots, 0 to 4294967295; 1 where it is left out"],
+        ),
+        Flag(
+            "as-edits",
+            &["with --noise: the losses of the worst run as an edit script"],
         ),
         Flag(
             "json",

@@ -65,12 +65,21 @@ pub fn tell_no_port<R: Alloc<A = Global>, E: Print>(
     Ending::Refused
 }
 
+/// Tells that none of the packets of the run of a file was tried.
+pub fn tell_none_tried<E: Print>(errors: &E, file: &str) -> Ending {
+    let _ = println!(errors; "{file}: no packet of the run was tried");
+    Ending::Refused
+}
+
 /// Tells what is wrong with the words of the command line, where that is known.
 fn tell_wrong<E: Print>(errors: &E, fault: &LabFault<'_>) -> io::Result<()> {
     match fault {
         LabFault::Words(Some(sentence)) => errors.println(sentence.as_str()),
         LabFault::Both(one, other) => {
             println!(errors; "error: the argument '{one}' cannot be used with '{other}'")
+        }
+        LabFault::Without(one, other) => {
+            println!(errors; "error: the argument '{one}' is for '{other}', which isn't there")
         }
         LabFault::Window(window) => {
             println!(errors;

@@ -8,6 +8,7 @@ mod beside;
 mod explained;
 mod fault;
 mod log;
+mod noise;
 mod opened;
 mod page;
 mod progress;
@@ -24,6 +25,7 @@ use at_keyboard::live;
 use explained::explained;
 use fault::tell_words;
 use log::decode;
+use noise::noise;
 use page::page;
 use pd_words::{LabFault, LabTask, read_lab_task};
 use runs::{draw, guarantee, show, why};
@@ -91,6 +93,7 @@ where
         LabTask::Why(scene, options) => why(rt, errors, scene, &options),
         LabTask::Guarantee(scene, json) => guarantee(rt, errors, scene, json),
         LabTask::Sweep(scene, options) => sweep(rt, errors, scene, &options),
+        LabTask::Noise(scene, options) => noise(rt, errors, scene, &options),
         LabTask::Vary(scene, options) => vary(rt, errors, scene, &options),
         LabTask::Test(scripts, options) => test(rt, errors, scripts.as_slice(), &options),
         LabTask::Draw(scene, options) => draw(rt, errors, scene, &options),

@@ -1,7 +1,7 @@
 //! `pdlab sweep SCENARIO [EDITS]`.
 
 use crate::Ending;
-use crate::fault::{output, tell};
+use crate::fault::{output, tell, tell_none_tried};
 use crate::opened::{Opened, open, reaches, tell_scene};
 use crate::progress::{Expected, Watched};
 use pd_device::{BenchFault, TextOut, write_all};
@@ -131,7 +131,7 @@ fn tally_of<R: Print + Alloc<A = Global>, E: Print>(
 ///
 /// # Errors
 /// Something kept them from being counted; that is told.
-fn packets_of<R: Alloc<A = Global>, E: Print>(
+pub fn packets_of<R: Alloc<A = Global>, E: Print>(
     rt: &R,
     errors: &E,
     opened: &Opened<'_>,
@@ -322,8 +322,7 @@ fn ending_of<R: Alloc<A = Global>, E: Print>(
     tally: &Tally,
 ) -> Ending {
     if is_empty(task, tally) {
-        let _ = println!(errors; "{file}: no packet of the run was tried");
-        return Ending::Refused;
+        return tell_none_tried(errors, file);
     }
     let passed = limits.passed(tally);
     if !passed.is_none() {
