@@ -99,10 +99,10 @@ unfolding reasons_text
 reasons_text-long n s a b h =
     ap (λ (r : Result Line EditFault). reasons_of n s a r) h.reading ∙ reasons_of-long n s a b (line_of b) h
 
-own_none : (n : ℕ) (d : WithShelf) (file others : Option (List ℕ)) (reply told : List ℕ) (d' : WithShelf) →
-    OwnReply n d None file reply told d' → OwnReply n d None others reply told d'
-own_none n d file others reply told d' (inl h) = absurd h.0
-own_none n d file others reply told d' (inr h) = inr h
+own_none : (n : ℕ) (d : WithShelf) (line other reply told : List ℕ) (d' : WithShelf) →
+    OwnReply n d None line reply told d' → OwnReply n d None other reply told d'
+own_none n d line other reply told d' (inl h) = absurd h.0
+own_none n d line other reply told d' (inr h) = inr h
 
 colon_of-long : (line : List ℕ) → 256 < length line → colon_of line ≡ None
 colon_of-long line long = rw (lt-ltb 256 (length line) long) refl
@@ -134,7 +134,7 @@ by_colon : (t : Bool) (n : ℕ) (d : WithShelf) (a b reply told : List ℕ) (d' 
     ReplyBy t n d b reply told d' → ReplyBy t n d a reply told d'
 by_colon true n d a b reply told d' h own =
     let none = rw (colon_of-long b h.second_long) at own in
-    rw (colon_of-long a h.first_long) (own_none n d (second (words b)) (second (words a)) reply told d' none)
+    rw (colon_of-long a h.first_long) (own_none n d b a reply told d' none)
 by_colon false n d a b reply told d' h (told_reply, shelf) =
     let outcome = told_reply.0 in
     let becomes = told_reply.1 in

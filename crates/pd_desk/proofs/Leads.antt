@@ -8,7 +8,6 @@ use Rattle.std.proofs.lemmas.List.{length-append}
 use Rattle.pd_scenario.specs.Scenarios.{ScenarioData}
 use Rattle.pd_edit.specs.Refusals.{edited}
 use Rattle.pd_edit_lines.specs.Grammar.{line_of}
-use Rattle.pd_edit_lines.specs.Words.{words}
 use Rattle.pd_edit_lines.specs.declared.line.Line.{Line}
 use Rattle.pd_edit_lines.specs.declared.line.Line.TheVariants as lines_read
 use Rattle.pd_edit_lines.specs.declared.fault.EditFault.{EditFault}
@@ -20,9 +19,9 @@ use Rattle.pd_desk.specs.declared.colon.Colon.TheVariants as colon
 use Rattle.pd_desk.specs.declared.colon.Saved.TheVariants as saved
 use Rattle.pd_desk.specs.declared.colon.Saved.{Saved}
 use Rattle.pd_desk.specs.declared.own.OwnFault.{OwnFault}
-use Rattle.pd_desk.specs.Commands.{is_colon, colon_of, second}
+use Rattle.pd_desk.specs.Commands.{is_colon, colon_of}
 use Rattle.pd_desk.specs.Desk.{Back, Becomes, Declines, DeskReplies, Fails, Loads, RefusesLines, ReplyBy, Saves, Standing, StepsBack}
-use Rattle.pd_desk.specs.Desk.{StepsForward, TakesAll, TakesIn, Tells, WithShelf, as_saved, at_first, step_of}
+use Rattle.pd_desk.specs.Desk.{StepsForward, TakesAll, TakesIn, Tells, WithShelf, as_saved, at_first, file_in, step_of}
 use Rattle.pd_desk.specs.History.{Lead, Makes, past_with, StepData}
 use Rattle.pd_desk.specs.Laws.{EditsLead}
 use Rattle.pd_desk.specs.Shelf.{Shelved}
@@ -259,56 +258,61 @@ loads : (n : ℕ) (s : ScenarioData) (d : WithShelf) (file : Option (List ℕ)) 
 loads n s d None text d' stands h = absurd h
 loads n s d (Some file) text d' stands h = takes_all n s d.desk (lines h.0) d'.desk stands h.3
 
-tells : (n : ℕ) (s : ScenarioData) (d : WithShelf) (own : Option Colon) (file : Option (List ℕ)) (text : List ℕ) (d' : WithShelf) →
-    StandsSo n s d.desk → Tells n d own file text d' → StandsSo n s d'.desk
-tells n s d None file text d' stands h = absurd h
-tells n s d (Some colon.Help) file text d' stands h = unchanged n s d.desk d'.desk stands h.1.0
-tells n s d (Some colon.Listing) file text d' stands h = unchanged n s d.desk d'.desk stands h.1.0
-tells n s d (Some (colon.Undo before)) file text d' stands h = all_back n s (suc before) d.desk d'.desk stands h.0
-tells n s d (Some colon.Redo) file text d' stands h = stepped_forward n s d.desk d'.desk stands h.0
-tells n s d (Some colon.Diff) file text d' stands h = unchanged n s d.desk d'.desk stands h.1.0
-tells n s d (Some colon.DiffAll) file text d' stands h = unchanged n s d.desk d'.desk stands h.1.0
-tells n s d (Some (colon.Save what is_over)) file text d' stands h = saves n s d what is_over file text d' stands h
-tells n s d (Some (colon.Why port to)) file text d' stands h = unchanged n s d.desk d'.desk stands h.1.0
-tells n s d (Some colon.Load) file text d' stands h = loads n s d file text d' stands h
-tells n s d (Some colon.Quit) file text d' stands h = unchanged n s d.desk d'.desk stands h.1.0
-tells n s d (Some (colon.Show port)) file text d' stands h = unchanged n s d.desk d'.desk stands h.1.0
-tells n s d (Some colon.Warn) file text d' stands h = unchanged n s d.desk d'.desk stands h.1.0
-tells n s d (Some colon.Guarantee) file text d' stands h = unchanged n s d.desk d'.desk stands h.1.0
-tells n s d (Some colon.Test) file text d' stands h = unchanged n s d.desk d'.desk stands h.1.0
+tells : (n : ℕ) (s : ScenarioData) (d : WithShelf) (own : Option Colon) (line : List ℕ) (text : List ℕ) (d' : WithShelf) →
+    StandsSo n s d.desk → Tells n d own line text d' → StandsSo n s d'.desk
+tells n s d None line text d' stands h = absurd h
+tells n s d (Some colon.Help) line text d' stands h = unchanged n s d.desk d'.desk stands h.1.0
+tells n s d (Some colon.Listing) line text d' stands h = unchanged n s d.desk d'.desk stands h.1.0
+tells n s d (Some (colon.Undo before)) line text d' stands h = all_back n s (suc before) d.desk d'.desk stands h.0
+tells n s d (Some colon.Redo) line text d' stands h = stepped_forward n s d.desk d'.desk stands h.0
+tells n s d (Some colon.Diff) line text d' stands h = unchanged n s d.desk d'.desk stands h.1.0
+tells n s d (Some colon.DiffAll) line text d' stands h = unchanged n s d.desk d'.desk stands h.1.0
+tells n s d (Some (colon.Save what is_over)) line text d' stands h = saves n s d what is_over (file_in line) text d' stands h
+tells n s d (Some (colon.Why port to)) line text d' stands h = unchanged n s d.desk d'.desk stands h.1.0
+tells n s d (Some colon.Load) line text d' stands h = loads n s d (file_in line) text d' stands h
+tells n s d (Some colon.Quit) line text d' stands h = unchanged n s d.desk d'.desk stands h.1.0
+tells n s d (Some (colon.Show port)) line text d' stands h = unchanged n s d.desk d'.desk stands h.1.0
+tells n s d (Some colon.Warn) line text d' stands h = unchanged n s d.desk d'.desk stands h.1.0
+tells n s d (Some colon.Guarantee) line text d' stands h = unchanged n s d.desk d'.desk stands h.1.0
+tells n s d (Some (colon.Sweep losses)) line text d' stands h = unchanged n s d.desk d'.desk stands h.1.0
+tells n s d (Some colon.Vary) line text d' stands h = unchanged n s d.desk d'.desk stands h.1.0
+tells n s d (Some colon.Test) line text d' stands h = unchanged n s d.desk d'.desk stands h.1.0
 
-fails : (n : ℕ) (s : ScenarioData) (d : WithShelf) (own : Option Colon) (file : Option (List ℕ)) (fault : OwnFault) (d' : WithShelf) →
-    StandsSo n s d.desk → Fails n d own file fault d' → StandsSo n s d'.desk
-fails n s d None file fault d' stands h = unchanged n s d.desk d'.desk stands h.1.0
-fails n s d (Some colon.Help) file fault d' stands h = unchanged n s d.desk d'.desk stands h.1.0
-fails n s d (Some colon.Listing) file fault d' stands h = unchanged n s d.desk d'.desk stands h.1.0
-fails n s d (Some (colon.Undo before)) file fault d' stands h = unchanged n s d.desk d'.desk stands h.1.0
-fails n s d (Some colon.Redo) file fault d' stands h = unchanged n s d.desk d'.desk stands h.1.0
-fails n s d (Some colon.Diff) file fault d' stands h = unchanged n s d.desk d'.desk stands h.1.0
-fails n s d (Some colon.DiffAll) file fault d' stands h = unchanged n s d.desk d'.desk stands h.1.0
-fails n s d (Some (colon.Save what is_over)) file fault d' stands h = unchanged n s d.desk d'.desk stands h.1
-fails n s d (Some (colon.Why port to)) file fault d' stands h = unchanged n s d.desk d'.desk stands h.1.0
-fails n s d (Some (colon.Show port)) file fault d' stands h = unchanged n s d.desk d'.desk stands h.1.0
-fails n s d (Some colon.Warn) file fault d' stands h = unchanged n s d.desk d'.desk stands h.1.0
-fails n s d (Some colon.Guarantee) file fault d' stands h = unchanged n s d.desk d'.desk stands h.1.0
-fails n s d (Some colon.Test) file fault d' stands h = unchanged n s d.desk d'.desk stands h.1.0
-fails n s d (Some colon.Load) file fault d' stands h = unchanged n s d.desk d'.desk stands h.1.0
-fails n s d (Some colon.Quit) file fault d' stands h = absurd h
+fails : (n : ℕ) (s : ScenarioData) (d : WithShelf) (own : Option Colon) (line : List ℕ) (fault : OwnFault) (d' : WithShelf) →
+    StandsSo n s d.desk → Fails n d own line fault d' → StandsSo n s d'.desk
+fails n s d None line fault d' stands h = unchanged n s d.desk d'.desk stands h.1.0
+fails n s d (Some colon.Help) line fault d' stands h = unchanged n s d.desk d'.desk stands h.1.0
+fails n s d (Some colon.Listing) line fault d' stands h = unchanged n s d.desk d'.desk stands h.1.0
+fails n s d (Some (colon.Undo before)) line fault d' stands h = unchanged n s d.desk d'.desk stands h.1.0
+fails n s d (Some colon.Redo) line fault d' stands h = unchanged n s d.desk d'.desk stands h.1.0
+fails n s d (Some colon.Diff) line fault d' stands h = unchanged n s d.desk d'.desk stands h.1.0
+fails n s d (Some colon.DiffAll) line fault d' stands h = unchanged n s d.desk d'.desk stands h.1.0
+fails n s d (Some (colon.Save what is_over)) line fault d' stands h = unchanged n s d.desk d'.desk stands h.1
+fails n s d (Some (colon.Why port to)) line fault d' stands h = unchanged n s d.desk d'.desk stands h.1.0
+fails n s d (Some (colon.Show port)) line fault d' stands h = unchanged n s d.desk d'.desk stands h.1.0
+fails n s d (Some colon.Warn) line fault d' stands h = unchanged n s d.desk d'.desk stands h.1.0
+fails n s d (Some colon.Guarantee) line fault d' stands h = unchanged n s d.desk d'.desk stands h.1.0
+fails n s d (Some (colon.Sweep losses)) line fault d' stands h = unchanged n s d.desk d'.desk stands h.1.0
+fails n s d (Some colon.Vary) line fault d' stands h = unchanged n s d.desk d'.desk stands h.1.0
+fails n s d (Some colon.Test) line fault d' stands h = unchanged n s d.desk d'.desk stands h.1.0
+fails n s d (Some colon.Load) line fault d' stands h = unchanged n s d.desk d'.desk stands h.1.0
+fails n s d (Some colon.Quit) line fault d' stands h = absurd h
 
-refuses : (n : ℕ) (s : ScenarioData) (d : WithShelf) (own : Option Colon) (file : Option (List ℕ)) (told : List ℕ) (d' : WithShelf) →
-    StandsSo n s d.desk → RefusesLines n d own file told d' → StandsSo n s d'.desk
-refuses n s d (Some colon.Load) file told d' stands h = unchanged n s d.desk d'.desk stands h.1.0
-refuses n s d _ file told d' stands h = absurd h
+refuses : (n : ℕ) (s : ScenarioData) (d : WithShelf) (own : Option Colon) (line : List ℕ) (told : List ℕ) (d' : WithShelf) →
+    StandsSo n s d.desk → RefusesLines n d own line told d' → StandsSo n s d'.desk
+refuses n s d (Some colon.Load) line told d' stands h = unchanged n s d.desk d'.desk stands h.1.0
+refuses n s d (Some colon.Vary) line told d' stands h = unchanged n s d.desk d'.desk stands h.1.0
+refuses n s d _ line told d' stands h = absurd h
 
-declines : (n : ℕ) (s : ScenarioData) (d : WithShelf) (own : Option Colon) (file : Option (List ℕ)) (told : List ℕ) (d' : WithShelf) →
-    StandsSo n s d.desk → Declines n d own file told d' → StandsSo n s d'.desk
-declines n s d own file told d' stands (inl (fault, h, is)) = fails n s d own file fault d' stands h
-declines n s d own file told d' stands (inr h) = refuses n s d own file told d' stands h
+declines : (n : ℕ) (s : ScenarioData) (d : WithShelf) (own : Option Colon) (line : List ℕ) (told : List ℕ) (d' : WithShelf) →
+    StandsSo n s d.desk → Declines n d own line told d' → StandsSo n s d'.desk
+declines n s d own line told d' stands (inl (fault, h, is)) = fails n s d own line fault d' stands h
+declines n s d own line told d' stands (inr h) = refuses n s d own line told d' stands h
 
 replied : (t : Bool) (n : ℕ) (s : ScenarioData) (d : WithShelf) (line reply told : List ℕ) (d' : WithShelf) → StandsSo n s d.desk →
     ReplyBy t n d line reply told d' → StandsSo n s d'.desk
-replied true n s d line reply told d' stands (inl h) = tells n s d (colon_of line) (second (words line)) reply d' stands h.0
-replied true n s d line reply told d' stands (inr h) = declines n s d (colon_of line) (second (words line)) told d' stands h.1
+replied true n s d line reply told d' stands (inl h) = tells n s d (colon_of line) line reply d' stands h.0
+replied true n s d line reply told d' stands (inr h) = declines n s d (colon_of line) line told d' stands h.1
 replied false n s d line reply told d' stands ((outcome, is, tells), shelf) = becomes n s d.desk line reply outcome d'.desk stands is
 
 all_replied : (n : ℕ) (s : ScenarioData) (d : WithShelf) (ls : List (List ℕ)) (text : List ℕ) (tolds : List (List ℕ)) (d' : WithShelf) →

@@ -1,12 +1,13 @@
 -- The desk's own lines: docs/FORMATS.md, "pdlab live".
-use Rattle.std.specs.Prelude.{ℕ, ◌-◌, Bool, true, false, ◌==◌, nat_lt, List, [], ◌∷◌, length, codes}
-use Rattle.std.specs.Prelude.{Option, Some, None, option_map, bytes_eq}
+use Rattle.std.specs.Prelude.{ℕ, ◌-◌, ◌^◌, Bool, true, false, ◌==◌, nat_lt, List, [], ◌∷◌, length, codes}
+use Rattle.std.specs.Prelude.{Option, Some, None, option_map, bytes_eq, unwrap_or}
 use Rattle.std.specs.Prelude.{if◌then◌else◌}
 use Rattle.pd_edit_lines.specs.Words.{words, number, ◌>>=◌}
 use Rattle.pd_units.specs.Quantities.{number_in}
 use Rattle.pd_units.specs.declared.unit.Unit.TheVariants.{Microseconds}
 use Rattle.pd_desk.specs.declared.colon.Colon.{Colon}
 use Rattle.pd_desk.specs.declared.colon.Colon.TheVariants as colon
+use Rattle.pd_desk.specs.declared.colon.Losses.{Losses}
 use Rattle.pd_desk.specs.declared.colon.Saved.{Saved}
 use Rattle.pd_desk.specs.declared.colon.Saved.TheVariants as saved
 
@@ -53,6 +54,39 @@ show_of [] = Some (colon.Show None)
 show_of (port ∷ []) = option_map (λ p. colon.Show (Some p)) (number port)
 show_of _ = None
 
+-- a word that may be left out: what it is, where the first word is one such, and the words behind it
+abbrev pub taken : List (List ℕ) → List (List ℕ) → Option ℕ → Option ℕ × List (List ℕ)
+taken all behind None = (None, all)
+taken all behind (Some n) = (Some n, behind)
+
+-- a bare number
+abbrev pub number_first : List (List ℕ) → Option ℕ × List (List ℕ)
+number_first [] = (None, [])
+number_first (word ∷ more) = taken (word ∷ more) more (number word)
+
+-- a time with a unit or in microseconds
+abbrev pub time_first : List (List ℕ) → Option ℕ × List (List ℕ)
+time_first [] = (None, [])
+time_first (word ∷ more) = taken (word ∷ more) more (number_in Microseconds word)
+
+-- the word `all`
+abbrev pub all_of : List (List ℕ) → Option Bool
+all_of [] = Some false
+all_of (word ∷ []) = if bytes_eq word (codes "all") then Some true else None
+all_of _ = None
+
+-- from the start up to any time, where none is named
+abbrev pub losses_by : Option ℕ → Option ℕ → Option ℕ → Bool → Losses
+losses_by port from to all = record { port = port; from = unwrap_or from 0; to = unwrap_or to (2 ^ 64 - 1); all = all }
+
+-- :sweep [PORT] [FROM [TO]] [all]: a bare number that stands first is the port
+abbrev pub sweep_of : List (List ℕ) → Option Colon
+sweep_of ws =
+    let port = number_first ws in
+    let from = time_first port.1 in
+    let to = time_first from.1 in
+    option_map (λ all. colon.Sweep (losses_by port.0 from.0 to.0 all)) (all_of to.1)
+
 -- a command that reads a file, as :test FILE
 abbrev pub reading : Colon → List (List ℕ) → Option Colon
 reading it (file ∷ []) = Some it
@@ -64,6 +98,8 @@ asked_run word more =
     if bytes_eq word (codes ":show") then show_of more
     else if bytes_eq word (codes ":warn") then alone colon.Warn more
     else if bytes_eq word (codes ":guarantee") then alone colon.Guarantee more
+    else if bytes_eq word (codes ":sweep") then sweep_of more
+    else if bytes_eq word (codes ":vary") then Some colon.Vary
     else if bytes_eq word (codes ":test") then reading colon.Test more
     else if bytes_eq word (codes ":draw") then save_of saved.Picture false more
     else if bytes_eq word (codes ":draw!") then save_of saved.Picture true more
@@ -118,6 +154,8 @@ meant_run word =
     if bytes_eq word (codes "why") then Some (codes ":why")
     else if bytes_eq word (codes "warn") then Some (codes ":warn")
     else if bytes_eq word (codes "guarantee") then Some (codes ":guarantee")
+    else if bytes_eq word (codes "sweep") then Some (codes ":sweep")
+    else if bytes_eq word (codes "vary") then Some (codes ":vary SET")
     else if bytes_eq word (codes "test") then Some (codes ":test FILE")
     else if bytes_eq word (codes "draw") then Some (codes ":draw FILE")
     else if bytes_eq word (codes "load") then Some (codes ":load FILE")

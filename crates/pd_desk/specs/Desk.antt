@@ -22,6 +22,7 @@ use Rattle.pd_bench.specs.declared.tally.Outcome.TheVariants.{Skipped, Accepted,
 use Rattle.pd_bench.specs.Session.{Reply, counted, no_lines, ok_text, refused_text}
 use Rattle.pd_desk.specs.declared.colon.Colon.{Colon}
 use Rattle.pd_desk.specs.declared.colon.Colon.TheVariants as colon
+use Rattle.pd_desk.specs.declared.colon.Losses.{Losses}
 use Rattle.pd_desk.specs.declared.colon.Saved.{Saved}
 use Rattle.pd_desk.specs.declared.colon.Saved.TheVariants as saved
 use Rattle.pd_desk.specs.Commands.{is_colon, colon_of, second}
@@ -35,9 +36,10 @@ use Rattle.pd_desk.specs.History.{NotesData, StepData, no_notes, noted, notes_da
 use Rattle.pd_desk.specs.Reasons.{as_line}
 use Rattle.pd_desk.specs.OwnFaults.{own_sentence}
 use Rattle.pd_desk.specs.Shelf.{Holds, IsNotPut, IsPut, IsFree, IsTaken, Shelved}
-use Rattle.pd_desk.specs.Tellings.{Draws, TellsGuarantee, TellsShow, TellsTests, TellsWarned}
+use Rattle.pd_desk.specs.Tellings.{Draws, TellsGuarantee, TellsShow, TellsSweep, TellsTests, TellsVaried, TellsWarned, TriesNone}
+use Rattle.pd_desk.specs.Varying.{MissesAsked, MissesPort, RefusesVaried, varied_of}
 use Rattle.pd_desk.specs.declared.own.OwnFault.{OwnFault}
-use Rattle.pd_desk.specs.declared.own.OwnFault.TheVariants.{Unknown, NoEdit, FewEdits, NoRedo, NoSuchPort}
+use Rattle.pd_desk.specs.declared.own.OwnFault.TheVariants.{Unknown, NoEdit, FewEdits, NoRedo, NoSuchPort, NoPacket}
 use Rattle.pd_desk.specs.declared.own.OwnFault.TheVariants.{Differs, Stands, NotSaved, NotRead, NotLoaded, NoScript, Memory}
 
 -- What the desk has come to: the scenario that stood first, the one that stands, and what is noted of the edits between; the
@@ -240,26 +242,32 @@ Loads n d (Some file) text d' =
     × TakesAll n d.desk (lines script) d'.desk × TellsLines (codes "= load\n") d.desk.scenario d'.desk.scenario text
     × (d'.shelf ≡ d.shelf)
 
+-- the file that a line names
+abbrev pub file_in : List ℕ → Option (List ℕ)
+file_in line = second (words line)
+
 -- what is told for such a line, where nothing fails
-abbrev pub Tells : ℕ → WithShelf → Option Colon → Option (List ℕ) → List ℕ → WithShelf → Type 0
-Tells n d None file text d' = ⊥
-Tells n d (Some colon.Help) file text d' = (text ≡ help_text) × IsSame d d'
-Tells n d (Some colon.Listing) file text d' = Lists d.desk.scenario text × IsSame d d'
-Tells n d (Some (colon.Undo before)) file text d' =
+abbrev pub Tells : ℕ → WithShelf → Option Colon → List ℕ → List ℕ → WithShelf → Type 0
+Tells n d None line text d' = ⊥
+Tells n d (Some colon.Help) line text d' = (text ≡ help_text) × IsSame d d'
+Tells n d (Some colon.Listing) line text d' = Lists d.desk.scenario text × IsSame d d'
+Tells n d (Some (colon.Undo before)) line text d' =
     Back (suc before) d.desk d'.desk × TellsLines (codes "= undo\n") d.desk.scenario d'.desk.scenario text × (d'.shelf ≡ d.shelf)
-Tells n d (Some colon.Redo) file text d' =
+Tells n d (Some colon.Redo) line text d' =
     StepsForward d.desk d'.desk × TellsLines (codes "= redo\n") d.desk.scenario d'.desk.scenario text × (d'.shelf ≡ d.shelf)
-Tells n d (Some colon.Diff) file text d' = TellsChanges d.desk text × IsSame d d'
-Tells n d (Some colon.DiffAll) file text d' = TellsAll d.desk text × IsSame d d'
-Tells n d (Some (colon.Save what is_over)) file text d' = Saves n d what is_over file text d'
-Tells n d (Some (colon.Why port to)) file text d' =
+Tells n d (Some colon.Diff) line text d' = TellsChanges d.desk text × IsSame d d'
+Tells n d (Some colon.DiffAll) line text d' = TellsAll d.desk text × IsSame d d'
+Tells n d (Some (colon.Save what is_over)) line text d' = Saves n d what is_over (file_in line) text d'
+Tells n d (Some (colon.Why port to)) line text d' =
     TellsWhy Words (plan_of d.desk.scenario) (record { port = port; to = to }) [] text × IsSame d d'
-Tells n d (Some (colon.Show port)) file text d' = TellsShow d.desk.scenario port text × IsSame d d'
-Tells n d (Some colon.Warn) file text d' = TellsWarned n d.desk.scenario text × IsSame d d'
-Tells n d (Some colon.Guarantee) file text d' = TellsGuarantee d.desk.scenario text × IsSame d d'
-Tells n d (Some colon.Test) file text d' = TellsTested n d file text × IsSame d d'
-Tells n d (Some colon.Load) file text d' = Loads n d file text d'
-Tells n d (Some colon.Quit) file text d' = (text ≡ []) × IsSame d d'
+Tells n d (Some (colon.Show port)) line text d' = TellsShow d.desk.scenario port text × IsSame d d'
+Tells n d (Some colon.Warn) line text d' = TellsWarned n d.desk.scenario text × IsSame d d'
+Tells n d (Some colon.Guarantee) line text d' = TellsGuarantee d.desk.scenario text × IsSame d d'
+Tells n d (Some (colon.Sweep losses)) line text d' = TellsSweep n d.desk.scenario losses text × IsSame d d'
+Tells n d (Some colon.Vary) line text d' = TellsVaried n d.desk.scenario line text × IsSame d d'
+Tells n d (Some colon.Test) line text d' = TellsTested n d (file_in line) text × IsSame d d'
+Tells n d (Some colon.Load) line text d' = Loads n d (file_in line) text d'
+Tells n d (Some colon.Quit) line text d' = (text ≡ []) × IsSame d d'
 
 -- why none of an edit's changes are told
 abbrev pub FailsEdit : NotesData → OwnFault → Type 0
@@ -300,6 +308,15 @@ abbrev pub FailsShow : ℕ → Option ℕ → OwnFault → Type 0
 FailsShow n None fault = fault ≡ Memory
 FailsShow n (Some port) fault = FailsWhy n port fault
 
+-- why no packets are lost: there is no such port, none is tried, or there is no memory
+abbrev pub FailsSweep : ℕ → ScenarioData → Losses → OwnFault → Type 0
+FailsSweep n s losses fault =
+    ((fault ≡ NoSuchPort) × MissesPort n losses.port) ⊎ (((fault ≡ NoPacket) × TriesNone n s losses) ⊎ (fault ≡ Memory))
+
+-- why no values are tried, where the line asks for some: there is no such port, or no memory
+abbrev pub FailsVary : ℕ → List ℕ → OwnFault → Type 0
+FailsVary n line fault = ((fault ≡ NoSuchPort) × MissesAsked n (varied_of line)) ⊎ (fault ≡ Memory)
+
 -- why no expectations are held against the run: there was no name, no file that can be read, or no memory
 abbrev pub FailsTest : Option (List ℕ) → OwnFault → Type 0
 FailsTest file fault = ((fault ≡ Unknown) × (file ≡ None)) ⊎ ((fault ≡ NotRead) ⊎ (fault ≡ Memory))
@@ -315,51 +332,55 @@ FailsLoad kept file fault =
     ((fault ≡ Unknown) × (file ≡ None)) ⊎ ((fault ≡ NotLoaded) ⊎ (((fault ≡ NoScript) × HoldsScenario kept file) ⊎ (fault ≡ Memory)))
 
 -- why such a line does nothing: all is as it was, but that a text which the shelf didn't take is counted there
-abbrev pub Fails : ℕ → WithShelf → Option Colon → Option (List ℕ) → OwnFault → WithShelf → Type 0
-Fails n d None file fault d' = (fault ≡ Unknown) × IsSame d d'
-Fails n d (Some colon.Help) file fault d' = (fault ≡ Memory) × IsSame d d'
-Fails n d (Some colon.Listing) file fault d' = (fault ≡ Memory) × IsSame d d'
-Fails n d (Some (colon.Undo before)) file fault d' = FailsUndo d.desk.notes (suc before) fault × IsSame d d'
-Fails n d (Some colon.Redo) file fault d' = FailsRedo d.desk.notes fault × IsSame d d'
-Fails n d (Some colon.Diff) file fault d' = FailsEdit d.desk.notes fault × IsSame d d'
-Fails n d (Some colon.DiffAll) file fault d' = (fault ≡ Memory) × IsSame d d'
-Fails n d (Some (colon.Save what is_over)) file fault d' =
-    FailsSave n d.desk.scenario what is_over file fault d.shelf d'.shelf × (d'.desk ≡ d.desk)
-Fails n d (Some (colon.Why port to)) file fault d' = FailsWhy n port fault × IsSame d d'
-Fails n d (Some (colon.Show port)) file fault d' = FailsShow n port fault × IsSame d d'
-Fails n d (Some colon.Warn) file fault d' = (fault ≡ Memory) × IsSame d d'
-Fails n d (Some colon.Guarantee) file fault d' = (fault ≡ Memory) × IsSame d d'
-Fails n d (Some colon.Test) file fault d' = FailsTest file fault × IsSame d d'
-Fails n d (Some colon.Load) file fault d' = FailsLoad d.shelf.kept file fault × IsSame d d'
-Fails n d (Some colon.Quit) file fault d' = ⊥
+abbrev pub Fails : ℕ → WithShelf → Option Colon → List ℕ → OwnFault → WithShelf → Type 0
+Fails n d None line fault d' = (fault ≡ Unknown) × IsSame d d'
+Fails n d (Some colon.Help) line fault d' = (fault ≡ Memory) × IsSame d d'
+Fails n d (Some colon.Listing) line fault d' = (fault ≡ Memory) × IsSame d d'
+Fails n d (Some (colon.Undo before)) line fault d' = FailsUndo d.desk.notes (suc before) fault × IsSame d d'
+Fails n d (Some colon.Redo) line fault d' = FailsRedo d.desk.notes fault × IsSame d d'
+Fails n d (Some colon.Diff) line fault d' = FailsEdit d.desk.notes fault × IsSame d d'
+Fails n d (Some colon.DiffAll) line fault d' = (fault ≡ Memory) × IsSame d d'
+Fails n d (Some (colon.Save what is_over)) line fault d' =
+    FailsSave n d.desk.scenario what is_over (file_in line) fault d.shelf d'.shelf × (d'.desk ≡ d.desk)
+Fails n d (Some (colon.Why port to)) line fault d' = FailsWhy n port fault × IsSame d d'
+Fails n d (Some (colon.Show port)) line fault d' = FailsShow n port fault × IsSame d d'
+Fails n d (Some colon.Warn) line fault d' = (fault ≡ Memory) × IsSame d d'
+Fails n d (Some colon.Guarantee) line fault d' = (fault ≡ Memory) × IsSame d d'
+Fails n d (Some (colon.Sweep losses)) line fault d' = FailsSweep n d.desk.scenario losses fault × IsSame d d'
+Fails n d (Some colon.Vary) line fault d' = FailsVary n line fault × IsSame d d'
+Fails n d (Some colon.Test) line fault d' = FailsTest (file_in line) fault × IsSame d d'
+Fails n d (Some colon.Load) line fault d' = FailsLoad d.shelf.kept (file_in line) fault × IsSame d d'
+Fails n d (Some colon.Quit) line fault d' = ⊥
 
--- Lines of the script are refused that was to be loaded: this is told, and all is as it was.
+-- lines of the script are refused that was to be loaded
 abbrev pub RefusesFile : ℕ → WithShelf → Option (List ℕ) → List ℕ → Type 0
 RefusesFile n d None told = ⊥
 RefusesFile n d (Some file) told =
     (script : List ℕ) × Holds d.shelf.kept file script × (is_any_refused n d.desk.scenario (lines script) ≡ true)
     × (told ≡ refusals_text n d.desk.scenario file script)
 
-abbrev pub RefusesLines : ℕ → WithShelf → Option Colon → Option (List ℕ) → List ℕ → WithShelf → Type 0
-RefusesLines n d (Some colon.Load) file told d' = RefusesFile n d file told × IsSame d d'
-RefusesLines n d _ file told d' = ⊥
+-- This is told, or what is wrong behind `:vary`; all is as it was.
+abbrev pub RefusesLines : ℕ → WithShelf → Option Colon → List ℕ → List ℕ → WithShelf → Type 0
+RefusesLines n d (Some colon.Load) line told d' = RefusesFile n d (file_in line) told × IsSame d d'
+RefusesLines n d (Some colon.Vary) line told d' = RefusesVaried (varied_of line) told × IsSame d d'
+RefusesLines n d _ line told d' = ⊥
 
 -- what is told where such a line does nothing
-abbrev pub Declines : ℕ → WithShelf → Option Colon → Option (List ℕ) → List ℕ → WithShelf → Type 0
-Declines n d own file told d' =
-    ((fault : OwnFault) × Fails n d own file fault d' × (told ≡ own_sentence fault)) ⊎ RefusesLines n d own file told d'
+abbrev pub Declines : ℕ → WithShelf → Option Colon → List ℕ → List ℕ → WithShelf → Type 0
+Declines n d own line told d' =
+    ((fault : OwnFault) × Fails n d own line fault d' × (told ≡ own_sentence fault)) ⊎ RefusesLines n d own line told d'
 
 -- What such a line writes, and what is told beside it. Where it can't be done, nothing is written, and it is told why.
-abbrev pub OwnReply : ℕ → WithShelf → Option Colon → Option (List ℕ) → List ℕ → List ℕ → WithShelf → Type 0
-OwnReply n d own file reply told d' =
-    (Tells n d own file reply d' × (told ≡ []))
-    ⊎ ((reply ≡ []) × Declines n d own file told d')
+abbrev pub OwnReply : ℕ → WithShelf → Option Colon → List ℕ → List ℕ → List ℕ → WithShelf → Type 0
+OwnReply n d own line reply told d' =
+    (Tells n d own line reply d' × (told ≡ []))
+    ⊎ ((reply ≡ []) × Declines n d own line told d')
 
 -- ---- any line
 
 -- a line of a session puts nothing on the shelf
 abbrev pub ReplyBy : Bool → ℕ → WithShelf → List ℕ → List ℕ → List ℕ → WithShelf → Type 0
-ReplyBy true n d line reply told d' = OwnReply n d (colon_of line) (second (words line)) reply told d'
+ReplyBy true n d line reply told d' = OwnReply n d (colon_of line) line reply told d'
 ReplyBy false n d line reply told d' = ToldReply n d.desk line reply told d'.desk × (d'.shelf ≡ d.shelf)
 
 abbrev pub DeskReply : ℕ → WithShelf → List ℕ → List ℕ → List ℕ → WithShelf → Type 0

@@ -11,6 +11,7 @@ pub mod Shelf
 pub mod Standings
 pub mod Taking
 pub mod Tellings
+pub mod Varying
 pub mod Commands
 pub mod Diff
 pub mod LineReasons

@@ -2,8 +2,7 @@
 
 ghost use Rattle.std.specs.Prelude.{◌≡◌, ◌⊎◌, ◌+◌, ◌<◌, ◌≤◌, ◌^◌, List, ℕ};
 ghost use Rattle.pd_device.specs.Device.{CountsFailure, Writes};
-ghost use Rattle.pd_edit_lines.specs.Words.{words};
-ghost use Rattle.pd_desk.specs.Commands.{colon_of, second};
+ghost use Rattle.pd_desk.specs.Commands.{colon_of};
 ghost use Rattle.pd_desk.specs.LineReasons.{reasons_text};
 ghost use Rattle.pd_edit_lines.specs.Numbers.{number_of};
 ghost use Rattle.pd_bench.specs.Session.{answered, refused_text};
@@ -89,7 +88,7 @@ fn answer_own<const N: usize, T: Runner<N>, W: TextOut, E: TextOut, S: Shelf>(
     ensures reply { (reply : List ℕ) × (told : List ℕ)
         × OwnReply N
         (with_shelf (standing_of desk.old) (S.known outlets.old.shelf))
-        (colon_of line.now) (second (words line.now)) reply told
+        (colon_of line.now) line.now reply told
         (with_shelf (standing_of desk.new) (S.known outlets.new.shelf))
         × Writes (W.taken outlets.old.answers) (W.taken outlets.new.answers) result reply
         × ToldAfter result told (beside (E.taken outlets.old.reasons) (E.failures outlets.old.reasons))

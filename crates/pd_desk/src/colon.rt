@@ -2,8 +2,9 @@
 
 ghost use Rattle.std.specs.Prelude.{◌≡◌, option_map};
 ghost use Rattle.pd_edit_lines.specs.Words.{words};
-ghost use Rattle.pd_desk.specs.Commands.{alone, asked, asked_by, asked_run, asked_save, colon_of, diff_of, is_colon, is_quit};
-ghost use Rattle.pd_desk.specs.Commands.{meant, meant_run, reading, save_of, second, show_of, undo_of, why_of};
+ghost use Rattle.pd_desk.specs.Commands.{all_of, alone, asked, asked_by, asked_run, asked_save, colon_of, diff_of, is_colon, is_quit};
+ghost use Rattle.pd_desk.specs.Commands.{meant, meant_run, number_first, reading, save_of, second, show_of, sweep_of, time_first, undo_of};
+ghost use Rattle.pd_desk.specs.Commands.{why_of};
 
 use pd_edit_lines::{next, number};
 use pd_units::{Unit, number_in};
@@ -20,6 +21,19 @@ pub enum Saved {
     Edits,
     /// The picture of its run.
     Picture,
+}
+
+/// Which packets of the run are lost, each in turn, and which of them are told.
+#[derive(Clone, Copy, Debug, PartialEq, Eq)]
+pub struct Losses {
+    /// Those of this port, or of all.
+    pub port: Option<u64>,
+    /// Those from this time on, in microseconds.
+    pub from: u64,
+    /// Those up to this time, in microseconds.
+    pub to: u64,
+    /// Each is told, or each whose loss makes a difference.
+    pub all: bool,
 }
 
 /// What a line of the desk's own asks for.
@@ -47,6 +61,10 @@ pub enum Colon {
     Warn,
     /// What is sure for each port of its charger.
     Guarantee,
+    /// What losing packets of its run leads to.
+    Sweep(Losses),
+    /// What values of edit lines, which the line names, come to.
+    Vary,
     /// What the expectations of a file, which the line names, come to.
     Test,
     /// Makes the edits of a file, which the line names, or none of them.
@@ -157,6 +175,61 @@ fn show_of(rest: &[u8]) -> Option<Colon>
     Some(Colon::Show { port: Some(port) })
 }
 
+/// The number that the first word is, where it is one, and what stands behind it.
+fn number_first(rest: &[u8]) -> (Option<u64>, &[u8])
+    ensures { (result.0, words result.1.now) ≡ number_first (words rest.now) }
+{
+    let Some((word, behind)) = next(rest) else {
+        return (None, rest);
+    };
+    match number(word) {
+        None => (None, rest),
+        Some(number) => (Some(number), behind),
+    }
+}
+
+/// The time that the first word is, where it is one, and what stands behind it.
+fn time_first(rest: &[u8]) -> (Option<u64>, &[u8])
+    ensures { (result.0, words result.1.now) ≡ time_first (words rest.now) }
+{
+    let Some((word, behind)) = next(rest) else {
+        return (None, rest);
+    };
+    match number_in(Unit::Microseconds, word) {
+        None => (None, rest),
+        Some(time) => (Some(time), behind),
+    }
+}
+
+/// Whether the word `all` stands there, alone; none where another does.
+fn all_of(rest: &[u8]) -> Option<bool>
+    ensures { result ≡ all_of (words rest.now) }
+{
+    let Some((word, rest)) = next(rest) else {
+        return Some(false);
+    };
+    if next(rest).is_some() || word != b"all".as_slice() {
+        return None;
+    }
+    Some(true)
+}
+
+/// `:sweep`, by the words behind it.
+fn sweep_of(rest: &[u8]) -> Option<Colon>
+    ensures { result ≡ sweep_of (words rest.now) }
+{
+    let (port, rest) = number_first(rest);
+    let (from, rest) = time_first(rest);
+    let (to, rest) = time_first(rest);
+    let losses = Losses {
+        port,
+        from: from.unwrap_or(0),
+        to: to.unwrap_or(u64::MAX),
+        all: all_of(rest)?,
+    };
+    Some(Colon::Sweep(losses))
+}
+
 /// A command that reads a file, by the words behind it.
 fn reading(colon: Colon, rest: &[u8]) -> Option<Colon>
     ensures { result ≡ reading colon (words rest.now) }
@@ -178,6 +251,12 @@ fn asked_run(word: &[u8], rest: &[u8]) -> Option<Colon>
     }
     if word == b":guarantee".as_slice() {
         return alone(Colon::Guarantee, rest);
+    }
+    if word == b":sweep".as_slice() {
+        return sweep_of(rest);
+    }
+    if word == b":vary".as_slice() {
+        return Some(Colon::Vary);
     }
     if word == b":test".as_slice() {
         return reading(Colon::Test, rest);
@@ -285,6 +364,12 @@ fn meant_run(word: &[u8]) -> Option<&'static [u8]>
     }
     if word == b"guarantee".as_slice() {
         return Some(b":guarantee");
+    }
+    if word == b"sweep".as_slice() {
+        return Some(b":sweep");
+    }
+    if word == b"vary".as_slice() {
+        return Some(b":vary SET");
     }
     if word == b"test".as_slice() {
         return Some(b":test FILE");

@@ -17,6 +17,12 @@ const HELP: &[u8] = b"= help
 :show [PORT]       the run as a transcript, of one port or of all, as pdlab show tells it
 :warn              what the scenario is warned of, as pdlab explain warns
 :guarantee         what is sure for each port, whatever is plugged in, as pdlab guarantee tells it
+:sweep [PORT] [FROM [TO]] [all]
+                   what losing each packet of the run leads to, as pdlab sweep tells it: each that makes
+                   a difference, or all; a long run takes a minute, and FROM TO keeps to a part
+:vary SET [; SET ..] [tell NAMES]
+                   the run with values of edit lines, as floor 1 {}=45W..65W/5W, and what is measured
+                   of it, as pdlab vary tells it
 :test FILE         the lines of a test script that fail over the scenario, and how many passed
 :save FILE         writes the scenario to a new file, which reads back as the same
 :save-edits FILE   writes the accepted edits since the start to a new file, an edit script

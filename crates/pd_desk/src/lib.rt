@@ -23,9 +23,10 @@ mod reports;
 mod shelf;
 mod steps;
 mod tellings;
+mod varying;
 
 pub use byte_in::ByteIn;
-pub use colon::{Colon, Saved, file_of, is_colon};
+pub use colon::{Colon, Losses, Saved, file_of, is_colon};
 pub use diff::push_diff;
 pub use left::Left;
 pub use line_reasons::push_reasons;

@@ -201,7 +201,7 @@ pub(crate) fn load<const N: usize, T: Runner<N>, S: Shelf>(
     ensures text { MatchResult result
         (λ text. Loads N (with_shelf (standing_of desk.old) (S.known shelf.now)) (second (words line.now)) text.items
         (with_shelf (standing_of desk.new) (S.known shelf.now)))
-        (λ why. IsNotDone N (with_shelf (standing_of desk.old) (S.known shelf.now)) (Some colons.Load) (second (words line.now)) why
+        (λ why. IsNotDone N (with_shelf (standing_of desk.old) (S.known shelf.now)) (Some colons.Load) line.now why
         (with_shelf (standing_of desk.new) (S.known shelf.now))) }
     ensures runs { IsRunning (T.plan runner.new) (T.entries runner.new) desk.new.state.scenario }
     ensures room { (answered desk.new.state.tally ≤ answered desk.old.state.tally) ⊎ (answered desk.new.state.tally ≤ 4000000000) }

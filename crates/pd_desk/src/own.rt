@@ -7,28 +7,31 @@ ghost use Rattle.pd_save.specs.Files.{ReadsOtherwise, file_text};
 ghost use Rattle.pd_bench.specs.Session.{answered};
 ghost use Rattle.pd_bench.specs.Stream.{IsRunning};
 ghost use Rattle.pd_desk.specs.Commands.{colon_of, second};
+ghost use Rattle.pd_desk.specs.Varying.{MissesPort};
 ghost use Rattle.pd_text.specs.declared.piece.Form.TheVariants.{Words};
 ghost use Rattle.pd_why.specs.Answers.{TellsWhy};
-ghost use Rattle.pd_desk.specs.Desk.{FailsEdit, FailsSave, FailsShow, FailsTest, FailsWhy, IsSavedAs, ReadsBack, Saves, Tells};
+ghost use Rattle.pd_desk.specs.Desk.{FailsEdit, FailsSave, FailsShow, FailsSweep, FailsTest, FailsWhy, IsSavedAs, ReadsBack, Saves, Tells};
 ghost use Rattle.pd_desk.specs.Desk.{TellsAll, TellsChanges, TellsTested, as_saved, saved_text, with_shelf};
 ghost use Rattle.pd_desk.specs.OwnFaults.{own_sentence};
 ghost use Rattle.pd_desk.specs.Standings.{IsNotDone, notes_of, standing_of};
 ghost use Rattle.pd_desk.specs.declared.own.NotDone.TheVariants as not_done;
-ghost use Rattle.pd_desk.specs.Tellings.{TellsShow};
-ghost use Rattle.pd_desk.specs.declared.own.OwnFault.TheVariants.{Memory as memory, Differs as differs};
+ghost use Rattle.pd_desk.specs.Tellings.{TellsShow, TellsSweep, campaign_of};
+ghost use Rattle.pd_desk.specs.declared.own.OwnFault.TheVariants.{Memory as memory, Differs as differs, NoSuchPort as no_such_port};
 ghost use Rattle.pd_desk.specs.declared.colon.Saved.TheVariants as saved;
 
 use crate::desk::Desk;
 use crate::help::help_text;
 use crate::load::load;
 use crate::steps::{redo, undo};
-use crate::tellings::{drawn, guaranteed, shown, tested, warned};
-use crate::{Colon, Saved, Shelf, ShelfFault, file_of, run_diff, why_port};
+use crate::tellings::{drawn, guaranteed, shown, swept, tested, warned};
+use crate::varying::vary;
+use crate::{Colon, Losses, Saved, Shelf, ShelfFault, file_of, run_diff, why_port};
 use pd_device::Text;
 use pd_port::Meter;
 use pd_run::Runner;
 use pd_save::{SaveFault, list_scenario, scenario_text};
 use pd_scenario::Scenario;
+use pd_sweep::{Campaign, Choice, Loss};
 use pd_why::Question;
 use std::alloc::{AllocError, Global};
 
@@ -44,6 +47,8 @@ pub enum OwnFault {
     /// No edit is left that was taken back.
     NoRedo,
     NoSuchPort,
+    /// No packet of the run is one that a sweep can lose.
+    NoPacket,
     /// The text would read as something else than the scenario.
     Differs,
     /// The file is there already.
@@ -71,7 +76,7 @@ impl From<AllocError> for OwnFault {
 #[derive(Drop)]
 pub(crate) enum NotDone {
     Fault(OwnFault),
-    /// Lines of the script are refused that was to be loaded: which, and why.
+    /// Lines of the script are refused that was to be loaded, or words behind `:vary`: which, and why.
     Refused(Vec<u8>),
 }
 
@@ -93,16 +98,15 @@ impl From<AllocError> for NotDone {
 
 impl OwnFault {
     /// What is said of it.
-    pub fn sentence(self) -> Text<160>
+    pub fn sentence(self) -> Text<192>
         ensures { result ≡ own_sentence self }
     {
         let mut text = Text::new();
         match self {
             OwnFault::Unknown => {
-                text.push_all(
-                    b"the desk's own lines are :list, :undo, :redo, :diff, :why, :show, :warn, :guarantee, :test, ",
-                );
-                text.push_all(b":draw, :save, :save-edits, :load and :quit; :help tells of them\n");
+                text.push_all(b"the desk's own lines are :list, :undo, :redo, :diff, :why, ");
+                text.push_all(b":show, :warn, :guarantee, :sweep, :vary, :test, :draw, :save, ");
+                text.push_all(b":save-edits, :load and :quit; :help tells of them\n");
             }
             OwnFault::NoEdit => text.push_all(b"no accepted edit is left to take back\n"),
             OwnFault::FewEdits { left } => {
@@ -114,6 +118,7 @@ impl OwnFault {
                 b"no edit that was taken back is left to make again\n",
             ),
             OwnFault::NoSuchPort => text.push_all(b"no port has this number\n"),
+            OwnFault::NoPacket => text.push_all(b"no packet of the run was tried\n"),
             OwnFault::Differs => text.push_all(
                 b"not saved: the text would read as another scenario\n",
             ),
@@ -288,6 +293,59 @@ fn show<const N: usize>(
     Ok(shown(alloc, scenario, Some(port as usize), meter)?)
 }
 
+/// Refuses a port that is named, where the charger doesn't have it.
+pub(crate) fn check_port(ports: usize, port: Option<u64>) -> Result<(), OwnFault>
+    ensures { IfErr result (λ fault. (fault ≡ no_such_port) × MissesPort ports port) }
+{
+    match port {
+        Some(port) if port < 1 || port > ports as u64 => Err(OwnFault::NoSuchPort),
+        _ => Ok(()),
+    }
+}
+
+/// Which packets are lost, each in a run of its own.
+fn campaign_of(losses: &Losses) -> Campaign
+    ensures { result ≡ campaign_of losses.now }
+{
+    let port = match losses.port {
+        None => None,
+        Some(port) => Some(port as usize),
+    };
+    let choice = Choice {
+        port,
+        from: losses.from,
+        to: losses.to,
+        kind: None,
+    };
+    Campaign {
+        choice,
+        loss: Loss::Lost,
+        behind: 0,
+        any: 1,
+        most: u64::MAX,
+        reserve: None,
+    }
+}
+
+/// What losing packets of the run leads to.
+fn sweep<const N: usize>(
+    alloc: Global,
+    scenario: &Scenario<N>,
+    losses: Losses,
+    meter: &mut Meter,
+) -> Result<Vec<u8>, OwnFault>
+    ensures text { IfOk result (λ text. TellsSweep N scenario.now losses text.items) }
+    ensures fault { IfErr result (FailsSweep N scenario.now losses) }
+{
+    check_port(N, losses.port)?;
+    let campaign = campaign_of(&losses);
+    let (tally, text) = swept(alloc, scenario, &campaign, losses.all, meter)?;
+    if tally.tried == 0 {
+        return Err(OwnFault::NoPacket);
+    }
+    Ok(text)
+}
+
 /// What the expectations come to of the file that a line names.
 fn test<const N: usize, S: Shelf>(
     alloc: Global,
@@ -324,9 +382,9 @@ pub(crate) fn own_text<const N: usize, T: Runner<N>, S: Shelf>(
     requires runs { IsRunning (T.plan runner.old) (T.entries runner.old) desk.old.state.scenario }
     requires room { answered desk.old.state.tally + 1 < 2 ^ 32 }
     ensures text { MatchResult result
-        (λ text. Tells N (with_shelf (standing_of desk.old) (S.known shelf.old)) (colon_of line.now) (second (words line.now)) text.items
+        (λ text. Tells N (with_shelf (standing_of desk.old) (S.known shelf.old)) (colon_of line.now) line.now text.items
         (with_shelf (standing_of desk.new) (S.known shelf.new)))
-        (λ why. IsNotDone N (with_shelf (standing_of desk.old) (S.known shelf.old)) (colon_of line.now) (second (words line.now)) why
+        (λ why. IsNotDone N (with_shelf (standing_of desk.old) (S.known shelf.old)) (colon_of line.now) line.now why
         (with_shelf (standing_of desk.new) (S.known shelf.new))) }
     ensures runs { IsRunning (T.plan runner.new) (T.entries runner.new) desk.new.state.scenario }
     ensures room { (answered desk.new.state.tally ≤ answered desk.old.state.tally) ⊎ (answered desk.new.state.tally ≤ 4000000000) }
@@ -346,6 +404,8 @@ pub(crate) fn own_text<const N: usize, T: Runner<N>, S: Shelf>(
         Some(Colon::Show { port }) => Ok(show(alloc, &desk.state.scenario, port, meter)?),
         Some(Colon::Warn) => Ok(warned(alloc, &desk.state.scenario, meter)?),
         Some(Colon::Guarantee) => Ok(guaranteed(alloc, &desk.state.scenario)?),
+        Some(Colon::Sweep(losses)) => Ok(sweep(alloc, &desk.state.scenario, losses, meter)?),
+        Some(Colon::Vary) => vary(alloc, line, &desk.state.scenario, meter),
         Some(Colon::Test) => Ok(test(alloc, line, desk, shelf, meter)?),
         Some(Colon::Load) => load(alloc, line, desk, runner, shelf, meter),
         Some(Colon::Quit) => Ok(Vec::new(alloc)),

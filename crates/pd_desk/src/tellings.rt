@@ -1,7 +1,12 @@
-//! What the desk has of other commands: the transcript, the picture, the warnings, the guarantee and the tests of a scenario.
+//! What the desk has of other commands: the transcript, the picture, the warnings, the guarantee, the sweep, the rows of varied values
+//! and the tests of a scenario.
 
-ghost use Rattle.std.specs.Prelude.{◌≡◌, ◌++◌, IfOk, OnOk};
-ghost use Rattle.pd_desk.specs.Tellings.{Draws, TellsGuarantee, TellsShow, TellsTests, TellsWarned, warned_line, warned_text};
+ghost use Rattle.std.specs.Prelude.{◌≡◌, ◌++◌, IfOk, MatchOption, None, OnOk, Some, codes};
+ghost use Rattle.pd_sweep.specs.Sweeps.{WroteSweep};
+ghost use Rattle.pd_vary.specs.Sets.{few_rows};
+ghost use Rattle.pd_vary.specs.Varies.{sets_of};
+ghost use Rattle.pd_desk.specs.Tellings.{Draws, TellsGuarantee, TellsRows, TellsShow, TellsTests, TellsWarned, sweep_look, warned_line};
+ghost use Rattle.pd_desk.specs.Tellings.{warned_text};
 
 use crate::copy::copied;
 use pd_device::Output;
@@ -11,9 +16,11 @@ use pd_explain_text::push_sentence;
 use pd_guarantee::{Form as BoundsForm, guarantee};
 use pd_keep::Kept;
 use pd_port::Meter;
-use pd_run::{Plan, Runner};
+use pd_run::{Plain, Plan, Runner};
 use pd_scenario::Scenario;
 use pd_show::{Choice, Form, show};
+use pd_sweep::{Campaign, Form as SweepForm, Look as SweepLook, Tally, sweep};
+use pd_vary::{Question, vary};
 use pd_warn::{Warning, warnings};
 use std::alloc::{AllocError, Global};
 
@@ -121,6 +128,82 @@ pub(crate) fn guaranteed<const N: usize>(
     text.extend_from_slice(b"= guarantee\n")?;
     text.extend_from_slice(said.as_slice())?;
     Ok(text)
+}
+
+/// A writer in which a head stands.
+fn headed(alloc: Global, head: &[u8]) -> Result<Output<Vec<u8>>, AllocError>
+    ensures { IfOk result (λ output. output.writer.items ≡ head.now) }
+{
+    let writer = Vec::from_slice(alloc, head)?;
+    Ok(Output {
+        writer,
+        failures: 0,
+    })
+}
+
+/// How a sweep is told: in words, of all packets or of those whose loss makes a difference.
+fn sweep_look(all: bool) -> SweepLook
+    ensures { result ≡ sweep_look all }
+{
+    SweepLook {
+        form: SweepForm::Words,
+        changed: !all,
+        by_message: false,
+    }
+}
+
+/// What losing packets of a scenario leads to, and what that comes to in all. The runs are made by a runner of their own.
+///
+/// # Errors
+/// There is no memory for it.
+pub(crate) fn swept<const N: usize>(
+    alloc: Global,
+    scenario: &Scenario<N>,
+    campaign: &Campaign,
+    all: bool,
+    meter: &mut Meter,
+) -> Result<(Tally, Vec<u8>), AllocError>
+    ensures { IfOk result (λ told. WroteSweep N scenario.now campaign.now None (sweep_look all) (Some (codes "= sweep\n"))
+        (Some told.1.items) told.0) }
+{
+    let mut output = headed(alloc, b"= sweep\n")?;
+    let mut run = Kept::<N>::empty(alloc);
+    let look = sweep_look(all);
+    match sweep(
+        alloc,
+        &mut run,
+        scenario,
+        campaign,
+        None,
+        look,
+        &mut output,
+        meter,
+    ) {
+        Ok(tally) => Ok((tally, output.writer)),
+        Err(_) => Err(AllocError),
+    }
+}
+
+/// The rows of a question over a scenario, where they are no more than a million. The runs are made by a runner of their own.
+///
+/// # Errors
+/// There is no memory for it.
+pub(crate) fn varied<const N: usize>(
+    alloc: Global,
+    scenario: &Scenario<N>,
+    question: &Question<'_>,
+    meter: &mut Meter,
+) -> Result<Option<Vec<u8>>, AllocError>
+    ensures { IfOk result (λ told. MatchOption told (few_rows (sets_of question.now) ≡ None)
+        (λ text. TellsRows N scenario.now question.now text.items)) }
+{
+    let mut output = headed(alloc, b"= vary\n")?;
+    let mut run = Plain::<N>::empty(alloc);
+    match vary(alloc, &mut run, scenario, question, &mut output, meter) {
+        Ok(Some(_)) => Ok(Some(output.writer)),
+        Ok(None) => Ok(None),
+        Err(_) => Err(AllocError),
+    }
 }
 
 /// What is told of the lines of a test script of a name, over a scenario, and how many passed and failed. The lines that edit change
