@@ -114,20 +114,20 @@ fn conditions_of<'a, R: Alloc<A = Global>, E: Print>(
 
 /// The file that a picture is written to, and how its rows are laid out.
 #[derive(Clone, Copy)]
-struct Picture<'a> {
-    file: &'a str,
-    layout: Layout<'a>,
+struct Picture<'f, 's> {
+    file: &'f str,
+    layout: Layout<'s>,
 }
 
 /// The picture that is drawn of the rows of sets, where one is asked for.
 ///
 /// # Errors
 /// The sets have none; that is told.
-fn picture_of<'a, E: Print>(
+fn picture_of<'f, 's, E: Print>(
     errors: &E,
-    file: Option<&'a str>,
-    sets: &'a [EditSet],
-) -> Result<Option<Picture<'a>>, Ending> {
+    file: Option<&'f str>,
+    sets: &'s [EditSet],
+) -> Result<Option<Picture<'f, 's>>, Ending> {
     let Some(file) = file else {
         return Ok(None);
     };
@@ -185,7 +185,7 @@ fn draw<R: Files + Alloc<A = Global>, E: Print>(
     rt: &R,
     errors: &E,
     scene: Scene<'_>,
-    picture: &Picture<'_>,
+    picture: &Picture<'_, '_>,
     question: &Question<'_>,
     kept: &Kept,
 ) -> Result<(), Ending> {
